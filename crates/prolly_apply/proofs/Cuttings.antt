@@ -1,6 +1,6 @@
 -- How the leaves of an old tree are seen to be cut.
-use Rattle.std.proofs.Common.{◌≡◌, ℕ, zero, suc, ◌+◌, ◌<◌, ◌≤◌, ◌⊎◌, inl, inr, Bool, true, false, not}
-use Rattle.std.proofs.Common.{◌&&◌, List, [], ◌∷◌, ◌++◌, length, take, drop, refl, sym, ap, ◌∙◌}
+use Rattle.std.proofs.Common.{◌≡◌, ℕ, zero, suc, ◌+◌, ◌<◌, ◌≤◌, ◌⊎◌, inl, inr, Bool, true, false}
+use Rattle.std.proofs.Common.{List, [], ◌∷◌, ◌++◌, length, take, drop, refl, sym, ap, ◌∙◌}
 use Rattle.std.proofs.Common.{◌==◌, subst, arith, append_assoc, append-nil}
 use Rattle.std.proofs.lemmas.Bool.{false≢true}
 use Rattle.std.proofs.lemmas.Bool.Decides.{Decides-eqb}
@@ -14,6 +14,7 @@ use Rattle.prolly_tree.specs.Tree.{pair_is_boundary}
 use Rattle.prolly_chunk.specs.LeafLevel.{is_whole_leaf}
 use Rattle.prolly_apply.specs.Cutting.{Admits, AreCut, EndsAtBoundary, IsAdmitted}
 use Rattle.prolly_apply.specs.Cutting.{NoneInside, RestAreCut, Seen}
+use Rattle.prolly_apply.specs.lemmas.OldLeaves.{not_and, whole_inside}
 use Rattle.prolly_apply.specs.declared.cutting.Cutting.{Cutting}
 
 -- ---- lists
@@ -143,17 +144,6 @@ module _ (cut : Cut) where
   whole_is (p ∷ []) h e = e
   whole_is (p ∷ q ∷ leaf) h e = rw h.0 (whole_is (q ∷ leaf) h.1 e)
 
-  not_and : (a b : Bool) → (not a && b) ≡ true → (a ≡ false) × (b ≡ true)
-  not_and false b e = (refl, e)
-  not_and true b e = cc
-
-  whole_inside : (leaf : List Pair) → is_whole_leaf cut leaf ≡ true → NoneInside cut leaf
-  whole_inside [] h = tt
-  whole_inside (p ∷ []) h = tt
-  whole_inside (p ∷ q ∷ leaf) h =
-      let b = not_and (pair_is_boundary cut p) (is_whole_leaf cut (q ∷ leaf)) h in
-      (b.0, whole_inside (q ∷ leaf) b.1)
-
   whole_ends : (leaf : List Pair) → is_whole_leaf cut leaf ≡ true → EndsAtBoundary cut leaf
   whole_ends [] h = h
   whole_ends (p ∷ []) h = h
@@ -193,7 +183,7 @@ module _ (cut : Cut) where
   cut_inside : (leaves : List (List Pair)) (leaf : List Pair) (more : List (List Pair)) →
       AreCut cut (leaves ++ leaf ∷ more) → NoneInside cut leaf
   cut_inside [] leaf [] h = h
-  cut_inside [] leaf (next ∷ more) h = whole_inside leaf h.0
+  cut_inside [] leaf (next ∷ more) h = whole_inside cut leaf h.0
   cut_inside (l ∷ []) leaf more h = cut_inside [] leaf more h.1
   cut_inside (l ∷ k ∷ leaves) leaf more h = cut_inside (k ∷ leaves) leaf more h.1
 

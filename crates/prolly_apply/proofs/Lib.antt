@@ -8,3 +8,5 @@ pub mod Cuttings
 pub mod Runs
 -- What the stage sent, once both inputs have come to their ends.
 pub mod Ends
+-- What was sent of the leaves of an old tree, step by step.
+pub mod Loading

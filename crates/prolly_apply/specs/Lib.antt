@@ -4,3 +4,7 @@ pub mod Cutting
 pub mod Taking
 -- What the stage of an old tree's leaves sends.
 pub mod Applied
+-- What is sent of the leaves of an old tree, and how that ends.
+pub mod OldLoaded
+-- Lemmas for the crates above, by subject.
+pub mod lemmas

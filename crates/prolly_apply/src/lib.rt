@@ -6,10 +6,12 @@
 #![tactic(auto)]
 
 mod cutting;
+mod loader;
 mod old_leaf;
 mod old_pairs;
 mod stage;
 mod stop;
 
+pub use loader::{OldLoaded, load_old};
 pub use old_leaf::OldLeaf;
-pub use stage::{Applied, apply_stage};
+pub use stage::{Applied, OLD_TREE, apply_stage};

@@ -21,7 +21,7 @@ use std::alloc::Global;
 use std::sync::Wait;
 
 /// The number by which a run's faults name the old tree. No record file has it.
-const OLD_TREE: u32 = u32::MAX;
+pub const OLD_TREE: u32 = u32::MAX;
 
 /// What the stage gives back: both inputs have ended, and the output is closed.
 #[derive(Drop)]
@@ -45,7 +45,7 @@ pub struct Applied<L, I, O: Out<ChunkEvent>> {
 ///
 /// A tree of other bits is refused where that shows: where a leaf that another one follows does not
 /// end with a boundary, or one of the first 40 leaves has a boundary before its last pair. Then the
-/// end is a failed read of the file with the greatest number, which no record file has.
+/// end is a failed read of the file with the number [`OLD_TREE`].
 ///
 /// Where memory is refused it closes with that fault. It keeps the bytes of one leaf, beside that of
 /// the old tree. Both inputs are received to their ends. It returns if the ends do.

@@ -34,3 +34,9 @@ pub mod Stops
 pub mod Takings
 -- What the workers of a build sent where one of them was refused memory.
 pub mod Refusals
+-- What a build answers of a run.
+pub mod Outcomes
+-- What a run over an old tree has made, seen from a map of its root.
+pub mod Applying
+-- What is answered of a run over an old tree.
+pub mod ApplyOutcomes

@@ -1,6 +1,6 @@
 -- What the writer behind the stages has made of a map.
 use Rattle.std.proofs.Common.{◌≡◌, ◌≤◌, ◌<◌, ◌+◌, ◌-◌, ◌^◌, ℕ, suc, Bool, true, false, List, []}
-use Rattle.std.proofs.Common.{◌∷◌, ◌++◌, length, min, ◌⊎◌, Option, Some, None, inl, inr, refl, ap}
+use Rattle.std.proofs.Common.{◌∷◌, ◌++◌, length, min, ◌⊎◌, inl, inr, refl, ap}
 use Rattle.std.proofs.Common.{sym, subst, ◌∙◌, arith, length-append, append_assoc, Result, Ok, Err}
 use Rattle.std.proofs.Common.{OnOk, IfOk, IfErr}
 use Rattle.std.specs.List.{filter}
@@ -8,7 +8,7 @@ use Rattle.std.proofs.Math.Nat.{lt_of_not-le}
 use Rattle.std.proofs.lemmas.List.{append-nil}
 use Rattle.prolly_tree.specs.Chunk.{Chunk, chunk_of, chunks}
 use Rattle.prolly_entry.specs.Cut.{Cut, sha512_cut}
-use Rattle.prolly_tree.specs.Events.{clean, has_level, greatest_count}
+use Rattle.prolly_tree.specs.Events.{clean, has_level}
 use Rattle.prolly_tree.specs.File.{file, header, end_record, root_reference}
 use Rattle.prolly_entry.specs.Pair.{Pair}
 use Rattle.prolly_tree.specs.Pipeline.{pipeline_events, before_second, within_stages, HasSecond}
@@ -16,8 +16,9 @@ use Rattle.prolly_entry.specs.Prefix.{IsPrefix}
 use Rattle.prolly_entry.specs.Reference.{reference_of}
 use Rattle.prolly_tree.specs.Tree.{tree_of, level_count}
 use Rattle.prolly_laws.specs.Stages.{composition, enough_stages, within_is_prefix}
-use Rattle.prolly_laws.specs.Trees.{few_chunks}
+use Rattle.prolly_laws.specs.Trees.{pairs_are}
 use Rattle.prolly_file.specs.Sink.{SinkView, TakesPrefix}
+use Rattle.prolly_link.specs.Views.{Whole}
 use Rattle.prolly_link.specs.declared.message.End.{End}
 use Rattle.prolly_link.specs.declared.message.End.TheVariants.{Clean, Fault}
 use Rattle.prolly_link.specs.declared.fault.RunFault.{RunFault}
@@ -27,18 +28,15 @@ use Rattle.prolly_link.specs.declared.fault.RunFault.TheVariants.{OutOfOrder, To
 use Rattle.prolly_link.specs.declared.fault.RunFault.TheVariants.{Write, TooTall, NoThread, Lost}
 use Rattle.prolly_link.specs.declared.fault.RunFault.TheVariants.{TooManyFiles}
 use Rattle.prolly_build.specs.declared.driver.Report.{Report}
-use Rattle.prolly_build.specs.declared.run.writer.OpenFile.{OpenFile}
-use Rattle.prolly_build.specs.declared.run.writer.LastChunk.{LastChunk}
-use Rattle.prolly_build.specs.declared.run.writer.WriterState.{WriterState}
-use Rattle.prolly_build.specs.declared.run.writer.WriterState.TheVariants.{Writing}
-use Rattle.prolly_build.specs.BuiltFile.{IsCleanRun, IsRunOf, IsMadeFile, IsTooTall, IsCutOff}
+use Rattle.prolly_build.specs.BuiltFile.{IsCleanRun, IsMadeFile, IsTooTall, IsCutOff}
 use Rattle.prolly_build.specs.BuiltFile.{IsUnmadeOf}
 use Rattle.prolly_build.specs.BuiltFile.{tall_file, IsInputEnd, IsLoadFault, IsStartFault}
 use Rattle.prolly_build.specs.BuiltFile.{IsWriterFault}
 use Rattle.prolly_build.specs.Config.{Settings}
-use Rattle.prolly_build.specs.WriterState.{HasWritten, IsEndWritten, IsEndFault, AreAllWritten}
+use Rattle.prolly_build.specs.End.{IsUnmadeRun}
+use Rattle.prolly_build.specs.WriterState.{IsEndWritten, IsEndFault}
 use Rattle.prolly_build.specs.WriterState.{IsTall, IsFailed}
-use Rattle.prolly_build.specs.WriterState.{IsUnended, IsTopOf, tops_counted, frames_of}
+use Rattle.prolly_build.specs.WriterState.{IsUnended, tops_counted, frames_of}
 use Rattle.prolly_build.proofs.Tops.{frames_front}
 use Rattle.prolly_build.proofs.WritingSteps.{prefix_on, failed_part}
 
@@ -71,7 +69,7 @@ one_front (a ∷ more) [] x y e = absurd (let n = ap length e in
 one_front (a ∷ more) (b ∷ bs) x y e = one_front more bs x y cc
 
 module _ (settings : Settings) (some : 1 ≤ settings.stages) (most : settings.stages ≤ 12)
-    (m : List Pair) (events : List Chunk) (count : ℕ) (run : IsCleanRun settings m events count)
+    (m : List Pair) (events : List Chunk) (run : IsCleanRun settings m events)
   where
     abbrev cut : Cut
     cut = sha512_cut settings.bits
@@ -83,7 +81,7 @@ module _ (settings : Settings) (some : 1 ≤ settings.stages) (most : settings.s
     suc_level = omega (arith, some)
 
     few : length m < 2 ^ 64
-    few = let h = run.few in omega (arith, h)
+    few = run.few
 
     -- the events are the chunks of the tree, the root last, where at most one of them is of the
     -- last stage's level
@@ -118,42 +116,6 @@ module _ (settings : Settings) (some : 1 ≤ settings.stages) (most : settings.s
           root_last = enough.2.1;
         }
 
-    module _ (head : List ℕ) (old new : SinkView) where
-      whole_few : (begun : OpenFile) → AreAllWritten head level events old new begun →
-          length (filter (has_level level) events) ≤ 1
-      whole_few begun whole = let h = whole.few in let k = at_most_one begun.has_top in
-          omega (arith, h, k)
-
-      -- so few chunks that their number is told, and one of them at least
-      pub lawful_written : (written : WriterState) (begun : OpenFile) → written ≡ Writing begun →
-          HasWritten head level events old new written →
-          (begun.file.chunks < greatest_count) × ((top : LastChunk) × (begun.top ≡ Some top))
-      lawful_written written begun is h =
-          let whole : AreAllWritten head level events old new begun =
-          subst (λ (w : WriterState). HasWritten head level events old new w) is h in
-          let tree = is_tree (whole_few begun whole) in
-          let n : length events ≡ length (chunks cut settings.version m) =
-          ap (λ (es : List Chunk). length es) tree.events_are in
-          let c = few_chunks cut settings.version m in
-          let k = run.few in
-          let w = whole.count_is in (
-            omega (arith, n, c, k, w),
-            go begun.top tree.before (chunk_of settings.version
-                (tree_of cut settings.version m).level
-                (tree_of cut settings.version m).tree) whole.top_is (tree.events_are ∙
-                tree.root_last),
-          )
-        where
-          go : (top : Option LastChunk) (before : List Chunk) (root : Chunk) → IsTopOf events top →
-              events ≡ before ++ root ∷ [] → (t : LastChunk) × (top ≡ Some t)
-          go (Some t) before root h e = (t, refl)
-          go None before root h e =
-              let n : length events ≡ length (before ++ root ∷ []) =
-              ap (λ (es : List Chunk). length es) e in
-              let k : length events ≡ 0 = ap (λ (es : List Chunk). length es) h in
-              let l = length-append before (root ∷ []) in
-              absurd (omega (arith, n, k, l))
-
     abbrev file_head : List ℕ
     file_head = header settings.version settings.bits
 
@@ -180,7 +142,7 @@ module _ (settings : Settings) (some : 1 ≤ settings.stages) (most : settings.s
 
     -- once the end record is written, the file of the map is
     pub file_made : (old new : SinkView) (report : Report) →
-        IsEndWritten file_head level events old new count report → IsMadeFile settings m old new report
+        IsEndWritten file_head level events old new report → IsMadeFile settings m old new report
     file_made old new report h =
         let tree = is_tree h.few in
         let root_is = root_is tree h.before h.root h.whole in
@@ -193,7 +155,8 @@ module _ (settings : Settings) (some : 1 ≤ settings.stages) (most : settings.s
           unfailed = h.unfailed;
           root = h.root_is ∙ ap (λ (c : Chunk). reference_of c.bytes) root_is;
           chunks_are = h.chunks_are ∙ ap (λ (es : List Chunk). length es) tree.events_are;
-          pairs = h.pairs_are ∙ run.counted;
+          pairs = h.pairs_are ∙ (ap (λ (c : Chunk). c.count) root_is ∙
+              ap (λ (ps : List Pair). length ps) (pairs_are cut settings.version m));
           levels = h.levels_are ∙ ap (λ (c : Chunk). min 255 (c.level + 1)) root_is ∙
               few_levels small;
         }
@@ -251,12 +214,14 @@ module _ (settings : Settings) (some : 1 ≤ settings.stages) (most : settings.s
 
     -- why the file of the map was not made
     pub unmade : (old before after : SinkView) (fault : RunFault) →
-        IsEndFault file_head level events old before after Clean fault →
+        IsEndFault file_head level events old before after Clean fault → IsWriterFault fault →
         IsUnmadeOf settings m old after fault
-    unmade old before after fault (inl h) = subst (λ (f : RunFault). IsUnmadeOf settings m old after
+    unmade old before after fault (inl h) writer = subst (λ (f : RunFault). IsUnmadeOf settings m old after
         f) (sym h.0) (cut_off old after h.1)
-    unmade old before after fault (inr h) = subst (λ (f : RunFault). IsUnmadeOf settings m old after
-        f) (sym h.0) (too_tall old after h.1)
+    unmade old before after fault (inr (inl h)) writer =
+        subst (λ (f : RunFault). IsUnmadeOf settings m old after f) (sym h.0)
+        (too_tall old after h.1)
+    unmade old before after fault (inr (inr h)) writer = absurd (subst IsWriterFault h.0 writer)
 
 -- a fault of an input is neither the writer's nor one that comes before all
 input_alone : (f : RunFault) → IsLoadFault f → (IsWriterFault f → ⊥) × (IsStartFault f → ⊥)
@@ -273,18 +238,26 @@ input_alone TooTall i = absurd i
 input_alone NoThread i = absurd i
 input_alone TooManyFiles i = absurd i
 
--- the same at any end, which a fault of the writer rules out but for a clean one
+-- the same at any end that workers may send, which a fault of the writer rules out but for a clean
+-- one
 pub unmade_at : (settings : Settings) (some : 1 ≤ settings.stages) (most : settings.stages ≤ 12)
-    (m : List Pair) (events : List Chunk) (count : ℕ) (end : End) →
-    IsRunOf settings m events end count → IsInputEnd end →
-    (old before after : SinkView) (fault : RunFault) →
-    IsEndFault (header settings.version settings.bits) (settings.stages - 1) events old before after
-    end fault → IsWriterFault fault →
-    (end ≡ Clean) × IsUnmadeOf settings m old after fault
-unmade_at settings some most m events count (Fault f) run input old before after fault h writer =
-    absurd ((input_alone f input).0 (subst IsWriterFault h.0 writer))
-unmade_at settings some most m events count Clean run input old before after fault h writer =
-    (refl, unmade settings some most m events count (run refl) old before after fault h)
+    (sent : Whole Chunk) → IsInputEnd sent.end → (old before after : SinkView) (fault : RunFault) →
+    IsEndFault (header settings.version settings.bits) (settings.stages - 1) sent.items old before
+    after sent.end fault → IsWriterFault fault → IsUnmadeRun settings sent old after fault
+unmade_at settings some most sent input old before after fault h writer = record {
+  clean = clean_end sent.end input h;
+  unmade = λ m run.
+      let clean = clean_end sent.end input h in
+      unmade settings some most m sent.items (run clean) old before after fault
+      (subst (λ (e : End). IsEndFault (header settings.version settings.bits) (settings.stages - 1)
+      sent.items old before after e fault) clean h) writer;
+}
+  where
+    clean_end : (end : End) → IsInputEnd end →
+        IsEndFault (header settings.version settings.bits) (settings.stages - 1) sent.items old
+        before after end fault → end ≡ Clean
+    clean_end Clean i e = refl
+    clean_end (Fault f) i e = absurd ((input_alone f i).0 (subst IsWriterFault e.0 writer))
 
 -- the fault of a finished build is that of the end that the workers sent, or one of the writer
 pub no_start_fault : (head : List ℕ) (last_level : ℕ) (events : List Chunk)
@@ -294,7 +267,9 @@ no_start_fault head last_level events old before after (Fault f) fault input h s
     (input_alone f input).1 (subst IsStartFault h.0 start)
 no_start_fault head last_level events old before after Clean fault input (inl h) start =
     subst IsStartFault h.0 start
-no_start_fault head last_level events old before after Clean fault input (inr h) start =
+no_start_fault head last_level events old before after Clean fault input (inr (inl h)) start =
+    subst IsStartFault h.0 start
+no_start_fault head last_level events old before after Clean fault input (inr (inr h)) start =
     subst IsStartFault h.0 start
 
 module _ {A E : Type 0} where

@@ -44,7 +44,7 @@ from_front : (x : List ℕ) (xs ys : List Record) → RisingFrom x (keys_of (xs 
 from_front x [] ys h = tt
 from_front x (r ∷ rs) ys h = (h.0, from_front r.key rs ys h.1)
 
-rising_front : (xs ys : List Record) → Rising (keys_of (xs ++ ys)) → Rising (keys_of xs)
+pub rising_front : (xs ys : List Record) → Rising (keys_of (xs ++ ys)) → Rising (keys_of xs)
 rising_front [] ys h = tt
 rising_front (r ∷ rs) ys h = from_front r.key rs ys h
 

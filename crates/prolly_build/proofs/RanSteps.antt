@@ -72,12 +72,15 @@ ended_begun settings level events old before after written (Fault f) fault h end
     (written_begun settings level events old before written h)
 ended_begun settings level events old before after written Clean fault h (inl failed) other =
     absurd (other failed.0)
-ended_begun settings level events old before after written Clean fault h (inr tall) other =
+ended_begun settings level events old before after written Clean fault h (inr (inl tall)) other =
     record {
       chunks_begun = before_second level events;
       small = tall.1.small;
       taken = λ k. all_taken (tall.1.taken_is k);
     }
+ended_begun settings level events old before after written Clean fault h (inr (inr lost)) other =
+    subst (λ (s : SinkView). IsBegun settings old s) (sym lost.1)
+    (written_begun settings level events old before written h)
 
 pub all_begun : (settings : Settings) (last : Receiving Chunk) (old new : SinkView)
     (wrote : WriterResult) → IsWriterDone settings last old new wrote → IsBegun settings old new

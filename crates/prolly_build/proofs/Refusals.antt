@@ -22,7 +22,7 @@ use Rattle.prolly_laws.specs.Merging.{all_rising, fronts_merge, rising_two_as_on
 use Rattle.prolly_laws.specs.Merging.{overlay_of_two, overlay_is_small}
 use Rattle.prolly_laws.specs.Readings.{begins_all, first_are_good, one_reading, reading_is}
 use Rattle.prolly_file.specs.Source.{SourceView}
-use Rattle.prolly_file.specs.Sink.{SinkView, TakesPrefix}
+use Rattle.prolly_file.specs.Sink.{SinkView}
 use Rattle.prolly_link.specs.Views.{Batching, Whole}
 use Rattle.prolly_link.specs.declared.message.End.{End}
 use Rattle.prolly_link.specs.declared.message.End.TheVariants.{Fault}
@@ -37,7 +37,8 @@ use Rattle.prolly_build.specs.Mergers.{MergesAll, sent_input}
 use Rattle.prolly_build.specs.RunResult.{AreLoaded}
 use Rattle.prolly_build.specs.Refusals.{AreGood, IsRefused}
 use Rattle.prolly_build.specs.Config.{Settings, AreLawful}
-use Rattle.prolly_build.specs.Stages.{HasStaged}
+use Rattle.prolly_build.specs.End.{IsRefusedAt}
+use Rattle.prolly_build.proofs.StagingSteps.{HasStaged}
 use Rattle.prolly_build.specs.InputFaults.{AreHonest}
 use Rattle.prolly_build.specs.Workers.{IsLoadedFrom}
 use Rattle.prolly_build.specs.WriterState.{frames_of}
@@ -79,11 +80,11 @@ together (l ∷ front) [] back ys h k = absurd h
 together (l ∷ front) (x ∷ xs) back ys h k = (h.0, together front xs back ys h.1 k)
 
 -- the inputs are what was sent of lists with this raw overlay
-record AreSent (inputs : Inputs) (whole : List Record) : Type 0 where
-  lists : List (List Record)
-  rising : AllRising lists
-  fronts : AreFrontsOf lists inputs
-  overlay_is : raw_overlay lists ≡ whole
+pub record AreSent (inputs : Inputs) (whole : List Record) : Type 0 where
+  pub lists : List (List Record)
+  pub rising : AllRising lists
+  pub fronts : AreFrontsOf lists inputs
+  pub overlay_is : raw_overlay lists ≡ whole
 
 -- ---- the mergers
 
@@ -151,7 +152,7 @@ joint_sent before after j whole h =
               (ap raw_overlay (sym is) ∙ h.overlay_is);
         }
 
-joined_sent : (n : ℕ) (files inputs : Inputs) → Joined n files inputs → (whole : List Record) →
+pub joined_sent : (n : ℕ) (files inputs : Inputs) → Joined n files inputs → (whole : List Record) →
     AreSent files whole → AreSent inputs whole
 joined_sent zero files inputs j whole h = subst (λ (is : Inputs). AreSent is whole) (sym j) h
 joined_sent (suc n) files inputs j whole h = joint_sent j.0 inputs j.2 whole
@@ -165,7 +166,7 @@ put_front a b h = (
 )
 
 -- the last merger sent the first pairs that the whole overlay puts
-first_pairs : (inputs : Inputs) (pairs : List Pair) (end : End) (whole : List Record) →
+pub first_pairs : (inputs : Inputs) (pairs : List Pair) (end : End) (whole : List Record) →
     AreSent inputs whole → MergesAll inputs pairs end → IsPrefix pairs (pairs_put whole)
 first_pairs inputs pairs end whole h merges =
     go (merges (all_rising h.lists inputs h.rising h.fronts))
@@ -185,11 +186,11 @@ first_pairs inputs pairs end whole h merges =
 
 module _ {S : Type 0} (seen : S → SourceView) (limit : ℕ) where
   -- the good records of the files, and what was sent of them
-  record Good (ss : List S) (sent : Inputs) : Type 0 where
-    goods : List (List Record)
-    are_good : AreGood seen limit ss goods
-    fronts : AreFrontsOf goods sent
-    rising : AllRising goods
+  pub record Good (ss : List S) (sent : Inputs) : Type 0 where
+    pub goods : List (List Record)
+    pub are_good : AreGood seen limit ss goods
+    pub fronts : AreFrontsOf goods sent
+    pub rising : AllRising goods
 
   -- what a loader sent are the first good records of its file
   one_front : (file : ℕ) (s : S) (o : Batching Record) (t : S) (c : Whole Record) →
@@ -207,7 +208,7 @@ module _ {S : Type 0} (seen : S → SourceView) (limit : ℕ) where
             reading).0;
       }
 
-  all_fronts : LeftAreBytes seen → (file : ℕ) (ss : List S) (os : List (Batching Record))
+  pub all_fronts : LeftAreBytes seen → (file : ℕ) (ss : List S) (os : List (Batching Record))
       (ts : List S) (cs : List (Whole Record)) →
       AreLoaded seen limit file ss os ts cs → AreHonest seen ss → Good ss (map sent_input cs)
   all_fronts bytes = of_all seen limit
@@ -224,7 +225,7 @@ module _ {S : Type 0} (seen : S → SourceView) (limit : ℕ) where
       })
 
   -- n files have at most n times as many good records as one may have
-  good_few : (ss : List S) (goods : List (List Record)) → AreGood seen limit ss goods →
+  pub good_few : (ss : List S) (goods : List (List Record)) → AreGood seen limit ss goods →
       limit ≤ 16777216 → length (flat_map (λ records. records) goods) ≤ length ss * 16777216
   good_few [] [] h small = omega arith
   good_few [] (g ∷ goods) h small = absurd h
@@ -236,7 +237,7 @@ module _ {S : Type 0} (seen : S → SourceView) (limit : ℕ) where
       omega (arith, one, rest, both, small)
 
   -- honest sources have good records
-  some_good : LeftAreBytes seen → (ss : List S) → AreHonest seen ss → (goods : List (List Record)) ×
+  pub some_good : LeftAreBytes seen → (ss : List S) → AreHonest seen ss → (goods : List (List Record)) ×
       AreGood seen limit ss goods
   some_good bytes [] honest = ([], tt)
   some_good bytes (s ∷ ss) honest =
@@ -268,70 +269,68 @@ untouched_refused seen bytes settings before old honest =
     }
 
 module _ {S : Type 0} (seen : S → SourceView) (settings : Settings) (before after : List S)
-    (count : ℕ) where
-  abbrev cut : Cut
-  cut = sha512_cut settings.bits
+  where
+    abbrev cut : Cut
+    cut = sha512_cut settings.bits
 
-  abbrev level : ℕ
-  level = settings.stages - 1
+    abbrev level : ℕ
+    level = settings.stages - 1
 
-  -- what the last stage sent, by the first pairs of the overlay of all good records
-  pub record IsRefusedRun (events : List Chunk) : Type 0 where
-    pub goods : List (List Record)
-    pub are_good : AreGood seen settings.max_records before goods
-    pub pairs : List Pair
-    pub first : IsPrefix pairs (overlay goods)
-    pub taken : IsPrefix (before_second level events) (chunks cut settings.version pairs)
+    -- what the last stage sent, by the first pairs of the overlay of all good records
+    pub record IsRefusedRun (events : List Chunk) : Type 0 where
+      pub goods : List (List Record)
+      pub are_good : AreGood seen settings.max_records before goods
+      pub pairs : List Pair
+      pub first : IsPrefix pairs (overlay goods)
+      pub taken : IsPrefix (before_second level events) (chunks cut settings.version pairs)
 
-  pub source_refused : LeftAreBytes seen → AreLawful settings → length before ≤ 16 →
-      AreHonest seen before → (events : List Chunk) (end : End) →
-      HasStaged seen settings level before after events end count → end ≡ Fault Memory →
-      IsRefusedRun events
-  source_refused bytes lawful sixteen honest events end h end_is =
-      let sent = all_fronts seen settings.max_records bytes 0 before h.gathered.loader_outs after
-      h.gathered.files h.gathered.loaded honest in
-      let files : AreSent (map sent_input h.gathered.files) (raw_overlay sent.goods) =
-      record {
-        lists = sent.goods;
-        rising = sent.rising;
-        fronts = sent.fronts;
-        overlay_is = refl;
-      } in
-      let inputs = joined_sent h.gathered.mergers (map sent_input h.gathered.files)
-      h.gathered.inputs h.gathered.joined (raw_overlay sent.goods) files in
-      let first = first_pairs h.gathered.inputs h.pairs h.pairs_end (raw_overlay sent.goods) inputs
-      h.gathered.merges in
-      let all = good_few seen settings.max_records before sent.goods sent.are_good
-      lawful.max_records.1 in
-      let small = overlay_is_small sent.goods in
-      let more : length (overlay sent.goods) ≡ length (h.pairs ++ first.0) =
-      ap (λ (ps : List Pair). length ps) first.1 in
-      let sum = length-append h.pairs first.0 in
-      let few : length h.pairs < 2 ^ 64 = omega (arith, all, small, more, sum, sixteen) in
-      let takes = writer_takes cut settings.version h.pairs level
-      (composition cut settings.version h.pairs few level) h.pairs_end events end h.staged in
-      let tree = chunks cut settings.version h.pairs in
-      record {
-        goods = sent.goods;
-        are_good = sent.are_good;
-        pairs = h.pairs;
-        first = first;
-        taken = prefix_trans (before_second level events) (before_second level tree) tree
-            (takes.memory end_is)
-            (within_is_prefix (suc level) tree tree ([], sym (append-nil tree))).1;
-      }
+    pub source_refused : LeftAreBytes seen → AreLawful settings → length before ≤ 16 →
+        AreHonest seen before → (events : List Chunk) (end : End) →
+        HasStaged seen settings level before after events end → end ≡ Fault Memory →
+        IsRefusedRun events
+    source_refused bytes lawful sixteen honest events end h end_is =
+        let sent = all_fronts seen settings.max_records bytes 0 before h.gathered.loader_outs after
+        h.gathered.files h.gathered.loaded honest in
+        let files : AreSent (map sent_input h.gathered.files) (raw_overlay sent.goods) =
+        record {
+          lists = sent.goods;
+          rising = sent.rising;
+          fronts = sent.fronts;
+          overlay_is = refl;
+        } in
+        let inputs = joined_sent h.gathered.mergers (map sent_input h.gathered.files)
+        h.gathered.inputs h.gathered.joined (raw_overlay sent.goods) files in
+        let first = first_pairs h.gathered.inputs h.pairs h.pairs_end (raw_overlay sent.goods) inputs
+        h.gathered.merges in
+        let all = good_few seen settings.max_records before sent.goods sent.are_good
+        lawful.max_records.1 in
+        let small = overlay_is_small sent.goods in
+        let more : length (overlay sent.goods) ≡ length (h.pairs ++ first.0) =
+        ap (λ (ps : List Pair). length ps) first.1 in
+        let sum = length-append h.pairs first.0 in
+        let few : length h.pairs < 2 ^ 64 = omega (arith, all, small, more, sum, sixteen) in
+        let takes = writer_takes cut settings.version h.pairs level
+        (composition cut settings.version h.pairs few level) h.pairs_end events end h.staged in
+        let tree = chunks cut settings.version h.pairs in
+        record {
+          goods = sent.goods;
+          are_good = sent.are_good;
+          pairs = h.pairs;
+          first = first;
+          taken = prefix_trans (before_second level events) (before_second level tree) tree
+              (takes.memory end_is)
+              (within_is_prefix (suc level) tree tree ([], sym (append-nil tree))).1;
+        }
 
-  -- what the sink took of that
-  pub refused : {old new : SinkView} {events : List Chunk} → IsRefusedRun events →
-      (old.is_keeping ≡ true → TakesPrefix old.taken new.taken
-      (frames_of (header settings.version settings.bits) (before_second level events))) →
-      IsRefused seen settings before old new
-  refused h took = record {
-    goods = h.goods;
-    are_good = h.are_good;
-    pairs = h.pairs;
-    first = h.first;
-    taken = λ keeps. prefix_on _ (took keeps)
-        (frames_front (header settings.version settings.bits) _
-        (chunks cut settings.version h.pairs) h.taken);
-  }
+    -- what the sink took of that
+    pub refused : {old new : SinkView} {sent : Whole Chunk} → IsRefusedRun sent.items →
+        IsRefusedAt settings sent old new → IsRefused seen settings before old new
+    refused h at = record {
+      goods = h.goods;
+      are_good = h.are_good;
+      pairs = h.pairs;
+      first = h.first;
+      taken = λ keeps. prefix_on _ (at.took keeps)
+          (frames_front (header settings.version settings.bits) _
+          (chunks cut settings.version h.pairs) h.taken);
+    }

@@ -27,7 +27,7 @@ use Rattle.prolly_build.specs.RecordLinks.{IsJoint, Joined}
 use Rattle.prolly_build.specs.LastMerger.{IsGathered}
 use Rattle.prolly_build.specs.Mergers.{MergesAll, sent_input}
 use Rattle.prolly_build.specs.Config.{Settings, AreLawful}
-use Rattle.prolly_build.specs.Stages.{HasStaged}
+use Rattle.prolly_build.proofs.StagingSteps.{HasStaged}
 use Rattle.prolly_build.specs.InputFaults.{CountFor, AreHonest}
 use Rattle.prolly_build.proofs.Counted.{LeftAreBytes, all_count}
 use Rattle.prolly_build.proofs.Loads.{all_rise, all_few}
@@ -82,7 +82,7 @@ joint_stops before after j rising s is other =
     )
 
 -- and so down to what the loaders sent
-joined_stops : (n : ℕ) (files inputs : Inputs) → Joined n files inputs →
+pub joined_stops : (n : ℕ) (files inputs : Inputs) → Joined n files inputs →
     AllByRecursion Rises files → (s : Stop RunFault) → stop inputs ≡ Some s → s.fault ≢ Memory →
     (stop files ≡ Some s) × (raw_merged_part files ≡ raw_merged_part inputs)
 joined_stops zero files inputs j rising s is other =
@@ -106,12 +106,12 @@ stop_of_end fault (Some s) e = (s, refl, same s.fault fault e)
     same : (f g : RunFault) → Fault g ≡ Fault f → f ≡ g
     same f g e = cc
 
-same_fault : (f g : RunFault) → Fault f ≡ Fault g → f ≡ g
+pub same_fault : (f g : RunFault) → Fault f ≡ Fault g → f ≡ g
 same_fault f g e = cc
 
 -- where the last merger's end names another fault than want of memory, it is that of its inputs'
 -- stop, and the pairs are their merged part
-merged_stops : (inputs : Inputs) (pairs : List Pair) (fault : RunFault) → fault ≢ Memory →
+pub merged_stops : (inputs : Inputs) (pairs : List Pair) (fault : RunFault) → fault ≢ Memory →
     SendsAll [] (merged_part inputs) (stop_end inputs) pairs (Fault fault) →
     (s : Stop RunFault) × (stop inputs ≡ Some s) × (s.fault ≡ fault) × (pairs ≡ merged_part inputs)
 merged_stops inputs pairs fault other (inl h) = let s = stop_of_end fault (stop inputs) h.1 in
@@ -121,78 +121,78 @@ merged_stops inputs pairs fault other (inr h) = absurd (other (same_fault fault 
 -- ---- all workers
 
 module _ {S : Type 0} (seen : S → SourceView) (settings : Settings) (before after : List S)
-    (count : ℕ) where
-  count_rises : (file : ℕ) (ss ts : List S) (inputs : Inputs) →
-      CountFor seen file settings.max_records ss ts inputs → AllRising (lists_of inputs)
-  count_rises file [] [] [] h = tt
-  count_rises file [] [] (i ∷ is) h = absurd h
-  count_rises file [] (t ∷ ts) is h = absurd h
-  count_rises file (s ∷ ss) [] is h = absurd h
-  count_rises file (s ∷ ss) (t ∷ ts) [] h = absurd h
-  count_rises file (s ∷ ss) (t ∷ ts) (i ∷ is) h = (
-    elim h.0 [ inl r ↦ r.reading.begins.rising | inr f ↦ f.read.reading.begins.rising ],
-    count_rises (file + 1) ss ts is h.1,
-  )
+  where
+    pub count_rises : (file : ℕ) (ss ts : List S) (inputs : Inputs) →
+        CountFor seen file settings.max_records ss ts inputs → AllRising (lists_of inputs)
+    count_rises file [] [] [] h = tt
+    count_rises file [] [] (i ∷ is) h = absurd h
+    count_rises file [] (t ∷ ts) is h = absurd h
+    count_rises file (s ∷ ss) [] is h = absurd h
+    count_rises file (s ∷ ss) (t ∷ ts) [] h = absurd h
+    count_rises file (s ∷ ss) (t ∷ ts) (i ∷ is) h = (
+      elim h.0 [ inl r ↦ r.reading.begins.rising | inr f ↦ f.read.reading.begins.rising ],
+      count_rises (file + 1) ss ts is h.1,
+    )
 
-  -- what the last stage sent before the fault of a file
-  pub record IsStoppedRun (events : List Chunk) (fault : RunFault) : Type 0 where
-    pub inputs : List (Input RunFault)
-    pub count_for : CountFor seen 0 settings.max_records before after inputs
-    pub named : stop_fault (stop inputs) ≡ Some fault
-    pub few : length (merged_part inputs) < 2 ^ 64
-    pub sent : events ≡ pipeline_events (settings.stages - 1) (sha512_cut settings.bits)
-        settings.version faulty (merged_part inputs)
+    -- what the last stage sent before the fault of a file
+    pub record IsStoppedRun (events : List Chunk) (fault : RunFault) : Type 0 where
+      pub inputs : List (Input RunFault)
+      pub count_for : CountFor seen 0 settings.max_records before after inputs
+      pub named : stop_fault (stop inputs) ≡ Some fault
+      pub few : length (merged_part inputs) < 2 ^ 64
+      pub sent : events ≡ pipeline_events (settings.stages - 1) (sha512_cut settings.bits)
+          settings.version faulty (merged_part inputs)
 
-  gathered_stops : LeftAreBytes seen → AreLawful settings → length before ≤ 16 →
-      AreHonest seen before → (pairs : List Pair) (end : End) (fault : RunFault) →
-      IsGathered seen settings.max_records before after pairs end count → end ≡ Fault fault →
-      fault ≢ Memory →
-      (events : List Chunk) → events ≡ pipeline_events (settings.stages - 1)
-      (sha512_cut settings.bits) settings.version faulty pairs → IsStoppedRun events fault
-  gathered_stops bytes lawful sixteen honest pairs end fault h end_is other events sent =
-      let files = map sent_input h.files in
-      let rises = all_rise seen settings.max_records 0 before h.loader_outs after h.files h.loaded
-      in
-      let merges : MergesAll h.inputs pairs (Fault fault) =
-      subst (λ (e : End). MergesAll h.inputs pairs e) end_is h.merges in
-      let last = merged_stops h.inputs pairs fault other
-      (merges (rises_all h.inputs (joined_rises h.mergers files h.inputs h.joined rises))) in
-      let not_memory : last.0.fault ≢ Memory = λ e. other (sym last.2 ∙ e) in
-      let down = joined_stops h.mergers files h.inputs h.joined rises last.0 last.1 not_memory in
-      let counts = all_count seen settings.max_records bytes 0 before h.loader_outs after h.files
-      h.loaded honest in
-      let true_stop = cut_behind_stop RunFault Memory counts.inputs files last.0
-      (count_rises 0 before after counts.inputs counts.count_for) counts.sent_of down.0
-      not_memory in
-      let part : merged_part counts.inputs ≡ pairs = ap pairs_put (true_stop.1 ∙ down.1) ∙
-      sym last.3 in
-      let sent_part : merged_part files ≡ pairs = ap pairs_put down.1 ∙ sym last.3 in
-      let small = merged_part_is_small RunFault files in
-      let all = all_few seen settings.max_records 0 before h.loader_outs after h.files h.loaded
-      lawful.max_records.1 in
-      let n : length (merged_part counts.inputs) ≡ length (merged_part files) =
-      ap (λ (ps : List Pair). length ps) (part ∙ sym sent_part) in
-      record {
-        inputs = counts.inputs;
-        count_for = counts.count_for;
-        named = ap stop_fault true_stop.0 ∙ ap Some last.2;
-        few = omega (arith, n, small, all, sixteen);
-        sent = sent ∙ ap (λ (ps : List Pair). pipeline_events (settings.stages - 1)
-            (sha512_cut settings.bits) settings.version faulty ps) (sym part);
-      }
+    gathered_stops : LeftAreBytes seen → AreLawful settings → length before ≤ 16 →
+        AreHonest seen before → (pairs : List Pair) (end : End) (fault : RunFault) →
+        IsGathered seen settings.max_records before after pairs end → end ≡ Fault fault →
+        fault ≢ Memory →
+        (events : List Chunk) → events ≡ pipeline_events (settings.stages - 1)
+        (sha512_cut settings.bits) settings.version faulty pairs → IsStoppedRun events fault
+    gathered_stops bytes lawful sixteen honest pairs end fault h end_is other events sent =
+        let files = map sent_input h.files in
+        let rises = all_rise seen settings.max_records 0 before h.loader_outs after h.files h.loaded
+        in
+        let merges : MergesAll h.inputs pairs (Fault fault) =
+        subst (λ (e : End). MergesAll h.inputs pairs e) end_is h.merges in
+        let last = merged_stops h.inputs pairs fault other
+        (merges (rises_all h.inputs (joined_rises h.mergers files h.inputs h.joined rises))) in
+        let not_memory : last.0.fault ≢ Memory = λ e. other (sym last.2 ∙ e) in
+        let down = joined_stops h.mergers files h.inputs h.joined rises last.0 last.1 not_memory in
+        let counts = all_count seen settings.max_records bytes 0 before h.loader_outs after h.files
+        h.loaded honest in
+        let true_stop = cut_behind_stop RunFault Memory counts.inputs files last.0
+        (count_rises 0 before after counts.inputs counts.count_for) counts.sent_of down.0
+        not_memory in
+        let part : merged_part counts.inputs ≡ pairs = ap pairs_put (true_stop.1 ∙ down.1) ∙
+        sym last.3 in
+        let sent_part : merged_part files ≡ pairs = ap pairs_put down.1 ∙ sym last.3 in
+        let small = merged_part_is_small RunFault files in
+        let all = all_few seen settings.max_records 0 before h.loader_outs after h.files h.loaded
+        lawful.max_records.1 in
+        let n : length (merged_part counts.inputs) ≡ length (merged_part files) =
+        ap (λ (ps : List Pair). length ps) (part ∙ sym sent_part) in
+        record {
+          inputs = counts.inputs;
+          count_for = counts.count_for;
+          named = ap stop_fault true_stop.0 ∙ ap Some last.2;
+          few = omega (arith, n, small, all, sixteen);
+          sent = sent ∙ ap (λ (ps : List Pair). pipeline_events (settings.stages - 1)
+              (sha512_cut settings.bits) settings.version faulty ps) (sym part);
+        }
 
-  pub source_stops : LeftAreBytes seen → AreLawful settings → length before ≤ 16 →
-      AreHonest seen before → (events : List Chunk) (end : End) (fault : RunFault) →
-      HasStaged seen settings (settings.stages - 1) before after events end count →
-      end ≡ Fault fault → fault ≢ Memory → IsStoppedRun events fault
-  source_stops bytes lawful sixteen honest events end fault h end_is other = go h.staged
-    where
-      stage : Closing → List Pair → List Chunk
-      stage = pipeline_events (settings.stages - 1) (sha512_cut settings.bits) settings.version
+    pub source_stops : LeftAreBytes seen → AreLawful settings → length before ≤ 16 →
+        AreHonest seen before → (events : List Chunk) (end : End) (fault : RunFault) →
+        HasStaged seen settings (settings.stages - 1) before after events end →
+        end ≡ Fault fault → fault ≢ Memory → IsStoppedRun events fault
+    source_stops bytes lawful sixteen honest events end fault h end_is other = go h.staged
+      where
+        stage : Closing → List Pair → List Chunk
+        stage = pipeline_events (settings.stages - 1) (sha512_cut settings.bits) settings.version
 
-      go : Sends stage h.pairs h.pairs_end [] events end → IsStoppedRun events fault
-      go (inr s) = absurd (other (same_fault fault Memory (sym end_is ∙ s.0)))
-      go (inl s) =
-          let pairs_end : h.pairs_end ≡ Fault fault = sym s.1 ∙ end_is in
-          gathered_stops bytes lawful sixteen honest h.pairs h.pairs_end fault h.gathered pairs_end
-          other events (s.0 ∙ ap (λ (x : End). stage (closing_of x) h.pairs) pairs_end)
+        go : Sends stage h.pairs h.pairs_end [] events end → IsStoppedRun events fault
+        go (inr s) = absurd (other (same_fault fault Memory (sym end_is ∙ s.0)))
+        go (inl s) =
+            let pairs_end : h.pairs_end ≡ Fault fault = sym s.1 ∙ end_is in
+            gathered_stops bytes lawful sixteen honest h.pairs h.pairs_end fault h.gathered pairs_end
+            other events (s.0 ∙ ap (λ (x : End). stage (closing_of x) h.pairs) pairs_end)

@@ -10,6 +10,7 @@ use Rattle.prolly_entry.specs.Pair.{Pair}
 use Rattle.prolly_tree.specs.Pipeline.{pipeline_events, before_second, within_stages}
 use Rattle.prolly_laws.specs.Stages.{composition}
 use Rattle.prolly_file.specs.Sink.{SinkView, TakesPrefix}
+use Rattle.prolly_link.specs.Views.{Whole}
 use Rattle.prolly_link.specs.declared.message.End.{End}
 use Rattle.prolly_link.specs.declared.message.End.TheVariants.{Clean, Fault}
 use Rattle.prolly_link.specs.declared.fault.RunFault.{RunFault}
@@ -18,6 +19,7 @@ use Rattle.prolly_link.specs.declared.fault.RunFault.TheVariants.{TooTall as Too
 use Rattle.prolly_build.specs.declared.run.writer.WriterState.{WriterState}
 use Rattle.prolly_build.specs.declared.run.writer.WriterState.TheVariants.{Writing, TooTall, Failed}
 use Rattle.prolly_build.specs.Config.{Settings}
+use Rattle.prolly_build.specs.End.{IsRefusedAt, IsStoppedAt}
 use Rattle.prolly_build.specs.InputFaults.{IsFileFault, TookBegun, begun_of}
 use Rattle.prolly_build.specs.WriterState.{HasWritten, IsEndFault, frames_of}
 use Rattle.prolly_build.proofs.Makings.{at_most_one}
@@ -86,7 +88,7 @@ pub lost_is_no_memory : Lost ≡ Memory → ⊥
 lost_is_no_memory e = cc
 
 -- what is known where a build names want of memory
-pub refused_at : (head : List ℕ) (level : ℕ) (events : List Chunk) (old before after : SinkView)
+refused_at : (head : List ℕ) (level : ℕ) (events : List Chunk) (old before after : SinkView)
     (written : WriterState) (end : End) (fault : RunFault) →
     HasWritten head level events old before written →
     IsEndFault head level events old before after end fault → fault ≡ Memory →
@@ -103,14 +105,16 @@ refused_at head level events old before after written Clean fault h (inl failed)
   where
     apart : Write ≡ Memory → ⊥
     apart e = cc
-refused_at head level events old before after written Clean fault h (inr tall) memory =
+refused_at head level events old before after written Clean fault h (inr (inl tall)) memory =
     absurd (apart (sym tall.0 ∙ memory))
   where
     apart : TooTall_fault ≡ Memory → ⊥
     apart e = cc
+refused_at head level events old before after written Clean fault h (inr (inr lost)) memory =
+    absurd (lost_is_no_memory (sym lost.0 ∙ memory))
 
 -- what is known where a build names the fault of a file
-pub stopped_at : (settings : Settings) (some : 1 ≤ settings.stages) (events : List Chunk)
+stopped_at : (settings : Settings) (some : 1 ≤ settings.stages) (events : List Chunk)
     (old before after : SinkView) (written : WriterState) (end : End) (fault : RunFault) →
     HasWritten (header settings.version settings.bits) (settings.stages - 1) events old before
     written →
@@ -126,5 +130,28 @@ stopped_at settings some events old before after written (Fault f) fault h is fi
 )
 stopped_at settings some events old before after written Clean fault h (inl failed) file =
     absurd (subst IsFileFault failed.0 file)
-stopped_at settings some events old before after written Clean fault h (inr tall) file =
+stopped_at settings some events old before after written Clean fault h (inr (inl tall)) file =
     absurd (subst IsFileFault tall.0 file)
+stopped_at settings some events old before after written Clean fault h (inr (inr lost)) file =
+    absurd (subst IsFileFault lost.0 file)
+
+pub is_refused_at : (settings : Settings) (sent : Whole Chunk) (old before after : SinkView)
+    (written : WriterState) (fault : RunFault) →
+    HasWritten (header settings.version settings.bits) (settings.stages - 1) sent.items old before
+    written →
+    IsEndFault (header settings.version settings.bits) (settings.stages - 1) sent.items old before
+    after sent.end fault → fault ≡ Memory → IsRefusedAt settings sent old after
+is_refused_at settings sent old before after written fault h is memory =
+    let k = refused_at (header settings.version settings.bits) (settings.stages - 1) sent.items old
+    before after written sent.end fault h is memory in
+    record { told = k.0; took = k.1 }
+
+pub is_stopped_at : (settings : Settings) (some : 1 ≤ settings.stages) (sent : Whole Chunk)
+    (old before after : SinkView) (written : WriterState) (fault : RunFault) →
+    HasWritten (header settings.version settings.bits) (settings.stages - 1) sent.items old before
+    written →
+    IsEndFault (header settings.version settings.bits) (settings.stages - 1) sent.items old before
+    after sent.end fault → IsFileFault fault → IsStoppedAt settings sent old after fault
+is_stopped_at settings some sent old before after written fault h is file =
+    let k = stopped_at settings some sent.items old before after written sent.end fault h is file in
+    record { told = k.0; took = k.1 }

@@ -1,5 +1,5 @@
 -- What a build has made of its sources.
-use Rattle.std.specs.Prelude.{◌≡◌, ◌≢◌, ◌<◌, ◌≤◌, ℕ, true, List, [], ◌∷◌, ◌++◌, length, None, ◌-◌}
+use Rattle.std.specs.Prelude.{◌≡◌, ◌≢◌, ◌<◌, ◌≤◌, ℕ, true, List, [], ◌∷◌, ◌++◌, length, None, ◌-◌, ◌^◌}
 use Rattle.std.specs.List.{flat_map}
 use Rattle.prolly_tree.specs.Chunk.{Chunk, chunks}
 use Rattle.prolly_entry.specs.Cut.{sha512_cut}
@@ -88,17 +88,15 @@ IsUnmadeOf settings m old new faults.Write = IsCutOff settings m old new
 IsUnmadeOf settings m old new faults.TooTall = IsTooTall settings m old new
 IsUnmadeOf settings m old new _ = ⊥
 
--- What the stages sent, where it ended clean: what they make of a map, which is small, and whose
--- pairs were counted.
-pub record IsCleanRun (settings : Settings) (m : List Pair) (events : List Chunk) (count : ℕ) : Type
-    0 where
-  pub few : length m ≤ 268435456
+-- What the stages sent, where it ended clean: what they make of a map of so many pairs as can be
+-- counted.
+pub record IsCleanRun (settings : Settings) (m : List Pair) (events : List Chunk) : Type 0 where
+  pub few : length m < 2 ^ 64
   pub sent : events ≡ pipeline_events (settings.stages - 1) (sha512_cut settings.bits)
       settings.version clean m
-  pub counted : count ≡ length m
 
-abbrev pub IsRunOf : Settings → List Pair → List Chunk → End → ℕ → Type 0
-IsRunOf settings m events end count = end ≡ Clean → IsCleanRun settings m events count
+abbrev pub IsRunOf : Settings → List Pair → List Chunk → End → Type 0
+IsRunOf settings m events end = end ≡ Clean → IsCleanRun settings m events
 
 module _ {S : Type 0} (seen : S → SourceView) where
   -- No read of the source failed, and the bytes that it had left are these records, one after

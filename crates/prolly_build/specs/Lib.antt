@@ -14,7 +14,9 @@ pub mod Mergers
 pub mod RecordLinks
 -- What the last merger sent of the files.
 pub mod LastMerger
--- What the stages of a build sent of the files.
+-- What the workers below the stages of nodes give back.
+pub mod Base
+-- What the stages of a run sent.
 pub mod Stages
 -- What a build has made of its sources.
 pub mod BuiltFile
@@ -26,3 +28,12 @@ pub mod Refusals
 pub mod End
 -- What a build has answered, and what it has made of its sources and of the sink then.
 pub mod Outcome
+-- What the workers give back that an old tree needs.
+pub mod OldWorkers
+-- How changes reach the stage of an old tree's leaves.
+pub mod OldBase
+-- What applying changes to an old tree has answered, and what it has made of its sources and of the
+-- sink then.
+pub mod Applied
+-- What the end of a run over an old tree makes of it, once its workers have all ended.
+pub mod OldEnd

@@ -1,5 +1,5 @@
 -- What the mergers of a build give back.
-use Rattle.std.specs.Prelude.{◌≡◌, ℕ, List, [], ◌∷◌, All, map}
+use Rattle.std.specs.Prelude.{◌≡◌, List, [], ◌∷◌, All, map}
 use Rattle.prolly_tree.specs.Merge.{Input, raw_merged_part, merged_part}
 use Rattle.prolly_entry.specs.Overlay.{AllRising}
 use Rattle.prolly_entry.specs.Pair.{Pair}
@@ -11,7 +11,7 @@ use Rattle.prolly_link.specs.declared.message.End.{End}
 use Rattle.prolly_link.specs.Progress.{HasEnded}
 use Rattle.prolly_link.specs.declared.fault.RunFault.{RunFault}
 use Rattle.prolly_merge.specs.Inputs.{input_of, lists_of, stop_end}
-use Rattle.prolly_merge.specs.Merged.{SendsAll, Counts}
+use Rattle.prolly_merge.specs.Merged.{SendsAll}
 
 -- What went over a link, seen from its receiver and from its sender.
 abbrev pub received_input : Receiving Record → Input RunFault
@@ -44,9 +44,8 @@ pub record IsMergedTwo (left right : Receiving Record) (link : LinkId)
 -- All inputs of the last merger have ended, and the pairs that it makes of them were sent, on the
 -- links that it was given.
 pub record IsMerged (inputs : List (Receiving Record)) (link : LinkId)
-    (inputs' : List (Receiving Record)) (closed : Whole Pair) (count : ℕ) : Type 0 where
+    (inputs' : List (Receiving Record)) (closed : Whole Pair) : Type 0 where
   pub reads : map (λ r. r.link) inputs' ≡ map (λ r. r.link) inputs
   pub have_ended : All (λ r. HasEnded r.progress) inputs'
   pub writes : closed.link ≡ link
-  pub counts : Counts [] closed.items count
   pub merges : MergesAll (map received_input inputs') closed.items closed.end

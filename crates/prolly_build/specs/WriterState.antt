@@ -13,6 +13,7 @@ use Rattle.prolly_link.specs.declared.message.End.{End}
 use Rattle.prolly_link.specs.declared.message.End.TheVariants.{Clean, Fault}
 use Rattle.prolly_link.specs.declared.fault.RunFault.{RunFault}
 use Rattle.prolly_link.specs.declared.fault.RunFault.TheVariants.{Write, TooTall as TooTall_fault}
+use Rattle.prolly_link.specs.declared.fault.RunFault.TheVariants.{Lost}
 use Rattle.prolly_build.specs.declared.driver.Report.{Report}
 use Rattle.prolly_build.specs.declared.run.writer.OpenFile.{OpenFile}
 use Rattle.prolly_build.specs.declared.run.writer.LastChunk.{LastChunk}
@@ -33,12 +34,12 @@ abbrev pub tops_counted : Bool → ℕ
 tops_counted true = 1
 tops_counted false = 0
 
--- The reference and the level of the last event, if there is one.
+-- The reference, the level and the count of the last event, if there is one.
 abbrev pub IsTopOf : List Chunk → Option LastChunk → Type 0
 IsTopOf events None = events ≡ []
 IsTopOf events (Some top) =
     (before : List Chunk) × (last : Chunk) × (events ≡ before ++ last ∷ []) ×
-    (top.root.0 ≡ reference_of last.bytes) × (top.level ≡ last.level)
+    (top.root.0 ≡ reference_of last.bytes) × (top.level ≡ last.level) × (top.count ≡ last.count)
 
 -- All events are written, of which at most one is of the last stage's level.
 pub record AreAllWritten (head : List ℕ) (level : ℕ) (events : List Chunk) (old new : SinkView)
@@ -84,7 +85,7 @@ HasWritten head level events old new Failed = IsFailed head level events old new
 -- All events are written, and then the end record, the sink holds nothing of it back, and the
 -- report is that of the last event.
 pub record IsEndWritten (head : List ℕ) (level : ℕ) (events : List Chunk) (old new : SinkView)
-    (pairs : ℕ) (report : Report) : Type 0 where
+    (report : Report) : Type 0 where
   pub before : List Chunk
   pub root : Chunk
   pub whole : events ≡ before ++ root ∷ []
@@ -95,7 +96,7 @@ pub record IsEndWritten (head : List ℕ) (level : ℕ) (events : List Chunk) (o
   pub settled : IsSettled new
   pub root_is : report.root.0 ≡ reference_of root.bytes
   pub chunks_are : report.chunks ≡ length events
-  pub pairs_are : report.pairs ≡ pairs
+  pub pairs_are : report.pairs ≡ root.count
   pub levels_are : report.levels ≡ min 255 (root.level + 1)
 
 -- All events are written, of which at most one is of the last stage's level, and the end record
@@ -112,7 +113,7 @@ pub record IsUnended (head : List ℕ) (level : ℕ) (events : List Chunk) (old 
 
 -- Why nothing was made: the fault that came with the last link's end, which leaves the sink alone;
 -- or, at a clean end, a frame or the end record that failed, or a second event of the last stage's
--- level, at which nothing more was written.
+-- level, at which nothing more was written, or events that have no end record.
 abbrev pub IsEndFault : List ℕ → ℕ → List Chunk → SinkView → SinkView → SinkView → End → RunFault →
     Type 0
 IsEndFault head level events old before after (Fault fault) answer =
@@ -121,3 +122,4 @@ IsEndFault head level events old before after Clean answer =
     ((answer ≡ Write) × (IsFailed head level events old after ⊎
     IsUnended head level events old after))
     ⊎ ((answer ≡ TooTall_fault) × IsTall head level events old after)
+    ⊎ ((answer ≡ Lost) × (after ≡ before))

@@ -1,105 +1,93 @@
 //! The pipelined build, and what it answers.
-ghost use Rattle.std.specs.Prelude.{◌≡◌, ◌≢◌, ◌+◌, ◌<◌, ◌≤◌, ◌↔◌, Err, vec_len, IfOk, IfErr};
+ghost use Rattle.std.specs.Prelude.{◌≡◌, ◌≢◌, ◌+◌, ◌-◌, ◌<◌, ◌≤◌, ◌↔◌, [], All, Err, map, vec_len, IfErr};
 ghost use Rattle.prolly_link.specs.declared.fault.RunFault.TheVariants.{TooManyFiles};
 ghost use Rattle.prolly_build.specs.Config.{AreLawful};
-ghost use Rattle.prolly_build.specs.RunResult.{HandsOn};
-ghost use Rattle.prolly_build.specs.Stages.{HasStaged};
+ghost use Rattle.prolly_file.specs.Sink.{SinkView};
+ghost use Rattle.prolly_link.specs.Progress.{end_given, HasEnded};
+ghost use Rattle.prolly_tree.specs.File.{header};
+ghost use Rattle.prolly_build.specs.Base.{AreFilesEnded, AreFilesPaired};
 ghost use Rattle.prolly_build.specs.Outcome.{IsOutcome};
+ghost use Rattle.prolly_build.specs.RunResult.{IsUnreceived};
+ghost use Rattle.prolly_build.specs.WriterState.{HasWritten};
 
 use crate::config::Config;
-use crate::end::{Halt, finish};
-use crate::links::{Links, NewLink};
-use crate::run::{RunResult, run_from_top};
-use crate::start::{AllStart, Context, Lent, Permit};
-use prolly_chunk::ChunkEvent;
-use prolly_entry::Ref;
+use crate::end::finish;
+use crate::links::{StageLinks, both};
+use crate::run::{Base, BaseResult, RunResult, meet_files, new_files, run_scoped};
+use crate::start::{AllStart, CutLeaves, Lent, MergeLast, Permit};
+use prolly_entry::{Pair, Record, Ref};
 use prolly_file::{Sink, Source};
-use prolly_link::RunFault;
+use prolly_link::{BatchReceiver, RunFault};
 use prolly_stage::Gate;
 use std::alloc::Global;
+use std::mem;
 use std::sync::Wait;
-use std::thread::{Scope, Threads};
-use std::{mem, thread};
+use std::thread::Threads;
 
 /// The greatest number of record files that a build takes.
 pub const FILES_LIMIT: usize = 16;
-
-/// Runs all workers in this scope, and the writer on this thread.
-fn run_in<
-    's,
-    E,
-    R: Wait + Threads + Sync,
-    S: Source + Send + Drop + 's,
-    W: Sink,
-    G: Gate,
-    P: Permit,
->(
-    scope: &'s Scope<'s, E>,
-    lent: &Lent<'s, '_, R, G, P>,
-    rings: Links,
-    sources: &mut Vec<S>,
-    sink: &mut W,
-) -> Result<RunResult<ChunkEvent>, Halt>
-    requires levels { vec_len rings.lower.events < 12 }
-    requires files { (rings.lower.feed.files ≡ vec_len sources.old) × (vec_len sources.old ≤ 16) }
-    ensures link { IfOk result (λ ran. ran.out.link ≡ ran.wrote.last.link) }
-    ensures hands_on { HandsOn lent.now.config rings.last.receiver
-        (W.seen sink.old) (W.seen sink.new) (sink.new ≡ sink.old) result (λ ran. ran.wrote) }
-    ensures staged { IfOk result (λ ran. HasStaged S.seen lent.now.config
-        (vec_len rings.lower.events) sources.old.items sources.new.items ran.out.items ran.out.end ran.pairs) }
-{
-    let Links { last, lower } = rings;
-    let NewLink { sender, receiver } = last;
-    let site = Context {
-        scope,
-        rt: lent.rt,
-        alloc: lent.alloc,
-        gate: lent.gate,
-        permit: lent.permit,
-        config: lent.config,
-    };
-    run_from_top(&site, lower, sender, sources, receiver, sink)
-}
 
 /// Runs all workers over these links, and the writer on this thread, until all of them have ended;
 /// then ends the file.
 fn run_workers<R: Wait + Threads + Sync, S: Source + Send + Drop, W: Sink, G: Gate, P: Permit>(
     lent: &Lent<'_, '_, R, G, P>,
-    rings: Links,
+    links: StageLinks,
+    base: Base<CutLeaves, MergeLast, Pair>,
     sources: &mut Vec<S>,
     sink: &mut W,
 ) -> Result<Report, RunFault>
     requires lawful { AreLawful lent.now.config }
-    requires levels { vec_len rings.lower.events + 1 ≡ lent.now.config.stages }
-    requires files { (rings.lower.feed.files ≡ vec_len sources.old) × (vec_len sources.old ≤ 16) }
+    requires levels { vec_len links.events + 1 ≡ lent.now.config.stages }
+    requires files { (base.feed.files ≡ vec_len sources.old) × (vec_len sources.old ≤ 16) }
+    requires cut { base.leaves.cut ≡ lent.now.config.bits }
+    requires leaves { base.leaves.pairs.items ≡ [] }
+    requires middle { All IsUnreceived base.middle.inputs.items }
+    requires unsent { base.out.items ≡ [] }
+    requires paired { AreFilesPaired base.out base.leaves.pairs base.feed.outs.items
+        base.middle.inputs.items }
     ensures outcome { IsOutcome S.seen lent.now.config sources.old.items sources.new.items
         (W.seen sink.old) (W.seen sink.new) (sink.new ≡ sink.old) result }
     ensures started { IfErr result (λ fault. fault ≢ TooManyFiles) }
 {
-    let (rt, config) = (lent.rt, lent.config);
-    let mut taken = mem::replace(sources, Vec::new(lent.alloc));
-    let (ran, back, sink) = thread::scope(
-        thread::scope_env(),
-        rt,
-        move |scope| -> (Result<RunResult<ChunkEvent>, Halt>, Vec<S>, &mut W)
-            requires { (vec_len rings.lower.events < 12) ×
-                (rings.lower.feed.files ≡ vec_len taken) × (vec_len taken ≤ 16) }
-            ensures link { IfOk result.0 (λ ran. ran.out.link ≡ ran.wrote.last.link) }
-            ensures hands_on { HandsOn lent.entry.now.config rings.last.receiver
-                (W.seen sink.entry.now) (W.seen result.2.now)
-                (result.2.now ≡ sink.entry.now) result.0 (λ ran. ran.wrote) }
-            ensures staged { IfOk result.0 (λ ran. HasStaged S.seen lent.entry.now.config
-                (vec_len rings.lower.events)
-                taken.items result.1.items ran.out.items ran.out.end ran.pairs) }
-            ensures same { result.2.ghost_name ≡ sink.entry.ghost_name }
-        {
-            let ran = run_in(scope, lent, rings, &mut taken, &mut *sink);
-            (ran, taken, sink)
-        },
-    );
+    let taken = mem::replace(sources, Vec::new(lent.alloc));
+    let (ran, back) = run_scoped(lent, links, base, taken, sink);
     *sources = back;
     match ran {
-        Ok(ran) => finish(rt, config, ran, sink),
+        Ok(ran) => end_files(lent.rt, lent.config, ran, sink),
+        Err(halt) => Err(halt.fault()),
+    }
+}
+
+/// Meets the links from the files to the stage of the leaves, and ends the file.
+fn end_files<R: Wait, W: Sink>(
+    rt: &R,
+    config: Config,
+    ran: RunResult<BatchReceiver<Pair>, Vec<BatchReceiver<Record>>, Pair>,
+    sink: &mut W,
+) -> Result<Report, RunFault>
+    requires lawful { AreLawful config }
+    requires link { ran.out.link ≡ ran.base.wrote.last.link }
+    requires ended { HasEnded ran.base.wrote.last.progress }
+    requires end { ran.base.wrote.end ≡ end_given ran.base.wrote.last.progress }
+    requires feed { map (λ c. c.link) ran.base.closed.items ≡
+        map (λ r. r.link) ran.base.middle.items }
+    requires pairs { ran.base.sent.link ≡ ran.base.leaves.link }
+    ensures { (old : SinkView) →
+        HasWritten (header config.version config.bits) (config.stages - 1)
+        ran.base.wrote.last.items old (W.seen sink.old) ran.base.wrote.written →
+        AreFilesEnded config ran.base.leaves ran.base.middle.items ran.base.sent
+        ran.base.closed.items ran.out old (W.seen sink.new) result }
+{
+    let RunResult { out, base } = ran;
+    let BaseResult {
+        leaves,
+        middle,
+        sent,
+        closed,
+        wrote,
+    } = base;
+    match meet_files(rt, leaves, sent, middle, closed) {
+        Ok(()) => finish(rt, config, out, wrote, sink),
         Err(halt) => Err(halt.fault()),
     }
 }
@@ -150,7 +138,8 @@ pub fn build_with<R: Wait + Threads + Sync, S: Source + Send + Drop, W: Sink, G:
     if sources.len() > FILES_LIMIT {
         return Err(RunFault::TooManyFiles);
     }
-    let Ok(rings) = Links::new(alloc, config, sources.len()) else {
+    let base = new_files(alloc, config, sources.len());
+    let Ok((links, base)) = both(StageLinks::new(alloc, config), base) else {
         return Err(RunFault::Memory);
     };
     let lent = Lent {
@@ -160,7 +149,7 @@ pub fn build_with<R: Wait + Threads + Sync, S: Source + Send + Drop, W: Sink, G:
         permit,
         config: *config,
     };
-    run_workers(&lent, rings, sources, sink)
+    run_workers(&lent, links, base, sources, sink)
 }
 
 /// Builds as [`build_with`] does, where all workers may start.

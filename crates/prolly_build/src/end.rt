@@ -1,28 +1,23 @@
 //! The end of a build: a halt where a worker can't start, the end record, and the answer.
-ghost use Rattle.std.specs.Prelude.{◌≡◌, ◌-◌, List, ◌≢◌, ◌<◌, ℕ, Some, IfOk, IfErr, OnOk};
-ghost use Rattle.prolly_entry.specs.Pair.{Pair as PairValue};
+ghost use Rattle.std.specs.Prelude.{◌≡◌, ◌-◌, List, ℕ, IfOk, IfErr, OnOk};
 ghost use Rattle.prolly_tree.specs.File.{header};
 ghost use Rattle.prolly_tree.specs.Chunk.{Chunk};
-ghost use Rattle.prolly_tree.specs.Events.{greatest_count};
 ghost use Rattle.prolly_file.specs.Sink.{SinkView};
 ghost use Rattle.prolly_link.specs.Progress.{end_given, HasEnded};
 ghost use Rattle.prolly_link.specs.declared.message.End.TheVariants.{Clean};
 ghost use Rattle.prolly_build.specs.RunResult.{IsHaltFault};
 ghost use Rattle.prolly_build.specs.Config.{AreLawful};
 ghost use Rattle.prolly_build.specs.WriterState.{HasWritten, IsEndWritten, IsEndFault};
-ghost use Rattle.prolly_build.specs.BuiltFile.{IsInputEnd, IsRunOf};
 ghost use Rattle.prolly_build.specs.End.{IsFinished};
-ghost use Rattle.prolly_build.specs.declared.run.writer.OpenFile.{OpenFile as OpenFileValue};
-ghost use Rattle.prolly_build.specs.declared.run.writer.LastChunk.{LastChunk as LastChunkValue};
 ghost use Rattle.prolly_build.specs.declared.run.writer.WriterState.TheVariants.{Writing};
 
 use crate::config::Config;
 use crate::driver::Report;
 use crate::links::meet_link;
-use crate::run::{OpenFile, RunResult, WriterResult, WriterState};
+use crate::run::{OpenFile, WriterResult, WriterState};
 use prolly_chunk::ChunkEvent;
 use prolly_file::Sink;
-use prolly_link::{BatchReceiver, BatchSender, End, RunFault};
+use prolly_link::{BatchReceiver, BatchSender, ClosedBatch, End, RunFault};
 use std::sync::Wait;
 
 /// Why the workers were not all met.
@@ -67,28 +62,21 @@ pub(crate) fn close_all<T: Drop, R: Wait>(rt: &R, outs: Vec<BatchSender<T>>) {
 pub(crate) fn finish<R: Wait, W: Sink>(
     rt: &R,
     config: Config,
-    ran: RunResult<ChunkEvent>,
+    out: ClosedBatch<ChunkEvent>,
+    wrote: WriterResult,
     sink: &mut W,
 ) -> Result<Report, RunFault>
     requires lawful { AreLawful config }
-    requires link { ran.out.link ≡ ran.wrote.last.link }
-    requires ended { HasEnded ran.wrote.last.progress }
-    requires end { ran.wrote.end ≡ end_given ran.wrote.last.progress }
-    requires run { (m : List PairValue) × IsRunOf config m ran.out.items ran.out.end ran.pairs }
-    requires faults { IsInputEnd ran.out.end }
-    requires written { (old : SinkView) × HasWritten (header config.version config.bits)
-        (config.stages - 1) ran.wrote.last.items old
-        (W.seen sink.old) ran.wrote.written }
-    ensures { (m : List PairValue) (old : SinkView) →
-        IsRunOf config m ran.out.items ran.out.end ran.pairs →
-        HasWritten (header config.version config.bits) (config.stages - 1) ran.wrote.last.items old
-        (W.seen sink.old) ran.wrote.written →
-        IsFinished config m ran.out old (W.seen sink.new) result }
+    requires link { out.link ≡ wrote.last.link }
+    requires ended { HasEnded wrote.last.progress }
+    requires end { wrote.end ≡ end_given wrote.last.progress }
+    ensures { (old : SinkView) →
+        HasWritten (header config.version config.bits) (config.stages - 1) wrote.last.items old
+        (W.seen sink.old) wrote.written → IsFinished config out old (W.seen sink.new) result }
 {
-    let RunResult { out, pairs, wrote } = ran;
     let WriterResult { last, end, written } = wrote;
     match meet_link(rt, out, last) {
-        Ok(()) => end_build(sink, written, end, pairs),
+        Ok(()) => end_build(sink, written, end),
         Err(_) => Err(RunFault::Lost),
     }
 }
@@ -100,13 +88,10 @@ pub(crate) fn end_build<W: Sink>(
     sink: &mut W,
     written: WriterState,
     end: End,
-    pairs: u64,
 ) -> Result<Report, RunFault>
-    requires { (begun : OpenFileValue) → written ≡ Writing begun → end ≡ Clean →
-        (begun.file.chunks < greatest_count) × ((top : LastChunkValue) × (begun.top ≡ Some top)) }
     ensures ok { (head : List ℕ) (level : ℕ) (events : List Chunk) (old : SinkView) →
         HasWritten head level events old (W.seen sink.old) written →
-        IfOk result (IsEndWritten head level events old (W.seen sink.new) pairs) }
+        IfOk result (IsEndWritten head level events old (W.seen sink.new)) }
     ensures clean { OnOk result (end ≡ Clean) }
     ensures err { (head : List ℕ) (level : ℕ) (events : List Chunk) (old : SinkView) →
         HasWritten head level events old (W.seen sink.old) written →
@@ -117,17 +102,16 @@ pub(crate) fn end_build<W: Sink>(
         (End::Fault(fault), _) => Err(fault),
         (End::Clean, WriterState::Failed) => Err(RunFault::Write),
         (End::Clean, WriterState::TooTall) => Err(RunFault::TooTall),
-        (End::Clean, WriterState::Writing(begun)) => end_file(sink, begun, pairs),
+        (End::Clean, WriterState::Writing(begun)) => end_file(sink, begun),
     }
 }
 
-/// Writes the end record.
-fn end_file<W: Sink>(sink: &mut W, begun: OpenFile, pairs: u64) -> Result<Report, RunFault>
-    requires few { begun.file.chunks < greatest_count }
-    requires some { (top : LastChunkValue) × (begun.top ≡ Some top) }
+/// Writes the end record, which tells the last chunk for the root, and how many there are. Where
+/// none came, or more than can be told, a worker was lost: the stages send a tree.
+fn end_file<W: Sink>(sink: &mut W, begun: OpenFile) -> Result<Report, RunFault>
     ensures ok { (head : List ℕ) (level : ℕ) (events : List Chunk) (old : SinkView) →
         HasWritten head level events old (W.seen sink.old) (Writing begun) →
-        IfOk result (IsEndWritten head level events old (W.seen sink.new) pairs) }
+        IfOk result (IsEndWritten head level events old (W.seen sink.new)) }
     ensures err { (head : List ℕ) (level : ℕ) (events : List Chunk) (old : SinkView) →
         HasWritten head level events old (W.seen sink.old) (Writing begun) →
         IfErr result (λ fault. IsEndFault head level events old
@@ -138,12 +122,17 @@ fn end_file<W: Sink>(sink: &mut W, begun: OpenFile, pairs: u64) -> Result<Report
         has_top: _,
         top,
     } = begun;
-    let top = top.unwrap();
+    let Some(top) = top else {
+        return Err(RunFault::Lost);
+    };
+    if file.chunks() == u64::MAX {
+        return Err(RunFault::Lost);
+    }
     match file.end(sink, &top.root) {
         Ok(chunks) => Ok(Report {
             root: top.root,
             chunks,
-            pairs,
+            pairs: top.count,
             levels: top.level.saturating_add(1),
         }),
         Err(_) => Err(RunFault::Write),

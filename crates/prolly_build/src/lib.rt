@@ -1,6 +1,7 @@
 //! The pipelined build: record files to one chunk file, by threads that pass items through links.
 #![tactic(auto)]
 
+mod apply;
 mod config;
 mod driver;
 mod end;
@@ -9,6 +10,7 @@ mod links;
 mod run;
 mod start;
 
+pub use apply::{ApplyFault, CHANGES_LIMIT, apply_changes, apply_changes_with};
 pub use config::{Config, ConfigFault};
 pub use driver::{FILES_LIMIT, Report, build, build_with};
 pub use start::{AllStart, Permit};

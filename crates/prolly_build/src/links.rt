@@ -10,7 +10,7 @@ ghost use Rattle.prolly_build.specs.Config.{AreLawful};
 use crate::config::Config;
 use crate::end::Halt;
 use prolly_chunk::ChunkEvent;
-use prolly_entry::{Pair, Record};
+use prolly_entry::Record;
 use prolly_link::{
     BatchDrained, BatchReceiver, BatchSender, ClosedBatch, LinkFault, batch_link, meet_batches,
 };
@@ -94,28 +94,25 @@ pub(crate) fn new_pairs(
     Ok(forks)
 }
 
-/// The links below the last merger, and the room for the closed ends of those into it.
+/// The links by which record files are fed to a worker, and the room for their closed ends.
 #[derive(Drop)]
-pub(crate) struct RecordLinks {
+pub(crate) struct Feed {
     /// How many files there are.
     pub files: usize,
-    /// The links into the lower mergers.
+    /// The links into the mergers of two.
     pub forks: Vec<LinkPair>,
-    /// Both ends of the links into the last merger, apart.
+    /// The outputs into the worker.
     pub outs: Vec<BatchSender<Record>>,
-    pub inputs: Vec<BatchReceiver<Record>>,
     /// Where the closed ends of `outs` come back.
     pub closed: Vec<ClosedBatch<Record>>,
     ghost each: { vec_len outs + vec_len forks ≡ files },
-    ghost two: { 0 < vec_len forks → 2 ≤ vec_len outs },
+    ghost some: { 0 < vec_len forks → 1 ≤ vec_len outs },
     ghost room: { (closed.items ≡ []) × (files ≤ vec_capacity closed) ×
         (files ≤ vec_capacity outs) },
     ghost unsent: { All IsUnsent outs.items },
-    ghost unread: { All IsUnreceived inputs.items },
-    ghost paired: { map (λ o. o.link) outs.items ≡ map (λ r. r.link) inputs.items },
 }
 
-/// Both ends of links into the last merger, apart.
+/// Both ends of the links into the worker that is fed, apart.
 #[derive(Drop)]
 struct LinkEnds {
     outs: Vec<BatchSender<Record>>,
@@ -145,65 +142,53 @@ fn new_ends(
     Ok(LinkEnds { outs, inputs })
 }
 
-/// The links from so many files to the last merger. It has two inputs where there are two files or
-/// more, and one merger of two stands below it for each file more than two.
-pub(crate) fn new_record_links(
+/// The links from so many files to a worker of at most so many inputs, and these inputs. One merger
+/// of two stands below it for each file that is more.
+pub(crate) fn new_feed(
     alloc: Global,
     config: &Config,
     files: usize,
-) -> Result<RecordLinks, AllocError>
-    ensures { IfOk result (λ feed. feed.files ≡ files) }
+    most: usize,
+) -> Result<(Feed, Vec<BatchReceiver<Record>>), AllocError>
+    requires { 1 ≤ most }
+    ensures files { IfOk result (λ fed. fed.0.files ≡ files) }
+    ensures few { IfOk result (λ fed. vec_len fed.0.outs ≤ most) }
+    ensures some { IfOk result (λ fed. vec_len fed.0.outs ≡ 0 → files ≡ 0) }
+    ensures unread { IfOk result (λ fed. All IsUnreceived fed.1.items) }
+    ensures paired { IfOk result (λ fed. map (λ o. o.link) fed.0.outs.items ≡
+        map (λ r. r.link) fed.1.items) }
 {
-    let forks = new_pairs(alloc, config, files.saturating_sub(2))?;
-    let LinkEnds { outs, inputs } = new_ends(alloc, config, files.min(2), files)?;
+    let forks = new_pairs(alloc, config, files.saturating_sub(most))?;
+    let LinkEnds { outs, inputs } = new_ends(alloc, config, files.min(most), files)?;
     let closed = Vec::<ClosedBatch<Record>>::with_capacity(alloc, files)?;
-    Ok(RecordLinks {
+    let feed = Feed {
         files,
         forks,
         outs,
-        inputs,
         closed,
-    })
+    };
+    Ok((feed, inputs))
 }
 
-/// The links of a build.
+/// The links between stages, and from the last one to the writer.
 #[derive(Drop)]
-pub(crate) struct Links {
+pub(crate) struct StageLinks {
     /// From the last stage to the writer.
     pub last: NewLink<ChunkEvent>,
-    pub lower: LowerLinks,
-}
-
-/// The links of a build below the last one.
-#[derive(Drop)]
-pub(crate) struct LowerLinks {
     /// Between the stages, the one into the highest stage last.
     pub events: Vec<NewLink<ChunkEvent>>,
-    /// From the last merger to the stage of the leaves.
-    pub pairs: NewLink<Pair>,
-    /// From the loaders to the last merger.
-    pub feed: RecordLinks,
 }
 
-impl Links {
-    /// New links for so many files. Each has the memory of its ring and of one message.
-    pub(crate) fn new(alloc: Global, config: &Config, files: usize) -> Result<Links, AllocError>
-        ensures files { IfOk result (λ rings. rings.lower.feed.files ≡ files) }
+impl StageLinks {
+    /// New links. Each has the memory of its ring and of one message.
+    pub(crate) fn new(alloc: Global, config: &Config) -> Result<StageLinks, AllocError>
         ensures lawful { IfOk result (λ _. AreLawful config.now) }
-        ensures levels { IfOk result (λ rings. vec_len rings.lower.events + 1 ≡ config.now.stages) }
+        ensures levels { IfOk result (λ links. vec_len links.events + 1 ≡ config.now.stages) }
     {
-        let ends = both(new_link(alloc, config), new_link(alloc, config));
+        let last = new_link(alloc, config);
         let events = new_links(alloc, config, usize::from(config.last_level()));
-        let ((last, pairs), (events, feed)) = both(
-            ends,
-            both(events, new_record_links(alloc, config, files)),
-        )?;
-        let lower = LowerLinks {
-            events,
-            pairs,
-            feed,
-        };
-        Ok(Links { last, lower })
+        let (last, events) = both(last, events)?;
+        Ok(StageLinks { last, events })
     }
 }
 

@@ -11,6 +11,7 @@ use std::sync::Wait;
 use std::test::Fail;
 use std::thread::Threads;
 
+mod applying;
 mod faults;
 mod gates;
 mod growths;

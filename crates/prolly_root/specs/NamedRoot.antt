@@ -1,5 +1,5 @@
--- The root that a chunk file names in its end record.
-use Rattle.std.specs.Prelude.{◌≡◌, ℕ, ◌-◌, ◌<◌, ◌≤◌, ◌⊎◌, List, drop, length, Option}
+-- What a chunk file says of its tree in its header, and the root that its end record names.
+use Rattle.std.specs.Prelude.{◌≡◌, ℕ, ◌-◌, ◌<◌, ◌≤◌, ◌⊎◌, List, drop, length, slice_index, Option}
 use Rattle.std.specs.Prelude.{Some, None}
 use Rattle.std.specs.Prelude.{Result, Ok, Err}
 use Rattle.prolly_check.specs.Content.{Content}
@@ -11,9 +11,33 @@ use Rattle.prolly_entry.specs.Cut.{sha512_cut}
 use Rattle.prolly_entry.specs.declared.reference.Ref.{Ref}
 use Rattle.prolly_file.specs.EndRecord.{IsNoEnd, NamesRoot}
 use Rattle.prolly_file.specs.Failures.{after_failure}
-use Rattle.prolly_file.specs.Header.{header_fault, header_tests}
+use Rattle.prolly_file.specs.Header.{header_fault, header_tests, version_of}
+use Rattle.prolly_file.specs.declared.format.header.Header.{Header}
+use Rattle.prolly_file.specs.declared.format.header.HeaderFault.TheVariants as header_faults
+use Rattle.prolly_root.specs.RootFault.{OnlyRead}
+use Rattle.prolly_root.specs.declared.root_fault.RootFault.{RootFault}
+use Rattle.prolly_root.specs.declared.root_fault.RootFault.TheVariants as roots
 use Rattle.prolly_file.specs.declared.format.header.HeaderFault.{HeaderFault}
 use Rattle.prolly_tree.specs.File.{root_reference}
+
+-- ---- the header
+
+-- What a header says is what this content has.
+pub record SaysHeaderOf (content : Content) (header : Header) : Type 0 where
+  pub version : header.version ≡ content.version
+  pub bits : header.bits ≡ content.bits
+
+-- What the first bytes of a file tell: what their header says; or what is wrong with it; or a read
+-- failed.
+abbrev pub TellsHeader : List ℕ → Result Header RootFault → Type 0
+TellsHeader bytes (Ok header) = (header_fault header_tests bytes ≡ None) ×
+    (header.version ≡ version_of (slice_index bytes 4)) × (header.bits ≡ slice_index bytes 5)
+TellsHeader bytes (Err roots.Truncated) =
+    header_fault header_tests bytes ≡ Some header_faults.Truncated
+TellsHeader bytes (Err roots.Header) = header_fault header_tests bytes ≡ Some header_faults.BadByte
+TellsHeader bytes (Err fault) = OnlyRead fault
+
+-- ---- the root
 
 -- The last bytes of a file, as many as an end record has.
 abbrev pub last_bytes : List ℕ → List ℕ

@@ -2,10 +2,12 @@
 
 mod end_record;
 mod file_chunks;
+mod header;
 mod marks;
 mod subtree;
 mod walk;
 
 pub use end_record::named_root;
 pub use file_chunks::FileChunks;
+pub use header::named_header;
 pub use subtree::Subtree;

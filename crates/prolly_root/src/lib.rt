@@ -14,7 +14,7 @@ mod root_fault;
 mod tested;
 
 pub use chunk_source::ChunkSource;
-pub use file::{FileChunks, Subtree, named_root};
+pub use file::{FileChunks, Subtree, named_header, named_root};
 pub use look_up::Reader;
 pub use proof::{ProofFault, prove, verify};
 pub use root_fault::RootFault;

@@ -24,3 +24,9 @@ pub mod Shares
 pub mod Lacking
 -- Counting the notes whose references are unknown.
 pub mod Counting
+-- The leaves below trees, and going down to them.
+pub mod LeafTrees
+-- The steps of a walk over the leaves of a tree.
+pub mod LeafSteps
+-- A walk over the leaves of a tree, from the first to the last.
+pub mod LeafRuns

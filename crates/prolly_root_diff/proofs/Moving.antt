@@ -23,7 +23,7 @@ use Rattle.prolly_root_diff.proofs.Passing.{passes_equal}
 -- ---- clashes
 
 -- what clashes with few that were read clashes with more
-more_first : (xs ys zs : List (List ℕ)) → Clashing xs zs → Clashing (xs ++ ys) zs
+pub more_first : (xs ys zs : List (List ℕ)) → Clashing xs zs → Clashing (xs ++ ys) zs
 more_first xs ys zs = wider (xs ++ zs) zs ((xs ++ ys) ++ zs) zs put (λ c h. h)
   where
     split : (c : List ℕ) (us vs : List (List ℕ)) → IsIn c (us ++ vs) → IsIn c us ⊎ IsIn c vs
@@ -42,7 +42,7 @@ more_first xs ys zs = wider (xs ++ zs) zs ((xs ++ ys) ++ zs) zs put (λ c h. h)
         joined (inl k) = in_front c (xs ++ ys) zs (in_front c xs ys k)
         joined (inr k) = in_back c (xs ++ ys) zs k
 
-more_last : (xs ys zs : List (List ℕ)) → Clashing ys zs → Clashing (xs ++ ys) zs
+pub more_last : (xs ys zs : List (List ℕ)) → Clashing ys zs → Clashing (xs ++ ys) zs
 more_last xs ys zs c = subst (λ l. Clash l zs) (sym (append_assoc xs ys zs))
     (wider (ys ++ zs) zs (xs ++ (ys ++ zs)) zs (λ c. in_back c xs (ys ++ zs)) (λ c h. h) c)
 

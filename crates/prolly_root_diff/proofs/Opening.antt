@@ -32,14 +32,17 @@ begins_at_root root_is version bits m rising lawful =
 abbrev pub leveled : (level : ℕ) → List (Tree level) → List LeveledTree
 leveled level ts = map (λ t. record { level = level; tree = t }) ts
 
-leveled_pairs : (level : ℕ) (ts : List (Tree level)) (trees : List LeveledTree) →
-    pairs_of (leveled level ts ++ trees) ≡ flat_map (pairs_below level) ts ++ pairs_of trees
-leveled_pairs level [] trees = refl
-leveled_pairs level (t ∷ ts) trees =
-    ap (λ ps. pairs_below level t ++ ps) (leveled_pairs level ts trees) ∙
-    sym (append_assoc (pairs_below level t) (flat_map (pairs_below level) ts) (pairs_of trees))
+pub leveled_all : {A : Type 0} (below : (level : ℕ) → Tree level → List A) (level : ℕ)
+    (ts : List (Tree level)) (trees : List LeveledTree) →
+    flat_map (λ t. below t.level t.tree) (leveled level ts ++ trees) ≡
+    flat_map (below level) ts ++ flat_map (λ t. below t.level t.tree) trees
+leveled_all below level [] trees = refl
+leveled_all below level (t ∷ ts) trees =
+    ap (λ ps. below level t ++ ps) (leveled_all below level ts trees) ∙
+    sym (append_assoc (below level t) (flat_map (below level) ts)
+    (flat_map (λ t. below t.level t.tree) trees))
 
-leveled_tops : (version : Version) (level n : ℕ) (ts : List (Tree level))
+pub leveled_tops : (version : Version) (level n : ℕ) (ts : List (Tree level))
     (trees : List LeveledTree) (due : List Due) → tops_of version trees ≡ map (λ d. d.reference) due →
     tops_of version (leveled level ts ++ trees) ≡
     map (λ d. d.reference) (due_of n (map (child_of version level) ts) ++ due)
@@ -73,7 +76,7 @@ module _ (child_is : (version : Version) → ChildIsTree version) (version : Ver
       each = all_append (λ t. IsTreeOf version cs t.level t.tree) (leveled level ts) trees
           (children_each level [] ts b) each;
       named = leveled_tops version level n ts trees due named;
-      are = are ∙ sym (leveled_pairs level ts trees);
+      are = are ∙ sym (leveled_all pairs_below level ts trees);
     }
 
 pub opens_first : ((version : Version) → ChildIsTree version) →

@@ -1,5 +1,5 @@
 -- The subtrees that are due below one node.
-use Rattle.std.proofs.Common.{◌≡◌, ℕ, zero, suc, ◌-◌, ◌<◌, ◌^◌, ◌⊎◌, inl, inr, List, [], ◌∷◌, ◌++◌}
+use Rattle.std.proofs.Common.{◌≡◌, ℕ, zero, suc, ◌-◌, ◌<◌, ◌^◌, inl, inr, List, [], ◌∷◌, ◌++◌}
 use Rattle.std.proofs.Common.{map, length, drop, Option, Some, None, Result, Ok, Err, refl, sym, ap}
 use Rattle.std.proofs.Common.{◌∙◌, subst, arith, append_assoc, option_map}
 use Rattle.std.specs.List.{AllByRecursion, flat_map}
@@ -21,6 +21,7 @@ use Rattle.prolly_root.specs.Descent.{StandsAt, StandsBelow}
 use Rattle.prolly_root.specs.RootFault.{IsOrFails, OnlyRead}
 use Rattle.prolly_root.specs.declared.root_fault.RootFault.{RootFault}
 use Rattle.prolly_root.specs.lemmas.Places.{level_is, root_stands}
+use Rattle.prolly_root_diff.specs.DueTrees.{ReadsFirst, all_due, due_behind}
 use Rattle.prolly_root_diff.specs.Left.{Due, due_of, opened}
 use Rattle.prolly_root_diff.specs.Notes.{Reads}
 use Rattle.prolly_root_diff.specs.declared.notes.Note.{Note}
@@ -97,88 +98,107 @@ module _ {T : Type 0} where
   falls_below None chunk falls byte = byte
   falls_below (Some p) chunk falls byte = omega (arith, falls)
 
-  pub reads_node : (version : Version) (old new : Side T) (first left s : Siblings T)
-      (others all : List (Siblings T)) (chunk : List ℕ) (note : Note) → note.reference ≡ left.next →
-      note.length ≡ length chunk → (place : T) → old.leaf ≡ [] →
-      old.due.items ≡ first ∷ others → HaveSame first left → PutBehindFirst left others all →
-      IsNamed version first.next.0 chunk → FallsTo (level_above first) chunk →
-      level_of chunk < 256 → length chunk < 2 ^ 64 → 0 < level_of chunk →
-      AreChildrenOf version chunk place s → new.leaf ≡ [] → new.due.items ≡ s ∷ all →
-      Reads version (left_of old) (left_of new) note
-  reads_node version old new first left s others all chunk note noted long place none was same put
-      named falls byte short high c none' is = record {
-        opens = record {
-          first = due_at (bound_of first.parent) first.next;
-          due = map (due_at (bound_of first.parent)) first.behind.items ++ flat_map dues others;
-          chunk = chunk;
-          was = left_is (left_of old) _ none (ap (flat_map dues) was);
-          named = named;
-          falls = falls_below first.parent chunk falls byte;
-          short = short;
-          is = left_is (left_of new) _ none' (ap (flat_map dues) is ∙ ap (λ ds. dues s ++ ds)
-              (put_dues first left others all same put)) ∙ by_chunk chunk high c;
-        };
-        reference = ap (λ r. r.0) (noted ∙ same.next) ∙ sym named.is;
-        length = long;
+  -- a node was read
+  pub reads_node : (version : Version) (first left s : Siblings T)
+      (old others all new : List (Siblings T)) (reference chunk : List ℕ) →
+      reference ≡ left.next.0 → (place : T) → old ≡ first ∷ others → HaveSame first left →
+      PutBehindFirst left others all → IsNamed version first.next.0 chunk →
+      FallsTo (level_above first) chunk → level_of chunk < 256 → length chunk < 2 ^ 64 →
+      0 < level_of chunk → AreChildrenOf version chunk place s → new ≡ s ∷ all →
+      ReadsFirst version (all_due old) reference chunk (all_due new)
+  reads_node version first left s old others all new reference chunk named_so place was same put
+      named falls byte short high c is = record {
+        first = due_at (bound_of first.parent) first.next;
+        due = map (due_at (bound_of first.parent)) first.behind.items ++ flat_map dues others;
+        was = ap (flat_map dues) was;
+        reference_is = named_so ∙ ap (λ r. r.0) same.next;
+        named = named;
+        falls = falls_below first.parent chunk falls byte;
+        short = short;
+        is = ap (flat_map dues) is ∙ ap (λ ds. dues s ++ ds)
+            (put_dues first left others all same put) ∙ by_chunk chunk high c;
       }
     where
       by_chunk : (chunk : List ℕ) → 0 < level_of chunk → AreChildrenOf version chunk place s →
-          record {
-            pairs = [];
-            due = dues s ++
-                (map (due_at (bound_of first.parent)) first.behind.items ++ flat_map dues others);
-          } ≡ opened (level_of chunk) (kind_of version chunk)
+          dues s ++ (map (due_at (bound_of first.parent)) first.behind.items ++
+          flat_map dues others) ≡ due_behind version chunk
           (map (due_at (bound_of first.parent)) first.behind.items ++ flat_map dues others)
       by_chunk [] high c = absurd (omega (arith, high))
       by_chunk (zero ∷ entries) high c = absurd (omega (arith, high))
-      by_chunk (suc level ∷ entries) high c = ap (λ ds. record {
-        pairs = [];
-        due = ds ++ (map (due_at (bound_of first.parent)) first.behind.items ++ flat_map dues others);
-      }) (children_due version (suc level) entries place s c)
+      by_chunk (suc level ∷ entries) high c = ap (λ ds. ds ++
+          (map (due_at (bound_of first.parent)) first.behind.items ++ flat_map dues others))
+          (children_due version (suc level) entries place s c)
 
   -- a leaf was read, or a node without children
-  pub reads_low : (version : Version) (old new : Side T) (first left : Siblings T)
-      (others all : List (Siblings T)) (chunk : List ℕ) (note : Note) → note.reference ≡ left.next →
-      note.length ≡ length chunk → old.leaf ≡ [] →
-      old.due.items ≡ first ∷ others → HaveSame first left → PutBehindFirst left others all →
-      IsNamed version first.next.0 chunk → FallsTo (level_above first) chunk →
-      level_of chunk < 256 → length chunk < 2 ^ 64 →
-      (kind_of version chunk ≡ Leaf new.leaf)
-      ⊎ ((kind_of version chunk ≡ Node []) × (new.leaf ≡ [])) →
-      new.due.items ≡ all → Reads version (left_of old) (left_of new) note
-  reads_low version old new first left others all chunk note noted long none was same put named falls
-      byte short kind is =
+  pub reads_low : (version : Version) (first left : Siblings T)
+      (old others all : List (Siblings T)) (reference chunk : List ℕ) →
+      reference ≡ left.next.0 → old ≡ first ∷ others → HaveSame first left →
+      PutBehindFirst left others all → IsNamed version first.next.0 chunk →
+      FallsTo (level_above first) chunk → level_of chunk < 256 → length chunk < 2 ^ 64 →
+      ((due : List Due) → due_behind version chunk due ≡ due) →
+      ReadsFirst version (all_due old) reference chunk (all_due all)
+  reads_low version first left old others all reference chunk named_so was same put named falls byte
+      short low =
       let due = map (due_at (bound_of first.parent)) first.behind.items ++ flat_map dues others in
       record {
-        opens = record {
-          first = due_at (bound_of first.parent) first.next;
-          due = due;
-          chunk = chunk;
-          was = left_is (left_of old) _ none (ap (flat_map dues) was);
-          named = named;
-          falls = falls_below first.parent chunk falls byte;
-          short = short;
-          is = ap (λ ds. record { pairs = new.leaf; due = ds })
-              (ap (flat_map dues) is ∙ put_dues first left others all same put) ∙ by_kind due kind;
-        };
-        reference = ap (λ r. r.0) (noted ∙ same.next) ∙ sym named.is;
-        length = long;
+        first = due_at (bound_of first.parent) first.next;
+        due = due;
+        was = ap (flat_map dues) was;
+        reference_is = named_so ∙ ap (λ r. r.0) same.next;
+        named = named;
+        falls = falls_below first.parent chunk falls byte;
+        short = short;
+        is = put_dues first left others all same put ∙ sym (low due);
       }
-    where
-      by_kind : (due : List Due) → (kind_of version chunk ≡ Leaf new.leaf)
-          ⊎ ((kind_of version chunk ≡ Node []) × (new.leaf ≡ [])) →
-          record { pairs = new.leaf; due = due } ≡
-          opened (level_of chunk) (kind_of version chunk) due
-      by_kind due (inl e) = ap (λ entries. opened (level_of chunk) entries due) (sym e)
-      by_kind due (inr e) = ap (λ ps. record { pairs = ps; due = due }) e.1 ∙
-          ap (λ entries. opened (level_of chunk) entries due) (sym e.0)
 
--- the entries of a node without children
-pub no_children : (version : Version) (chunk : List ℕ) → 0 < level_of chunk →
-    children_in version (drop 1 chunk) ≡ [] → kind_of version chunk ≡ Node []
-no_children version [] high none = absurd (omega (arith, high))
-no_children version (zero ∷ entries) high none = absurd (omega (arith, high))
-no_children version (suc level ∷ entries) high none = ap Node none
+  -- what is in hand behind it is what the chunk holds
+  pub reads_so : (version : Version) (old new : Side T) (reference chunk : List ℕ) (note : Note) →
+      (reads : ReadsFirst version (all_due old.due.items) reference chunk
+      (all_due new.due.items)) → note.reference.0 ≡ reference → note.length ≡ length chunk →
+      old.leaf ≡ [] →
+      new.leaf ≡ (opened (level_of chunk) (kind_of version chunk) reads.due).pairs →
+      Reads version (left_of old) (left_of new) note
+  reads_so version old new reference chunk note reads noted long none held = record {
+    opens = record {
+      first = reads.first;
+      due = reads.due;
+      chunk = chunk;
+      was = left_is (left_of old) _ none reads.was;
+      named = reads.named;
+      falls = reads.falls;
+      short = reads.short;
+      is = ap (λ ps. record { pairs = ps; due = all_due new.due.items }) held ∙
+          ap (λ ds. record {
+            pairs = (opened (level_of chunk) (kind_of version chunk) reads.due).pairs;
+            due = ds;
+          }) reads.is;
+    };
+    reference = noted ∙ reads.reference_is ∙ sym reads.named.is;
+    length = long;
+  }
+
+-- nothing is due behind a leaf but what was before
+pub behind_leaf : (version : Version) (chunk : List ℕ) → level_of chunk ≡ 0 → (due : List Due) →
+    due_behind version chunk due ≡ due
+behind_leaf version [] low due = refl
+behind_leaf version (zero ∷ entries) low due = refl
+behind_leaf version (suc level ∷ entries) low due = absurd (omega (arith, low))
+
+-- nor behind a node without children
+pub behind_none : (version : Version) (chunk : List ℕ) → 0 < level_of chunk →
+    children_in version (drop 1 chunk) ≡ [] → (due : List Due) →
+    due_behind version chunk due ≡ due
+behind_none version [] high none due = absurd (omega (arith, high))
+behind_none version (zero ∷ entries) high none due = absurd (omega (arith, high))
+behind_none version (suc level ∷ entries) high none due =
+    ap (λ cs. due_of (suc level) cs ++ due) none
+
+-- a node holds no pairs
+pub node_pairs : (version : Version) (chunk : List ℕ) (level : ℕ) (due : List Due) →
+    0 < level_of chunk → [] ≡ (opened level (kind_of version chunk) due).pairs
+node_pairs version [] level due high = absurd (omega (arith, high))
+node_pairs version (zero ∷ entries) level due high = absurd (omega (arith, high))
+node_pairs version (suc n ∷ entries) level due high = refl
 
 -- ---- in a lawful tree
 

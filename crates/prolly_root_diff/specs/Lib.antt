@@ -8,5 +8,11 @@ pub mod Walks
 pub mod Notes
 -- How far a walk has to go yet.
 pub mod ToGo
+-- What is due of a tree, step by step.
+pub mod DueTrees
+-- The leaves that are left of a tree, for who knows its chunks by their references alone.
+pub mod Leaves
+-- What a walk over the leaves of a tree keeps, and what it gives.
+pub mod LeafWalk
 -- Lemmas for the crates above, by subject.
 pub mod lemmas

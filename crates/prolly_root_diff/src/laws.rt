@@ -1,5 +1,7 @@
 //! Laws of what is left of two trees. They are the contract of a function that does nothing: to call
 //! it is to know the laws, and to prove the crate is to prove them.
+ghost use Rattle.prolly_root_diff.specs.Leaves.{AllLeavesAreRight, FirstLeavesAreRight};
+ghost use Rattle.prolly_root_diff.specs.Leaves.{LeavesBeginAtRoot, LeavesOpenFirst};
 ghost use Rattle.prolly_root_diff.specs.Left.{BeginsAtRoot, OpensFirst, PassesEqual};
 ghost use Rattle.prolly_root_diff.specs.Notes.{NotesAreRight};
 ghost use Rattle.prolly_root_diff.specs.Walks.{BeforeIsRight, FirstAreRight, WalksAreRight};
@@ -18,6 +20,19 @@ pub fn walks_are_right()
     ensures all { WalksAreRight }
     ensures before { BeforeIsRight }
     ensures notes { NotesAreRight }
+{
+    tops_are_read();
+}
+
+/// The leaves that are left of a tree stay the same where a node is read in the place of a subtree,
+/// and begin with a leaf that is read there. So what a walk over the leaves gives are the first
+/// leaves of a map, and all of them where none is left, or there are two different chunks with one
+/// reference.
+pub fn leaves_are_right()
+    ensures begins { LeavesBeginAtRoot }
+    ensures opens { LeavesOpenFirst }
+    ensures first { FirstLeavesAreRight }
+    ensures all { AllLeavesAreRight }
 {
     tops_are_read();
 }

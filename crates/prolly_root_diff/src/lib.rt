@@ -8,14 +8,17 @@
 
 mod change;
 mod differences;
+mod due_trees;
 mod fault;
 pub mod laws;
 mod leaf;
 mod notes;
 mod onward;
+mod root_leaves;
 mod siblings;
 mod side;
 
 pub use change::RootChange;
 pub use differences::RootDifferences;
 pub use fault::RootDiffFault;
+pub use root_leaves::{LeafRead, RootLeaves};

@@ -7,21 +7,18 @@ ghost use Rattle.prolly_root.specs.ChunkSource.{HasAsked};
 ghost use Rattle.prolly_root.specs.RootFault.{IsOrFails, MayFail};
 ghost use Rattle.prolly_root_diff.specs.Left.{Due};
 ghost use Rattle.prolly_root_diff.specs.Notes.{Reads};
-ghost use Rattle.prolly_root_diff.specs.Sides.{IsAtRoot, IsSideOf, PassesFirst, PutBehindFirst};
+ghost use Rattle.prolly_root_diff.specs.Sides.{IsAtRoot, IsSideOf, PassesFirst};
 ghost use Rattle.prolly_root_diff.specs.Sides.{left_of};
 ghost use Rattle.prolly_root_diff.specs.Walks.{IsDue, IsReady};
 
+use crate::due_trees::{LEAF, put_others, read_first, whole_tree};
 use crate::leaf::Leaf;
 use crate::notes::Note;
 use crate::siblings::Siblings;
-use prolly_check::laws::tops_are_read;
 use prolly_entry::{Pair, Ref, Version};
 use prolly_root::{ChunkSource, RootFault};
 use std::alloc::{AllocError, Global};
 use std::collections::VecDeque;
-
-/// The level of a leaf.
-const LEAF: u8 = 0;
 
 /// What is left of a tree: the pairs in hand, and behind them the subtrees that are due.
 #[derive(Drop)]
@@ -37,11 +34,9 @@ impl<T: Copy + Drop> Side<T> {
     pub(crate) fn of_root(alloc: Global, root: &Ref) -> Result<Side<T>, AllocError>
         ensures { IfOk result (IsAtRoot root.now.0) }
     {
-        let mut due = VecDeque::new(alloc);
-        due.push_front(Siblings::of_root(alloc, root))?;
         Ok(Side {
             leaf: Leaf::none(alloc),
-            due,
+            due: whole_tree(alloc, root)?,
         })
     }
 
@@ -87,28 +82,15 @@ impl<T: Copy + Drop> Side<T> {
             IsOrFails (λ _. IsSideOf S.is_place content self.new) MayFail result }
         ensures asked { HasAsked S.has S.failures source.old source.new result }
     {
-        // By this law the children of a chunk of a lawful tree are the trees below it.
-        tops_are_read();
-        let Some(mut siblings) = self.due.pop_front() else {
-            return Err(RootFault::Missing);
-        };
-        let (chunk, place) = siblings.read(alloc, source, version)?;
+        let (reference, chunk) = read_first(&mut self.due, alloc, source, version)?;
         let note = Note {
-            reference: siblings.next,
+            reference,
             length: chunk.len() as u64,
         };
-        put_others(&mut self.due, siblings)?;
         if chunk[0] == LEAF {
             self.leaf = Leaf::of(version, chunk);
-            return Ok(note);
         }
-        match Siblings::below(alloc, version, &chunk, place)? {
-            None => Ok(note),
-            Some(children) => {
-                put_first(&mut self.due, children)?;
-                Ok(note)
-            }
-        }
+        Ok(note)
     }
 
     /// The key and the value of the first pair in hand.
@@ -136,28 +118,4 @@ impl<T: Copy + Drop> Side<T> {
     {
         self.leaf.take(alloc)
     }
-}
-
-/// Puts the subtrees behind the next one of these before the others, where some are.
-fn put_others<T: Copy + Drop>(
-    due: &mut VecDeque<Siblings<T>>,
-    mut siblings: Siblings<T>,
-) -> Result<(), AllocError>
-    ensures { OnOk result (PutBehindFirst siblings due.old.items due.new.items) }
-{
-    if !siblings.pass() {
-        return Ok(());
-    }
-    put_first(due, siblings)
-}
-
-/// Puts these before the others.
-fn put_first<T: Copy + Drop>(
-    due: &mut VecDeque<Siblings<T>>,
-    siblings: Siblings<T>,
-) -> Result<(), AllocError>
-    ensures { OnOk result (due.new.items ≡ siblings ∷ due.old.items) }
-{
-    due.push_front(siblings)?;
-    Ok(())
 }

@@ -24,7 +24,7 @@ fn pair(alloc: Global, key: &[u8], value: &[u8]) -> Result<Pair, Fail> {
 }
 
 /// The pairs of a map: each binary digit says whether it has a key.
-fn map_of(alloc: Global, digits: u32) -> Result<Vec<Pair>, Fail> {
+pub(crate) fn map_of(alloc: Global, digits: u32) -> Result<Vec<Pair>, Fail> {
     let mut pairs = Vec::new(alloc);
     let mut left = digits;
     for key in KEYS {

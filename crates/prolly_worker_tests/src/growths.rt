@@ -8,12 +8,14 @@ use crate::applying::apply_one;
 use crate::links::comparing::{expect_bytes, expect_eq};
 use crate::loading::{THREE_PUTS, bytes_of, load_all};
 use crate::merging::{bytes_of_pairs, bytes_of_records, list_of, lists_of};
+use crate::old_trees::load_three;
 use crate::stages::lists::{leaves_of, two_stages};
 use crate::stages::{KEYS, levels_of};
 use prolly_entry::{KeyCut, Version};
 use prolly_file::FromRead;
 use prolly_link::{End, In, LinkFault, ListOut, Next, Out, RunFault, batch_link, link};
 use prolly_merge::{merge, merge_two};
+use prolly_root::RootFault;
 use prolly_test_parts::pairs_of;
 use std::alloc::Global;
 use std::process::Abort;
@@ -143,5 +145,18 @@ fn a_stage_over_an_old_tree_sends_a_first_part(rt: HostRuntime) -> Result<(), Fa
     let sent = apply_one(&rt, rt.alloc())?;
     let levels = levels_of(rt.alloc(), &sent.items)?;
     expect_front(&rt, &levels, sent.last, &[0, 0, 0]);
+    Ok(())
+}
+
+#[test]
+fn a_loader_of_an_old_tree_sends_a_first_part(rt: HostRuntime) -> Result<(), Fail> {
+    let (keys, last, fault) = load_three(&rt, rt.alloc())?;
+    expect_front(&rt, &keys, last, b"abc");
+    let told = if last == End::Clean {
+        None
+    } else {
+        Some(RootFault::Memory)
+    };
+    expect_eq(&rt, &fault, &told);
     Ok(())
 }

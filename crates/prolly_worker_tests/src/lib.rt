@@ -14,4 +14,6 @@ mod loading;
 #[cfg(test)]
 mod merging;
 #[cfg(test)]
+mod old_trees;
+#[cfg(test)]
 mod stages;

@@ -1,86 +1,24 @@
 //! The tree of mergers, and the loaders below it.
-ghost use Rattle.std.specs.Prelude.{◌≡◌, ◌+◌, ◌<◌, ◌≤◌, [], All, map, vec_len, vec_capacity, OnOk};
-ghost use Rattle.std.specs.Prelude.{IfOk, IfErr};
+ghost use Rattle.std.specs.Prelude.{◌≡◌, ◌+◌, ◌<◌, ◌≤◌, [], All, vec_len, vec_capacity, OnOk};
+ghost use Rattle.std.specs.Prelude.{IfErr};
 ghost use Rattle.prolly_link.specs.Progress.{HasEnded};
 ghost use Rattle.prolly_link.specs.declared.message.Progress.TheVariants.{Ended};
 ghost use Rattle.prolly_build.specs.declared.end.Halt.TheVariants.{Lost};
-ghost use Rattle.prolly_build.specs.RunResult.{HandsOn, IsUnsent, IsUnreceived};
-ghost use Rattle.prolly_build.specs.Mergers.{received_input, sent_input};
-ghost use Rattle.prolly_build.specs.LastMerger.{IsGathered};
+ghost use Rattle.prolly_build.specs.RunResult.{HandsOn, IsUnsent};
 ghost use Rattle.prolly_build.specs.RecordLinks.{IsFed};
 
 use crate::end::{Halt, close_all, refuse};
-use crate::links::{LinkPair, RecordLinks, meet_link};
-use crate::run::lists::{fork_at, join_at, pop_first};
+use crate::links::{LinkPair, meet_link};
+use crate::run::lists::{fork_at, join_at};
 use crate::run::loaders::load_all;
-use crate::run::stages::RunResult;
 use crate::run::writer::WriterResult;
-use crate::start::{Context, Input, MergeLast, MergeTwo, Permit, Runtime};
+use crate::start::{Context, Input, MergeTwo, Permit, Runtime};
 use prolly_chunk::ChunkEvent;
-use prolly_entry::{Pair, Record};
+use prolly_entry::Record;
 use prolly_file::Sink;
 use prolly_link::{BatchReceiver, BatchSender, ClosedBatch};
 use prolly_stage::Gate;
 use std::sync::Wait;
-
-/// Meets the ends of each link. A receiver may have lost its sender.
-fn meet_all<R: Wait>(
-    rt: &R,
-    mut closed: Vec<ClosedBatch<Record>>,
-    mut inputs: Vec<BatchReceiver<Record>>,
-) -> Result<(), Halt>
-    requires { map (λ c. c.link) closed.items ≡ map (λ r. r.link) inputs.items }
-    ensures met { OnOk result (All (λ r. HasEnded r.progress) inputs.items →
-        map received_input inputs.items ≡ map sent_input closed.items) }
-    ensures lost { IfErr result (λ halt. halt ≡ Lost) }
-{
-    let (Some(sender), Some(receiver)) = (pop_first(&mut closed), pop_first(&mut inputs)) else {
-        return Ok(());
-    };
-    meet_link(rt, sender, receiver)?;
-    meet_all(rt, closed, inputs)
-}
-
-/// Starts the last merger, then all workers below it, writes, joins them, and meets their links.
-pub(crate) fn gather<'s, E, R: Runtime, G: Gate, P: Permit, S: Input + 's, W: Sink>(
-    site: &Context<'s, '_, E, R, G, P>,
-    feed: RecordLinks,
-    out: BatchSender<Pair>,
-    sources: &mut Vec<S>,
-    last: BatchReceiver<ChunkEvent>,
-    sink: &mut W,
-) -> Result<RunResult<Pair>, Halt>
-    requires files { (feed.files ≡ vec_len sources.old) × (vec_len sources.old ≤ 16) }
-    requires unsent { out.items ≡ [] }
-    requires unread { last.items ≡ [] }
-    ensures link { IfOk result (λ gathered. gathered.out.link ≡ out.link) }
-    ensures hands_on { HandsOn site.now.config last
-        (W.seen sink.old) (W.seen sink.new) (sink.new ≡ sink.old) result
-        (λ gathered. gathered.wrote) }
-    ensures gathered { IfOk result (λ gathered. IsGathered S.seen site.now.config.max_records
-        sources.old.items sources.new.items gathered.out.items gathered.out.end gathered.pairs) }
-{
-    let RecordLinks {
-        files: _,
-        forks,
-        outs,
-        inputs,
-        mut closed,
-    } = feed;
-    let job = MergeLast {
-        number: forks.len() as u32,
-        inputs,
-    };
-    let Some(handle) = site.start(job, out) else {
-        close_all(site.rt, outs);
-        return Err(refuse(site.rt, (forks, closed), last));
-    };
-    let wrote = merge_tree(site, forks, outs, sources, &mut closed, last, sink);
-    let ((inputs, pairs), out) = handle.join(site.rt);
-    let wrote = wrote?;
-    meet_all(site.rt, closed, inputs)?;
-    Ok(RunResult { out, pairs, wrote })
-}
 
 /// Starts a merger of two for each fork, the last one first, then loads and writes, joins the
 /// mergers, and meets the links into them. The outputs are those that feed the last merger.
@@ -95,7 +33,7 @@ pub(crate) fn merge_tree<'s, E, R: Runtime, G: Gate, P: Permit, S: Input + 's, W
 ) -> Result<WriterResult, Halt>
     requires few { vec_len sources.old ≤ 16 }
     requires each { vec_len outs + vec_len forks ≡ vec_len sources.old }
-    requires two { 0 < vec_len forks → 2 ≤ vec_len outs }
+    requires some { 0 < vec_len forks → 1 ≤ vec_len outs }
     requires room { (closed.old.items ≡ []) × (vec_len sources.old ≤ vec_capacity closed.old) ×
         (vec_len sources.old ≤ vec_capacity outs) }
     requires unsent { All IsUnsent outs.items }
@@ -164,7 +102,7 @@ fn meet_two<R: Wait>(
 /// merged theirs: in each round neighbours are merged two by two from the left, an odd last one
 /// goes on unchanged, and the mergers are numbered round by round from the left.
 pub(crate) fn place_of_merger(files: usize, number: usize) -> usize
-    requires { number + 2 < files }
+    requires { number + 2 ≤ files }
     ensures { result + number + 2 ≤ files }
 {
     let mut width = files;

@@ -1,84 +1,66 @@
-//! The stages, one above the other, and all workers below them.
+//! The stages of nodes, one above the other, and all workers below them.
 ghost use Rattle.std.specs.Prelude.{◌≡◌, ◌<◌, ◌≤◌, [], vec_len, IfOk, IfErr, OnOk};
 ghost use Rattle.prolly_link.specs.Progress.{HasEnded};
 ghost use Rattle.prolly_link.specs.declared.message.Progress.TheVariants.{Ended};
+ghost use Rattle.prolly_build.specs.Base.{GoesOver, IsBase};
+ghost use Rattle.prolly_build.specs.RecordLinks.{IsFed};
 ghost use Rattle.prolly_build.specs.RunResult.{HandsOn};
-ghost use Rattle.prolly_build.specs.Stages.{HasStaged};
+ghost use Rattle.prolly_build.specs.Stages.{HasRun};
 ghost use Rattle.prolly_build.specs.declared.end.Halt.TheVariants.{Lost};
 
 use crate::end::{Halt, refuse};
-use crate::links::{LowerLinks, NewLink, RecordLinks, meet_link};
-use crate::run::mergers::gather;
-use crate::run::writer::WriterResult;
-use crate::start::{Context, CutLeaves, CutNodes, Input, Permit, Runtime};
+use crate::links::{NewLink, meet_link};
+use crate::run::base::{Base, RunResult, run_base};
+use crate::start::{Context, CutNodes, Input, Job, Permit, Runtime};
 use prolly_chunk::ChunkEvent;
-use prolly_entry::Pair;
 use prolly_file::Sink;
 use prolly_link::{BatchReceiver, BatchSender, ClosedBatch};
 use prolly_stage::Gate;
 use std::sync::Wait;
 
-/// Starts the stage of the leaves, then all workers below it, writes, joins it, and meets the link
-/// into it.
-fn run_from_leaves<'s, E, R: Runtime, G: Gate, P: Permit, S: Input + 's, W: Sink>(
-    site: &Context<'s, '_, E, R, G, P>,
-    pairs: NewLink<Pair>,
-    feed: RecordLinks,
-    out: BatchSender<ChunkEvent>,
-    sources: &mut Vec<S>,
-    last: BatchReceiver<ChunkEvent>,
-    sink: &mut W,
-) -> Result<RunResult<ChunkEvent>, Halt>
-    requires files { (feed.files ≡ vec_len sources.old) × (vec_len sources.old ≤ 16) }
-    requires unsent { out.items ≡ [] }
-    requires unread { last.items ≡ [] }
-    ensures link { IfOk result (λ ran. ran.out.link ≡ out.link) }
-    ensures hands_on { HandsOn site.now.config last
-        (W.seen sink.old) (W.seen sink.new) (sink.new ≡ sink.old) result (λ ran. ran.wrote) }
-    ensures staged { IfOk result (λ ran. HasStaged S.seen site.now.config 0 sources.old.items
-        sources.new.items ran.out.items ran.out.end ran.pairs) }
-{
-    let NewLink { sender, receiver } = pairs;
-    let job = CutLeaves {
-        cut: site.config.cut(),
-        pairs: receiver,
-    };
-    let Some(handle) = site.start(job, out) else {
-        return Err(refuse(site.rt, (feed, sender), last));
-    };
-    let gathered = gather(site, feed, sender, sources, last, sink);
-    let (input, out) = handle.join(site.rt);
-    gathered?.up_to_stage(site.rt, input, out)
-}
-
 /// Starts a stage of nodes for each link, the highest one first, then all workers below them,
 /// writes, joins the stages, and meets the links into them. The output is that of the highest
 /// stage, whose level is the number of the links.
-pub(crate) fn run_from_top<'s, E, R: Runtime, G: Gate, P: Permit, S: Input + 's, W: Sink>(
+pub(crate) fn run_from_top<
+    's,
+    E,
+    R: Runtime,
+    G: Gate,
+    P: Permit,
+    T: Send + Drop + 's,
+    D: Send + Drop + 's,
+    N: Send + Drop + 's,
+    L: Job<Item = ChunkEvent, Done = D> + Send + Drop + 's,
+    M: Job<Item = T, Done = N> + Send + Drop + 's,
+    S: Input + 's,
+    W: Sink,
+>(
     site: &Context<'s, '_, E, R, G, P>,
-    lower: LowerLinks,
+    mut events: Vec<NewLink<ChunkEvent>>,
+    base: Base<L, M, T>,
     out: BatchSender<ChunkEvent>,
     sources: &mut Vec<S>,
     last: BatchReceiver<ChunkEvent>,
     sink: &mut W,
-) -> Result<RunResult<ChunkEvent>, Halt>
-    requires levels { vec_len lower.events < 12 }
-    requires files { (lower.feed.files ≡ vec_len sources.old) × (vec_len sources.old ≤ 16) }
-    requires unsent { out.items ≡ [] }
+) -> Result<RunResult<D, N, T>, Halt>
+    requires levels { vec_len events < 12 }
+    requires files { (base.feed.files ≡ vec_len sources.old) × (vec_len sources.old ≤ 16) }
+    requires leaves { L.IsReady base.leaves }
+    requires over { GoesOver (L.Gives base.leaves) }
+    requires middle { M.IsReady base.middle }
+    requires unsent { (base.out.items ≡ []) × (out.items ≡ []) }
     requires unread { last.items ≡ [] }
     ensures link { IfOk result (λ ran. ran.out.link ≡ out.link) }
     ensures hands_on { HandsOn site.now.config last
-        (W.seen sink.old) (W.seen sink.new) (sink.new ≡ sink.old) result (λ ran. ran.wrote) }
-    ensures staged { IfOk result (λ ran. HasStaged S.seen site.now.config (vec_len lower.events)
-        sources.old.items sources.new.items ran.out.items ran.out.end ran.pairs) }
+        (W.seen sink.old) (W.seen sink.new) (sink.new ≡ sink.old) result (λ ran. ran.base.wrote) }
+    ensures run { IfOk result (λ ran. HasRun (IsBase (L.Gives base.leaves)
+        (M.Gives base.middle base.out.link) (IsFed S.seen site.now.config.max_records
+        sources.old.items sources.new.items base.feed.outs.items) ran.base.leaves ran.base.middle
+        ran.base.sent ran.base.closed.items) site.now.config (vec_len events) ran.out.items
+        ran.out.end) }
 {
-    let LowerLinks {
-        mut events,
-        pairs,
-        feed,
-    } = lower;
     let Some(link) = events.pop() else {
-        return run_from_leaves(site, pairs, feed, out, sources, last, sink);
+        return run_base(site, base, out, sources, last, sink);
     };
     let level = events.len() as u8 + 1;
     let NewLink { sender, receiver } = link;
@@ -89,48 +71,29 @@ pub(crate) fn run_from_top<'s, E, R: Runtime, G: Gate, P: Permit, S: Input + 's,
         chunks: receiver,
     };
     let Some(handle) = site.start(job, out) else {
-        return Err(refuse(site.rt, (events, pairs, feed, sender), last));
+        return Err(refuse(site.rt, (events, base, sender), last));
     };
-    let lower = LowerLinks {
-        events,
-        pairs,
-        feed,
-    };
-    let ran = run_from_top(site, lower, sender, sources, last, sink);
+    let ran = run_from_top(site, events, base, sender, sources, last, sink);
     let (input, out) = handle.join(site.rt);
     ran?.up_to_stage(site.rt, input, out)
 }
 
-/// What the workers up to one of them gave back: its closed output, how many pairs the last merger
-/// sent, and what the writer gave.
-#[derive(Drop)]
-pub(crate) struct RunResult<T> {
-    pub out: ClosedBatch<T>,
-    pub pairs: u64,
-    pub wrote: WriterResult,
-}
-
-impl<T: Drop> RunResult<T> {
+impl<D: Drop, N: Drop, T: Drop> RunResult<D, N, T> {
     /// The result up to the stage above, which gave these ends back: meets the link into it.
-    pub(crate) fn up_to_stage<R: Wait>(
+    fn up_to_stage<R: Wait>(
         self,
         rt: &R,
-        input: BatchReceiver<T>,
+        input: BatchReceiver<ChunkEvent>,
         out: ClosedBatch<ChunkEvent>,
-    ) -> Result<RunResult<ChunkEvent>, Halt>
+    ) -> Result<RunResult<D, N, T>, Halt>
         requires { self.out.link ≡ input.link }
-        ensures ran { IfOk result (λ ran.
-            ran ≡ record { out = out; pairs = self.pairs; wrote = self.wrote }) }
+        ensures ran { IfOk result (λ ran. ran ≡ record { out = out; base = self.base }) }
         ensures met { OnOk result (HasEnded input.progress → (input.items ≡ self.out.items) ×
             (input.progress ≡ Ended self.out.end)) }
         ensures lost { IfErr result (λ halt. halt ≡ Lost) }
     {
-        let RunResult {
-            out: sent,
-            pairs,
-            wrote,
-        } = self;
+        let RunResult { out: sent, base } = self;
         meet_link(rt, sent, input)?;
-        Ok(RunResult { out, pairs, wrote })
+        Ok(RunResult { out, base })
     }
 }

@@ -71,11 +71,12 @@ fn write_events<I: In<ChunkEvent>, W: Sink, R: Wait>(
     unreachable!()
 }
 
-/// The reference and the level of a chunk.
+/// The reference and the level of a chunk, and how many pairs are below it.
 #[derive(Clone, Copy)]
 pub(crate) struct LastChunk {
     pub root: Ref,
     pub level: u8,
+    pub count: u64,
 }
 
 /// A file of which all chunks so far are written.
@@ -157,6 +158,7 @@ impl OpenFile {
                 top: Some(LastChunk {
                     root: event.reference(),
                     level: event.level(),
+                    count: event.count(),
                 }),
             }),
             Err(_) => WriterState::Failed,

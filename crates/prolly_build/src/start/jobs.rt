@@ -92,8 +92,7 @@ impl Job for MergeTwo {
     }
 }
 
-/// To merge all links that are left into pairs, as the last merger does. It gives the ends back,
-/// and how many pairs it sent.
+/// To merge all links that are left into pairs, as the last merger does. It gives the ends back.
 #[derive(Drop)]
 pub(crate) struct MergeLast {
     pub number: u32,
@@ -107,12 +106,11 @@ impl Job for MergeLast {
 
     type Item = Pair;
 
-    type Done = (Vec<BatchReceiver<Record>>, u64);
+    type Done = Vec<BatchReceiver<Record>>;
 
     ghost IsReady = { λ job. All IsUnreceived job.inputs.items };
 
-    ghost Gives = { λ job link done closed. IsMerged job.inputs.items link done.0.items closed
-        done.1 };
+    ghost Gives = { λ job link inputs closed. IsMerged job.inputs.items link inputs.items closed };
 
     fn worker(&self) -> Worker {
         Worker::Merger(self.number)
@@ -123,10 +121,14 @@ impl Job for MergeLast {
         rt: &R,
         alloc: Global,
         out: O,
-    ) -> ((Vec<BatchReceiver<Record>>, u64), O::Closed) {
+    ) -> (Vec<BatchReceiver<Record>>, O::Closed) {
         let MergeLast { number: _, inputs } = self;
-        let Merged { inputs, out, pairs } = merge(rt, alloc, inputs, out);
-        ((inputs, pairs), out)
+        let Merged {
+            inputs,
+            out,
+            pairs: _,
+        } = merge(rt, alloc, inputs, out);
+        (inputs, out)
     }
 }
 

@@ -3,12 +3,13 @@ ghost use Rattle.std.specs.Prelude.{◌≡◌, ◌+◌, ◌-◌, ◌^◌, ◌<�
 ghost use Rattle.std.specs.Prelude.{drop, Ok, None, OnOk, IfOk, IfErr, IsOk, IfSome};
 ghost use Rattle.prolly_file.specs.Frame.{frame_start};
 
+use crate::file::header::named_header;
 use crate::file::marks::Marks;
 use crate::root_fault::RootFault;
 use prolly_entry::Version;
 use prolly_file::{
     Device, END_LETTER, END_SIZE, FRAME_FRONT, FRAME_START, FrameFault, FrameStart, HEADER_SIZE,
-    HeaderFault, read_header, read_start,
+    read_start,
 };
 
 /// A chunk of a file, of which the level was read.
@@ -49,18 +50,14 @@ impl Walk {
             IsOrFails (λ walk. (walk.number ≡ 0) × IsWalk content walk)
             (λ fault. version ≡ content.version → OnlyRead fault) result }
     {
-        let mut start = [0; HEADER_SIZE];
-        let count = device.read_at(0, &mut start)?;
-        match read_header(&start[..count]) {
-            Ok(header) if header.version == version => Ok(Walk {
-                offset: HEADER_SIZE as u64,
-                number: 0,
-                size: device.len()?,
-            }),
-            Ok(_) => Err(RootFault::Version),
-            Err(HeaderFault::Truncated) => Err(RootFault::Truncated),
-            Err(HeaderFault::BadByte) => Err(RootFault::Header),
+        if named_header(device)?.version != version {
+            return Err(RootFault::Version);
         }
+        Ok(Walk {
+            offset: HEADER_SIZE as u64,
+            number: 0,
+            size: device.len()?,
+        })
     }
 
     /// Goes over the next frame; none where the end record is next. One read, of ten bytes.

@@ -1,7 +1,10 @@
 -- What a walk gave so far.
 use Rattle.std.proofs.Common.{ℕ, List, [], ◌∷◌, ◌++◌, Option, refl, sym, subst}
+use Rattle.prolly_entry.specs.Pair.{Pair}
 use Rattle.prolly_entry.specs.Record.{Record}
 use Rattle.prolly_entry.specs.declared.version.Version.{Version}
+use Rattle.prolly_root_diff.specs.Leaves.{GivesLeaf, GivesLeaves}
+use Rattle.prolly_root_diff.specs.Left.{Due}
 use Rattle.prolly_root_diff.specs.Walks.{Changes, Ends, GivesAll, GivesFirst, Lefts}
 
 -- It gave one change more.
@@ -28,3 +31,15 @@ pub gives_no_more : (version : Version) (lefts rest : Lefts) (records : List Rec
 gives_no_more version lefts rest [] given ends = subst (Ends version) (sym given) ends
 gives_no_more version lefts rest (r ∷ records) given ends =
     (given.0, given.1, given.2, gives_no_more version given.1 rest records given.3 ends)
+
+-- A walk over leaves gave one leaf more.
+pub gives_leaf_more : (version : Version) (old mid new : List Due) (given : List (List Pair))
+    (leaf : List Pair) → GivesLeaves version old given mid → GivesLeaf version mid leaf new →
+    GivesLeaves version old (given ++ leaf ∷ []) new
+gives_leaf_more version old mid new [] leaf same gives =
+    (new, subst (λ d. GivesLeaf version d leaf new) (sym same) gives, refl)
+gives_leaf_more version old mid new (other ∷ given) leaf first gives = (
+  first.0,
+  first.1,
+  gives_leaf_more version first.0 mid new given leaf first.2 gives,
+)

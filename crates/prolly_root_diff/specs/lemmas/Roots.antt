@@ -1,10 +1,12 @@
 -- Walks that begin at the roots of lawful trees.
-use Rattle.std.proofs.Common.{◌≡◌, ℕ, List, [], ◌∷◌, map, sym, ap, ◌∙◌, subst}
+use Rattle.std.proofs.Common.{◌≡◌, ℕ, List, [], ◌∷◌, map, refl, sym, ap, ◌∙◌, subst}
 use Rattle.std.specs.List.{AllByRecursion}
 use Rattle.prolly_check.specs.Content.{Content}
 use Rattle.prolly_entry.specs.Cut.{sha512_cut}
+use Rattle.prolly_entry.specs.declared.version.Version.{Version}
 use Rattle.prolly_tree.specs.File.{root_reference}
 use Rattle.prolly_tree.specs.Tree.{Tree}
+use Rattle.prolly_root_diff.specs.LeafWalk.{IsLeafWalk, LeafWalk, WalksIn}
 use Rattle.prolly_root_diff.specs.Sides.{AreLastBelow, AreSiblingsOf, IsAtRoot, IsSideOf}
 use Rattle.prolly_root_diff.specs.declared.side.Side.{Side}
 
@@ -20,3 +22,19 @@ begins_in is_place content root side at is =
           (ap (λ rs. at.whole.next.0 ∷ map (λ r. r.0) rs) at.alone ∙ ap (λ r. r ∷ []) (at.next ∙ is)),
       tt,
     )
+
+-- So is what a walk over the leaves keeps.
+pub leaves_begin_in : {T : Type 0} (is_place : Content → (level : ℕ) → Tree level → T → Type 0)
+    (content : Content) (version : Version) (root : List ℕ) (walk : LeafWalk T) →
+    IsLeafWalk version root walk →
+    root ≡ root_reference (sha512_cut content.bits) content.version content.pairs →
+    WalksIn is_place content walk
+leaves_begin_in is_place content version root walk begun is =
+    begins_in is_place content root (record { leaf = []; due = walk.due }) (record {
+      whole = begun.at.whole;
+      none = refl;
+      one = begun.at.one;
+      next = begun.at.next;
+      alone = begun.at.alone;
+      top = begun.at.top;
+    }) is

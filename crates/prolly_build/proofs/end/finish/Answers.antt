@@ -1,40 +1,25 @@
-use Rattle.std.proofs.Common.{◌≡◌, ◌-◌, ap, sym, subst, ◌∙◌, List}
+use Rattle.std.proofs.Common.{◌-◌, ap, sym, subst, ◌∙◌, List}
 use Rattle.std.proofs.lemmas.Result.{on_ok_weaker, IfErr-weaker}
 use Rattle.prolly_tree.specs.Chunk.{Chunk}
 use Rattle.prolly_tree.specs.File.{header}
 use Rattle.prolly_file.specs.Sink.{SinkView}
 use Rattle.prolly_link.specs.Progress.{end_given}
 use Rattle.prolly_link.specs.declared.message.End.{End}
-use Rattle.prolly_link.specs.declared.message.End.TheVariants.{Clean}
 use Rattle.prolly_link.specs.declared.fault.RunFault.{RunFault}
-use Rattle.prolly_build.specs.BuiltFile.{IsInputEnd}
 use Rattle.prolly_build.specs.WriterState.{HasWritten, IsEndFault}
 use Rattle.prolly_build.proofs.RanSteps.{written_begun, ended_begun}
-use Rattle.prolly_build.proofs.Takings.{lost_is_no_memory, refused_at, stopped_at}
-use Rattle.prolly_build.proofs.Makings.{lawful_written, file_made, no_start_fault, unmade_at, if_ok}
+use Rattle.prolly_build.proofs.Takings.{lost_is_no_memory, is_refused_at, is_stopped_at}
+use Rattle.prolly_build.proofs.Makings.{file_made, no_start_fault, unmade_at, if_ok}
 use Rattle.prolly_build.proofs.end.finish.Goals as goal
 
-pub end_build-requires : goal.end_build-requires
-end_build-requires g c = λ begun is clean.
-    let met = c.in-Ok.ensures.met c.requires.ended in
-    let out_clean : c.args.ran.out.end ≡ Clean = sym (c.requires.end ∙ ap end_given met.1) ∙
-    clean in
-    let now : SinkView = g.W.Sink.seen c.args.sink.now in
-    let head = header c.args.config.version c.args.config.bits in
-    lawful_written c.args.config c.requires.lawful.stages.0 c.requires.lawful.stages.1
-    c.requires.run.0 c.args.ran.out.items c.args.ran.pairs (c.requires.run.1 out_clean)
-    head c.requires.written.0 now c.args.ran.wrote.written begun is
-    (subst (λ (es : List Chunk). HasWritten head (c.args.config.stages - 1) es c.requires.written.0
-    now c.args.ran.wrote.written) met.0 c.requires.written.1)
-
 pub returns-in-Ok : goal.returns-in-Ok
-returns-in-Ok g c = λ m old run written.
+returns-in-Ok g c = λ old written.
     let met = c.in-Ok.ensures.met c.requires.ended in
     let ended = c.requires.end ∙ ap end_given met.1 in
     let settings = c.args.config in
     let stages = c.requires.lawful.stages in
-    let sent = c.args.ran.out in
-    let writer = c.args.ran.wrote in
+    let sent = c.args.out in
+    let writer = c.args.wrote in
     let now : SinkView = g.W.Sink.seen c.args.sink.now in
     let after : SinkView = g.W.Sink.seen c.end_build.new.sink in
     let head = header settings.version settings.bits in
@@ -49,35 +34,35 @@ returns-in-Ok g c = λ m old run written.
     λ fault h. subst (λ (e : End). IsEndFault head level sent.items old now after e fault) ended h in
     record {
       made = if_ok result _ _ _
-          (λ clean report whole. file_made settings stages.0 stages.1 m sent.items c.args.ran.pairs
+          (λ clean report whole m run. file_made settings stages.0 stages.1 m sent.items
           (run (sym ended ∙ clean)) old _ report whole)
           c.end_build.ensures.clean (c.end_build.ensures.ok head level sent.items old of_sent);
       clean = on_ok_weaker result (λ clean. sym ended ∙ clean) c.end_build.ensures.clean;
       unmade = IfErr-weaker result _ _
-          (λ fault h. unmade_at settings stages.0 stages.1 m sent.items c.args.ran.pairs sent.end run
-          c.requires.faults old now after fault (as_sent fault h)) fault_of_sent;
+          (λ fault h input. unmade_at settings stages.0 stages.1 sent input old now after fault
+          (as_sent fault h)) fault_of_sent;
       stopped = IfErr-weaker result _ _
-          (λ fault h. stopped_at settings stages.0 sent.items old now after writer.written sent.end
-          fault of_sent (as_sent fault h)) fault_of_sent;
-      refused = IfErr-weaker result _ _
-          (λ fault h. refused_at head level sent.items old now after writer.written sent.end fault
+          (λ fault h. is_stopped_at settings stages.0 sent old now after writer.written fault
           of_sent (as_sent fault h)) fault_of_sent;
+      refused = IfErr-weaker result _ _
+          (λ fault h. is_refused_at settings sent old now after writer.written fault of_sent
+          (as_sent fault h)) fault_of_sent;
       begun = IfErr-weaker result _ _
           (λ fault h other. ended_begun settings level writer.last.items old now after writer.written
           writer.end fault written h other) fault_of_last;
       started = IfErr-weaker result _ _
-          (λ fault h. no_start_fault head level writer.last.items old _ _ writer.end fault
-          (subst IsInputEnd (sym ended) c.requires.faults) h) fault_of_last;
+          (λ fault h input. no_start_fault head level sent.items old now after sent.end fault input
+          (as_sent fault h)) fault_of_sent;
     }
 
 pub returns-in-Err : goal.returns-in-Err
-returns-in-Err g c = λ m old run written. record {
+returns-in-Err g c = λ old written. record {
   made = tt;
   clean = tt;
-  unmade = λ w. absurd w;
+  unmade = λ input w. absurd w;
   stopped = λ file. absurd file;
   refused = λ memory. absurd (lost_is_no_memory memory);
   begun = λ other. written_begun c.args.config (c.args.config.stages - 1)
-      c.args.ran.wrote.last.items old _ c.args.ran.wrote.written written;
-  started = λ start. absurd start;
+      c.args.wrote.last.items old _ c.args.wrote.written written;
+  started = λ input start. absurd start;
 }

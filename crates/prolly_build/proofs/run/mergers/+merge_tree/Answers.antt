@@ -107,7 +107,7 @@ fork_at-out-requires-clause-place g t c =
       c.len.ensures,
       c.len-number.ensures,
       c.requires.each,
-      c.requires.two,
+      c.requires.some,
       c.in-Some.ensures.len,
       c.in-Some.ensures.cases,
     )
@@ -130,10 +130,10 @@ merge_tree-wrote-requires-clause-each g t c κs within =
     let popped = c.in-Some.ensures in
     omega (arith, c.requires.each, c.fork_at-out.ensures.len, popped.len, popped.cases)
 
-pub merge_tree-wrote-requires-clause-two : goal.merge_tree-wrote-requires-clause-two
-merge_tree-wrote-requires-clause-two g t c κs within more =
+pub merge_tree-wrote-requires-clause-some : goal.merge_tree-wrote-requires-clause-some
+merge_tree-wrote-requires-clause-some g t c κs within more =
     let popped = c.in-Some.ensures in
-    omega (arith, more, c.requires.two, c.fork_at-out.ensures.len, popped.len, popped.cases)
+    omega (arith, more, c.requires.some, c.fork_at-out.ensures.len, popped.len, popped.cases)
 
 pub merge_tree-wrote-requires-clause-room : goal.merge_tree-wrote-requires-clause-room
 merge_tree-wrote-requires-clause-room g t c κs within = (

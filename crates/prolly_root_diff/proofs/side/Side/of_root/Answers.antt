@@ -1,12 +1,13 @@
-use Rattle.std.proofs.Common.{ap, rules}
 use Rattle.prolly_root_diff.proofs.side.Side.of_root.Goals as goal
 
 pub returns : goal.returns
-returns g c = record {
-  whole = c.of_root.result;
-  none = c.none.ensures;
-  one = search rules;
-  next = ap (λ r. r.0) c.of_root.ensures.next;
-  alone = c.of_root.ensures.alone;
-  top = c.of_root.ensures.top;
-}
+returns g c =
+    let tree = c.in_ok-whole_tree.ensures in
+    record {
+      whole = tree.whole;
+      none = c.none.ensures;
+      one = tree.one;
+      next = tree.next;
+      alone = tree.alone;
+      top = tree.top;
+    }

@@ -1,6 +1,6 @@
 use Rattle.std.proofs.Common.{inr}
 use Rattle.std.proofs.lemmas.Result.{on_ok_weaker}
-use Rattle.prolly_root_diff.proofs.side.put_others.Goals as goal
+use Rattle.prolly_root_diff.proofs.due_trees.put_others.Goals as goal
 
 pub returns : goal.returns
 returns g c = on_ok_weaker c.put_first.result (λ put. inr (

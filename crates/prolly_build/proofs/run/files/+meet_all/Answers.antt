@@ -1,6 +1,6 @@
 use Rattle.std.proofs.lemmas.Result.{on_ok_weaker}
 use Rattle.prolly_build.proofs.FeedingSteps.{all_met}
-use Rattle.prolly_build.proofs.run.mergers.+meet_all.Goals as goal
+use Rattle.prolly_build.proofs.run.files.+meet_all.Goals as goal
 
 pub returns-clause-met : goal.returns-clause-met
 returns-clause-met g t c =

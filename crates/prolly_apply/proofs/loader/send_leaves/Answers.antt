@@ -1,0 +1,56 @@
+use Rattle.std.proofs.Common.{◌∙◌, refl, sym, subst}
+use Rattle.prolly_root_diff.specs.LeafWalk.{due_of_walk}
+use Rattle.prolly_apply.proofs.Loading.{IsLoading, all_loaded, none_yet, of_each, one_sent, stopped}
+use Rattle.prolly_apply.proofs.loader.send_leaves.Goals as goal
+
+pub returns-in_err-leaves-clause-err : goal.returns-in_err-leaves-clause-err
+returns-in_err-leaves-clause-err g c =
+    let before = g.O.Out.sent c.args.out.now in
+    of_each c.from_residual.result _ (λ fault. stopped c.args.version c.args.root.now.0 before
+    c.leaves_are_right.ensures.first before _ fault
+    (none_yet c.args.version c.args.root.now.0 before _ refl))
+
+pub returns-in_err-leaf-clause-err : goal.returns-in_err-leaf-clause-err
+returns-in_err-leaf-clause-err g c =
+    of_each c.from_residual-in_err-leaf.result _ (λ fault. stopped c.args.version
+    c.args.root.now.0 (g.O.Out.sent c.args.out.now) c.leaves_are_right.ensures.first
+    (g.O.Out.sent c.loop-leaves.out) (due_of_walk c.loop-leaves.leaves) fault
+    c.loop-leaves.invariant.loading)
+
+pub returns-in_err-send_leaf-clause-err : goal.returns-in_err-send_leaf-clause-err
+returns-in_err-send_leaf-clause-err g c =
+    of_each c.from_residual-in_err-send_leaf.result _ (λ fault. stopped c.args.version
+    c.args.root.now.0 (g.O.Out.sent c.args.out.now) c.leaves_are_right.ensures.first
+    (g.O.Out.sent c.send_leaf.new.out) (due_of_walk c.loop-leaves.leaves) fault
+    (subst (λ sent. IsLoading c.args.version c.args.root.now.0 (g.O.Out.sent c.args.out.now) sent
+    (due_of_walk c.loop-leaves.leaves)) (sym c.in_err-send_leaf.ensures.err)
+    c.loop-leaves.invariant.loading))
+
+pub loop-leaves-preserved : goal.loop-leaves-preserved
+loop-leaves-preserved g c =
+    let before = c.loop-leaves.invariant in
+    let next = c.in_ok-leaf.ensures in
+    let asked = next.asked before.goes in
+    record {
+      version = next.version ∙ before.version;
+      goes = next.goes_on;
+      loading = one_sent c.args.version c.args.root.now.0 (g.O.Out.sent c.args.out.now)
+          c.loop-leaves.leaves.version before.version (g.O.Out.sent c.loop-leaves.out)
+          (g.O.Out.sent c.send_leaf.new.out) (due_of_walk c.loop-leaves.leaves)
+          (due_of_walk c.next.new.self) c.in_ok-leaf.field-0 c.in-Some.leaf c.in-Some.is
+          before.loading next.gives c.in_ok-send_leaf.ensures.ok;
+      link = c.in_ok-send_leaf.ensures.link ∙ before.link;
+      keeps = λ content has. asked.0 content (before.keeps content has);
+      failures = asked.1 ∙ before.failures;
+      lawful = λ content has same is. next.lawful content (before.keeps content has)
+          (before.version ∙ same) before.goes (before.lawful content has same is);
+    }
+
+pub returns-clause-ok : goal.returns-clause-ok
+returns-clause-ok g c =
+    let before = c.loop-leaves.invariant in
+    all_loaded c.args.version c.args.root.now.0 (g.O.Out.sent c.args.out.now)
+    c.leaves_are_right.ensures.all c.loop-leaves.leaves.version before.version
+    (g.O.Out.sent c.loop-leaves.out) (due_of_walk c.loop-leaves.leaves)
+    (due_of_walk c.next.new.self) c.in_ok-leaf.field-0 c.in_default.is before.loading
+    c.in_ok-leaf.ensures.gives

@@ -1,0 +1,132 @@
+//! Loading the leaves of an old tree.
+ghost use Rattle.std.specs.Prelude.{◌≡◌, ◌∷◌, [], ◌++◌, None, Some, IfErr, IfSome, OnErr, OnOk};
+ghost use Rattle.prolly_check.specs.Content.{Content};
+ghost use Rattle.prolly_check.specs.HeldPairs.{pairs_held};
+ghost use Rattle.prolly_entry.specs.Cut.{sha512_cut};
+ghost use Rattle.prolly_root.specs.ChunkSource.{HasAsked};
+ghost use Rattle.prolly_root.specs.RootFault.{MayFail};
+ghost use Rattle.prolly_root_diff.specs.LeafWalk.{IsLeafRead};
+ghost use Rattle.prolly_tree.specs.File.{root_reference};
+ghost use Rattle.prolly_apply.specs.OldLoaded.{IsOldLoaded, TellsReadsOf, load_end};
+
+use crate::old_leaf::OldLeaf;
+use crate::stage::OLD_TREE;
+use prolly_entry::{Ref, Version};
+use prolly_link::{End, Out, RunFault};
+use prolly_root::{ChunkSource, RootFault};
+use prolly_root_diff::laws::leaves_are_right;
+use prolly_root_diff::{LeafRead, RootLeaves};
+use std::alloc::{AllocError, Global};
+use std::sync::Wait;
+
+/// What the loader of an old tree gives back.
+#[derive(Drop)]
+pub struct OldLoaded<S, O: Out<OldLeaf>> {
+    /// The source, as the reads left it.
+    pub source: S,
+    /// The output, closed.
+    pub out: O::Closed,
+    /// Why not all leaves were sent; none where they were.
+    pub fault: Option<RootFault>,
+}
+
+/// Sends the leaves of the tree with this root, from left to right, for
+/// [`apply_stage`](crate::apply_stage), and closes the output. Of the empty map's tree it sends
+/// none. The root, and the version of the tree's chunks, come from who is trusted; of the source
+/// nothing is believed.
+///
+/// It stops at the first fault, which it gives back. What was sent stays sent. Where memory was
+/// refused, by a send too, the end says so; at any other fault it is a failed read of the file with
+/// the number [`OLD_TREE`].
+///
+/// Each chunk of the tree is read once, and hashed once. Holds a leaf, and the references of the
+/// children of the nodes above it.
+pub fn load_old<S: ChunkSource, O: Out<OldLeaf>, R: Wait>(
+    rt: &R,
+    alloc: Global,
+    version: Version,
+    root: &Ref,
+    mut source: S,
+    mut out: O,
+) -> OldLoaded<S, O>
+    ensures link { O.closed_link result.out ≡ O.link out }
+    ensures loaded { IsOldLoaded version root.now.0 (O.sent out) (O.all_sent result.out)
+        result.fault }
+    ensures end { O.end_sent result.out ≡ load_end result.fault }
+
+    // A failed read is told, and a tree that the source has is not refused.
+    ensures reads { TellsReadsOf (S.failures source) (S.failures result.source) result.fault }
+    ensures keeps { (content : Content) → S.has source content → S.has result.source content }
+    ensures lawful { (content : Content) → S.has source content → version ≡ content.version →
+        root.now.0 ≡ root_reference (sha512_cut content.bits) content.version content.pairs →
+        IfSome result.fault MayFail }
+{
+    let fault = send_leaves(rt, alloc, version, root, &mut source, &mut out).err();
+    OldLoaded {
+        source,
+        out: out.close(rt, end_of(fault)),
+        fault,
+    }
+}
+
+/// The end that is sent where there was this fault, or none.
+fn end_of(fault: Option<RootFault>) -> End
+    ensures { result ≡ load_end fault }
+{
+    match fault {
+        None => End::Clean,
+        Some(RootFault::Memory) => End::Fault(RunFault::Memory),
+        Some(_) => End::Fault(RunFault::Read { file: OLD_TREE }),
+    }
+}
+
+/// Sends the leaves of the tree with this root.
+fn send_leaves<S: ChunkSource, O: Out<OldLeaf>, R: Wait>(
+    rt: &R,
+    alloc: Global,
+    version: Version,
+    root: &Ref,
+    source: &mut S,
+    out: &mut O,
+) -> Result<(), RootFault>
+    ensures link { O.link out.new ≡ O.link out.old }
+    ensures ok { OnOk result (IsOldLoaded version root.now.0 (O.sent out.old) (O.sent out.new)
+        None) }
+    ensures err { IfErr result (λ fault. IsOldLoaded version root.now.0 (O.sent out.old)
+        (O.sent out.new) (Some fault)) }
+    ensures lawful { (content : Content) → S.has source.old content → version ≡ content.version →
+        root.now.0 ≡ root_reference (sha512_cut content.bits) content.version content.pairs →
+        IfErr result MayFail }
+    ensures asked { HasAsked S.has S.failures source.old source.new result }
+{
+    // By these laws what a walk gives are the leaves of any map with this root.
+    leaves_are_right();
+    let mut leaves = RootLeaves::new(alloc, version, root)?;
+    while let Some(leaf) = leaves.next(alloc, source)? {
+        send_leaf(rt, alloc, version, out, leaf)?;
+    }
+    Ok(())
+}
+
+/// Sends a leaf that was read. An `Err` has sent nothing.
+fn send_leaf<O: Out<OldLeaf>, R: Wait>(
+    rt: &R,
+    alloc: Global,
+    version: Version,
+    out: &mut O,
+    leaf: LeafRead,
+) -> Result<(), AllocError>
+    requires { IsLeafRead version leaf }
+    ensures link { O.link out.new ≡ O.link out.old }
+    ensures ok { OnOk result (O.sent out.new ≡ O.sent out.old ++
+        pairs_held leaf.chunk.items ∷ []) }
+    ensures err { OnErr result (O.sent out.new ≡ O.sent out.old) }
+{
+    let LeafRead { reference, chunk } = leaf;
+    let size = chunk.len();
+    let leaf = OldLeaf::new(alloc, version, reference, chunk)?;
+    match out.send_sized(rt, leaf, size) {
+        Ok(()) => Ok(()),
+        Err(_) => Err(AllocError),
+    }
+}

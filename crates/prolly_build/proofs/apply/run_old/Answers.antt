@@ -1,0 +1,56 @@
+use Rattle.std.proofs.Common.{ap, sym, ◌∙◌, arith}
+use Rattle.prolly_build.proofs.ApplyOutcomes.{changes_link, halted_outcome, lent_outcome}
+use Rattle.prolly_build.proofs.Makings.{at_ok, at_err}
+use Rattle.prolly_build.proofs.apply.run_old.Goals as goal
+
+pub run_scoped-ran-requires-clause-over : goal.run_scoped-ran-requires-clause-over
+run_scoped-ran-requires-clause-over g c κs within = λ link done closed h. h.writes
+
+pub end_old-requires-clause-link : goal.end_old-requires-clause-link
+end_old-requires-clause-link g c = at_ok _ _ _ c.in-Ok.is c.run_scoped-ran.ensures.link
+
+pub end_old-requires-clause-ended : goal.end_old-requires-clause-ended
+end_old-requires-clause-ended g c =
+    (at_ok _ _ _ c.in-Ok.is c.run_scoped-ran.ensures.hands_on.written).has_ended
+
+pub end_old-requires-clause-end : goal.end_old-requires-clause-end
+end_old-requires-clause-end g c =
+    (at_ok _ _ _ c.in-Ok.is c.run_scoped-ran.ensures.hands_on.written).end_is
+
+pub end_old-requires-clause-leaves : goal.end_old-requires-clause-leaves
+end_old-requires-clause-leaves g c =
+    let made = (at_ok _ _ _ c.in-Ok.is c.run_scoped-ran.ensures.run).made in
+    made.passes.writes ∙ (c.requires.leaves ∙ sym made.cuts.reads_old)
+
+pub end_old-requires-clause-changes : goal.end_old-requires-clause-changes
+end_old-requires-clause-changes g c =
+    let made = (at_ok _ _ _ c.in-Ok.is c.run_scoped-ran.ensures.run).made in
+    changes_link _ _ _ c.args.old.base.leaves.changes c.in-Ok.ran.base.leaves.changes _
+    c.requires.changes made.fed.links made.cuts.reads_changes
+
+pub returns-in-Ok : goal.returns-in-Ok
+returns-in-Ok g c =
+    let source = g.met.S.Source g.world.𝓛 g.world.𝓜 g.world.𝓡 (
+      (λ s x. x),
+      (λ x. x),
+      (λ x. x),
+      λ x. x,
+    ) in
+    let run = at_ok _ _ _ c.in-Ok.is c.run_scoped-ran.ensures.run in
+    let written = at_ok _ _ _ c.in-Ok.is c.run_scoped-ran.ensures.hands_on.written in
+    let answered = lent_outcome g.S.Source.seen (g.D.ChunkSource.has c.args.old.base.middle.source)
+    c.args.lent.now.config _ c.args.sources.now.items c.run_scoped-ran.result.1.items _ _ _
+    source.left_are_bytes c.requires.lawful
+    (omega (arith, c.requires.files, c.args.sources.now.ok.0)) _ c.requires.levels _
+    (ap (λ v. v.items) c.replace-taken.ensures.value) _ c.in-Ok.ran.out run _ c.requires.cut
+    g.D.ChunkSource.has _ c.args.old.base.middle.source (λ content h. h)
+    c.requires.version _ _ _ _ _ _ run.made.cuts _ _ _ run.made.passes _ _ run.made.fed _ _
+    (omega (arith, c.args.sources.now.ok.0)) c.requires.changes _
+    (c.end_old.ensures _ written.written) in
+    record { outcome = answered.outcome; counted = answered.counted }
+
+pub returns-in-Err-clause-outcome : goal.returns-in-Err-clause-outcome
+returns-in-Err-clause-outcome g c =
+    halted_outcome _ _ _ _ _ _ _ _ _ c.in-Err.halt c.fault.result c.fault.ensures
+    (at_err _ _ _ c.in-Err.is c.run_scoped-ran.ensures.hands_on.refused)
+    (at_err _ _ _ c.in-Err.is c.run_scoped-ran.ensures.hands_on.begun)

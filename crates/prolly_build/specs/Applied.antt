@@ -1,0 +1,153 @@
+-- What applying changes to an old tree has answered, and what it has made of its sources and of the
+-- sink then.
+use Rattle.std.specs.Prelude.{◌≡◌, ◌≢◌, ◌<◌, ◌^◌, ◌⊎◌, ℕ, Bool, true, false, List, ◌∷◌, length, Option}
+use Rattle.std.specs.Prelude.{Some, None, Result, IfOk, IfErr, OnOk}
+use Rattle.std.specs.List.{AllByRecursion}
+use Rattle.prolly_check.specs.Content.{Content}
+use Rattle.prolly_check.specs.FirstFault.{chunk_bytes}
+use Rattle.prolly_entry.specs.Cut.{sha512_cut}
+use Rattle.prolly_entry.specs.Overlay.{overlay}
+use Rattle.prolly_entry.specs.Pair.{IsPair, Pair}
+use Rattle.prolly_entry.specs.Prefix.{IsPrefix}
+use Rattle.prolly_entry.specs.Record.{Record}
+use Rattle.prolly_tree.specs.Chunk.{chunks}
+use Rattle.prolly_tree.specs.Difference.{IsMap, puts}
+use Rattle.prolly_tree.specs.File.{header, root_reference}
+use Rattle.prolly_tree.specs.Merge.{Input, stop, stop_fault, merged_part}
+use Rattle.prolly_tree.specs.Passing.{map_input}
+use Rattle.prolly_file.specs.Sink.{SinkView, TakesPrefix}
+use Rattle.prolly_file.specs.Source.{SourceView}
+use Rattle.prolly_link.specs.declared.fault.RunFault.{RunFault}
+use Rattle.prolly_link.specs.declared.fault.RunFault.TheVariants.{Memory, Write, NoThread, Lost}
+use Rattle.prolly_root.specs.RootFault.{MayFail}
+use Rattle.prolly_root.specs.declared.root_fault.RootFault.{RootFault}
+use Rattle.prolly_root_diff.specs.Leaves.{FoundClashIn}
+use Rattle.prolly_apply.specs.Applied.{old_tree_fault}
+use Rattle.prolly_build.specs.BuiltFile.{AreKept, AreRead, IsBegun, IsMadeFile, IsStartFault}
+use Rattle.prolly_build.specs.BuiltFile.{IsUnmadeOf, IsWriterFault}
+use Rattle.prolly_build.specs.Config.{Settings}
+use Rattle.prolly_build.specs.InputFaults.{AreHonest, CountFor, IsFileFault, TookBegun}
+use Rattle.prolly_build.specs.Refusals.{AreGood}
+use Rattle.prolly_build.specs.WriterState.{frames_of}
+use Rattle.prolly_build.specs.declared.apply.ApplyFault.{ApplyFault}
+use Rattle.prolly_build.specs.declared.apply.ApplyFault.TheVariants as answers
+use Rattle.prolly_build.specs.declared.driver.Report.{Report}
+
+-- ---- which fault is told
+
+-- The answer to a fault of a run, where the old tree was refused or not, and its loader had a fault
+-- or none: a fault of the old tree is told as its loader told it, or as wrong bits where it was
+-- refused; and where a worker seems to tell a fault of its start, it is lost.
+abbrev pub IsTold : RunFault → Bool → Option RootFault → ApplyFault → Type 0
+IsTold fault refused old (answers.Run told) =
+    ((told ≡ fault) × (IsStartFault told → ⊥)) ⊎ ((told ≡ Lost) × IsStartFault fault)
+IsTold fault refused old (answers.Old told) = (fault ≡ old_tree_fault) × (refused ≡ false) ×
+    (old ≡ Some told)
+IsTold fault refused old answers.WrongBits = (fault ≡ old_tree_fault) × (refused ≡ true)
+
+-- ---- what is answered
+
+-- The map has lawful pairs, which rise, and its tree of these bits and this version has the root.
+-- Any tree whose chunks have fewer than 2^64 bytes has fewer pairs than that.
+pub record IsMapOf (settings : Settings) (root : List ℕ) (m : List Pair) : Type 0 where
+  pub rising : IsMap m
+  pub lawful : AllByRecursion IsPair m
+  pub named : root ≡ root_reference (sha512_cut settings.bits) settings.version m
+  pub few : length m < 2 ^ 63
+
+-- Of any map of the root it is so; or a chunk of its tree has the reference of a different chunk.
+abbrev pub OfMaps : Settings → List ℕ → (List Pair → Type 0) → Type 0
+OfMaps settings root So = (m : List Pair) → IsMapOf settings root m →
+    So m ⊎ FoundClashIn (chunk_bytes settings.version settings.bits m)
+
+module _ {S : Type 0} (seen : S → SourceView) where
+  -- The sources were read, each to its end, and the file of the map with their records laid over it
+  -- was made.
+  pub record IsApplied (settings : Settings) (before after : List S) (old new : SinkView)
+      (report : Report) (m : List Pair) : Type 0 where
+    pub goods : List (List Record)
+    pub read : AreRead seen settings.max_records before after goods
+    pub made : IsMadeFile settings (overlay (puts m ∷ goods)) old new report
+
+  -- The sources were read, each to its end, and that file was not made, for this fault of the
+  -- writer.
+  pub record IsUnapplied (settings : Settings) (before after : List S) (old new : SinkView)
+      (fault : RunFault) (m : List Pair) : Type 0 where
+    pub goods : List (List Record)
+    pub read : AreRead seen settings.max_records before after goods
+    pub unmade : IsUnmadeOf settings (overlay (puts m ∷ goods)) old new fault
+
+  -- The fault is the stop of the old tree and of what the files count for, and the sink took what
+  -- the pairs before it begin.
+  pub record IsStoppedOver (settings : Settings) (before after : List S) (old new : SinkView)
+      (fault : RunFault) (m : List Pair) : Type 0 where
+    pub first : List Pair
+    pub is_first : IsPrefix first m
+    pub old_fault : Option RunFault
+    pub all : old_fault ≡ None → first ≡ m
+    pub inputs : List (Input RunFault)
+    pub count_for : CountFor seen 0 settings.max_records before after inputs
+    pub named : stop_fault (stop (map_input first old_fault ∷ inputs)) ≡ Some fault
+    pub took : TookBegun settings (merged_part (map_input first old_fault ∷ inputs)) old new
+
+  -- The sink took a prefix of the header and of the frames of the tree's chunks, without the end
+  -- record, of the first pairs of the overlay of the map and all good records.
+  pub record IsRefusedOver (settings : Settings) (before : List S) (old new : SinkView)
+      (m : List Pair) : Type 0 where
+    pub goods : List (List Record)
+    pub are_good : AreGood seen settings.max_records before goods
+    pub pairs : List Pair
+    pub first : IsPrefix pairs (overlay (puts m ∷ goods))
+    pub taken : old.is_keeping ≡ true → TakesPrefix old.taken new.taken
+        (frames_of (header settings.version settings.bits)
+        (chunks (sha512_cut settings.bits) settings.version pairs))
+
+-- The fault of a run that an answer tells of: the old tree's where that is at fault.
+abbrev pub fault_told : ApplyFault → RunFault
+fault_told (answers.Run fault) = fault
+fault_told (answers.Old fault) = old_tree_fault
+fault_told answers.WrongBits = old_tree_fault
+
+-- All that is promised of an answer with these settings: of the old tree's root, where `has` says
+-- which contents its source has, of the sources before and after it, of which `seen` is what a
+-- contract sees, and of the sink as a contract sees it before and after. `untouched` says that the
+-- sink is as it was.
+pub record IsApplyOutcome {S : Type 0} (seen : S → SourceView) (has : Content → Type 0)
+    (settings : Settings) (root : List ℕ) (before after : List S) (old new : SinkView) (untouched : Type 0)
+    (result : Result Report ApplyFault) : Type 0 where
+  -- A report: of any map of the root, each source was read to its end, the sink took the chunk file
+  -- of the overlay of the map and their records, and the report is that of its tree.
+  pub applied : IfOk result (λ report. OfMaps settings root
+      (IsApplied seen settings before after old new report))
+  -- The sources are there then, each as its loader left it.
+  pub kept : OnOk result (AreKept seen before after)
+  -- A fault of the writer: of any map of the root, each source was read to its end, and that file was
+  -- not made, for this fault.
+  pub unmade : IfErr result (λ fault. (told : RunFault) → fault ≡ answers.Run told →
+      IsWriterFault told → OfMaps settings root
+      (IsUnapplied seen settings before after old new told))
+  -- Every fault but a failed write: no end record is begun.
+  pub begun : IfErr result (λ fault. fault ≢ answers.Run Write → IsBegun settings old new)
+  -- A fault that comes before anything is started: the sink is as it was.
+  pub unstarted : IfErr result (λ fault. (told : RunFault) → fault ≡ answers.Run told →
+      IsStartFault told → untouched)
+  -- Every fault but want of a thread and a lost worker: the sources are there, each as its loader
+  -- left it.
+  pub left_behind : IfErr result (λ fault. fault ≢ answers.Run NoThread →
+      fault ≢ answers.Run Lost → AreKept seen before after)
+  -- A fault of an input, over honest sources: of any map of the root, it is the one that the old tree
+  -- and the files decide, the tree being the input before file 0, and the sink took the chunks that
+  -- the pairs before it close.
+  pub stopped : IfErr result (λ fault. IsFileFault (fault_told fault) → AreHonest seen before →
+      OfMaps settings root (IsStoppedOver seen settings before after old new (fault_told fault)))
+  -- Wrong bits are told of no map of the root.
+  pub cut_so : IfErr result (λ fault. fault ≡ answers.WrongBits → OfMaps settings root (λ m. ⊥))
+  -- Where the source has the tree of the root, it has no fault but want of memory and a failed read.
+  pub had : IfErr result (λ fault. (told : RootFault) (content : Content) →
+      fault ≡ answers.Old told → has content → settings.version ≡ content.version →
+      root ≡ root_reference (sha512_cut content.bits) content.version content.pairs →
+      MayFail told)
+  -- Want of memory, over honest sources: of any map of the root, the sink took a prefix of the file,
+  -- without its end record, of the first pairs of the overlay of the map and all good records.
+  pub refused : IfErr result (λ fault. fault ≡ answers.Run Memory → AreHonest seen before →
+      OfMaps settings root (IsRefusedOver seen settings before old new))

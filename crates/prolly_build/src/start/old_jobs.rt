@@ -1,0 +1,112 @@
+//! The work of the workers that an old tree needs.
+
+use crate::start::job::Job;
+use prolly_apply::{Applied, OLD_TREE, OldLeaf, OldLoaded, apply_stage, load_old};
+use prolly_chunk::ChunkEvent;
+use prolly_entry::{Record, Ref, Sha512Cut, Version};
+use prolly_link::{BatchReceiver, Out};
+use prolly_root::{ChunkSource, RootFault};
+use prolly_stage::Worker;
+use std::alloc::Global;
+use std::sync::Wait;
+
+/// To load the leaves of an old tree. It gives back why not all of them were sent, if so.
+#[derive(Drop)]
+pub(crate) struct LoadOld<D> {
+    pub version: Version,
+    pub root: Ref,
+    pub source: D,
+}
+
+impl<D: ChunkSource + Drop> Job for LoadOld<D> {
+    ghost use Rattle.prolly_build.specs.OldWorkers.{IsOldLoadedFrom};
+
+    type Item = OldLeaf;
+
+    type Done = Option<RootFault>;
+
+    ghost IsReady = { λ _. Unit {0} };
+
+    ghost Gives = { λ job link fault closed. IsOldLoadedFrom D.has job.version job.root.0
+        job.source link fault closed };
+
+    /// The loader of the old tree has the number by which faults name the tree.
+    fn worker(&self) -> Worker {
+        Worker::Loader(OLD_TREE)
+    }
+
+    fn run<R: Wait, O: Out<OldLeaf>>(
+        self,
+        rt: &R,
+        alloc: Global,
+        out: O,
+    ) -> (Option<RootFault>, O::Closed) {
+        let LoadOld {
+            version,
+            root,
+            source,
+        } = self;
+        let OldLoaded {
+            source: _,
+            out,
+            fault,
+        } = load_old(rt, alloc, version, &root, source, out);
+        (fault, out)
+    }
+}
+
+/// To lay changes over the leaves of an old tree, and cut the leaves of the new one.
+#[derive(Drop)]
+pub(crate) struct ApplyLeaves {
+    pub cut: Sha512Cut,
+    pub old: BatchReceiver<OldLeaf>,
+    pub changes: BatchReceiver<Record>,
+}
+
+/// What that gives back: the ends that the leaves and the changes came from, and whether the old
+/// tree was refused.
+#[derive(Drop)]
+pub(crate) struct AppliedEnds {
+    pub old: BatchReceiver<OldLeaf>,
+    pub changes: BatchReceiver<Record>,
+    pub refused: bool,
+}
+
+impl Job for ApplyLeaves {
+    ghost use Rattle.std.specs.Prelude.{◌≡◌, []};
+    ghost use Rattle.prolly_build.specs.OldWorkers.{IsAppliedTo};
+
+    type Item = ChunkEvent;
+
+    type Done = AppliedEnds;
+
+    ghost IsReady = { λ job. (job.old.items ≡ []) × (job.changes.items ≡ []) };
+
+    ghost Gives = { λ job link ends closed. IsAppliedTo job.cut job.old job.changes link ends.old
+        ends.changes ends.refused closed };
+
+    fn worker(&self) -> Worker {
+        Worker::Stage(0)
+    }
+
+    fn run<R: Wait, O: Out<ChunkEvent>>(
+        self,
+        rt: &R,
+        alloc: Global,
+        out: O,
+    ) -> (AppliedEnds, O::Closed) {
+        let ApplyLeaves { cut, old, changes } = self;
+        let Applied {
+            old,
+            changes,
+            out,
+            refused,
+        } = apply_stage(rt, alloc, cut, old, changes, out);
+        let ends = AppliedEnds {
+            old,
+            changes,
+            refused,
+        };
+        (ends, out)
+    }
+}

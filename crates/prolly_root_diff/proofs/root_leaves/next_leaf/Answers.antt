@@ -1,0 +1,77 @@
+use Rattle.std.proofs.Common.{◌≡◌, ◌==◌, ◌<◌, ◌∙◌, [], ap, arith, length, rules, sym}
+use Rattle.std.proofs.lemmas.List.{nil_from_length}
+use Rattle.prolly_check.specs.HeldPairs.{pairs_held}
+use Rattle.prolly_root_diff.specs.DueTrees.{all_due}
+use Rattle.prolly_root_diff.proofs.Lists.{some_due}
+use Rattle.prolly_root_diff.proofs.LeafSteps.{gives_leaf, leaves_end, no_pairs, reads_lighter}
+use Rattle.prolly_root_diff.proofs.LeafSteps.{some_pairs, stay_on}
+use Rattle.prolly_root_diff.proofs.root_leaves.next_leaf.Goals as goal
+
+pub read_first-requires : goal.read_first-requires
+read_first-requires g c = some_due c.nodes.due.items (search rules)
+
+pub returns-then-not-is_empty-clause-gives : goal.returns-then-not-is_empty-clause-gives
+returns-then-not-is_empty-clause-gives g c =
+    let chunk = c.in_ok-reference.chunk.items in
+    let reads = c.in_ok-reference.ensures.reads in
+    let held = c.pairs_of.ensures ∙ ap pairs_held c.deref.ensures.value in
+    let some : 0 < length (pairs_held chunk) = some_pairs (pairs_held chunk)
+    c.is_empty-in-nodes.result (c.is_empty-in-nodes.ensures ∙ ap (λ ps. length ps == 0) held)
+    c.if-not-is_empty.true in (
+      record {
+        whole = reads.named.ordered.whole;
+        some = some;
+        reference = reads.reference_is ∙ sym reads.named.is;
+      },
+      gives_leaf c.leaves_are_right.ensures.opens c.args.version (all_due c.args.due.now.items)
+          (all_due c.nodes.due.items) (all_due c.read_first.new.due.items)
+          c.in_ok-reference.reference.0 chunk reads c.nodes.invariant.stays some,
+    )
+
+pub returns-then-not-is_empty-clause-nearer : goal.returns-then-not-is_empty-clause-nearer
+returns-then-not-is_empty-clause-nearer g c = omega (
+  arith,
+  c.nodes.invariant.nearer,
+  reads_lighter c.args.version (all_due c.nodes.due.items) (all_due c.read_first.new.due.items)
+      c.in_ok-reference.reference.0 c.in_ok-reference.chunk.items c.in_ok-reference.ensures.reads,
+)
+
+pub nodes-smaller : goal.nodes-smaller
+nodes-smaller g c = reads_lighter c.args.version (all_due c.nodes.due.items)
+    (all_due c.read_first.new.due.items) c.in_ok-reference.reference.0
+    c.in_ok-reference.chunk.items c.in_ok-reference.ensures.reads
+
+pub nodes-preserved : goal.nodes-preserved
+nodes-preserved g c =
+    let chunk = c.in_ok-reference.chunk.items in
+    let reads = c.in_ok-reference.ensures.reads in
+    let before = c.nodes.invariant in
+    let held = c.pairs_of.ensures ∙ ap pairs_held c.deref.ensures.value in
+    let none : pairs_held chunk ≡ [] = no_pairs (pairs_held chunk)
+    c.is_empty-in-nodes.result (c.is_empty-in-nodes.ensures ∙ ap (λ ps. length ps == 0) held)
+    c.if-not-is_empty.false in
+    record {
+      stays = stay_on c.leaves_are_right.ensures.opens c.args.version
+          (all_due c.args.due.now.items) (all_due c.nodes.due.items)
+          (all_due c.read_first.new.due.items) c.in_ok-reference.reference.0 chunk reads
+          before.stays none;
+      nearer = omega (
+        arith,
+        before.nearer,
+        reads_lighter c.args.version (all_due c.nodes.due.items)
+            (all_due c.read_first.new.due.items) c.in_ok-reference.reference.0 chunk reads,
+      );
+      keeps = λ content has. c.in_ok-reference.ensures.asked.0 content (before.keeps content has);
+      failures = c.in_ok-reference.ensures.asked.1 ∙ before.failures;
+      lawful = λ content has same due. c.in_ok-reference.ensures.lawful content
+          (before.keeps content has) same (before.lawful content has same due);
+    }
+
+pub returns-clause-gives : goal.returns-clause-gives
+returns-clause-gives g c =
+    let none : c.nodes.due.items ≡ [] = nil_from_length c.nodes.due.items (search rules) in
+    let nothing = ap all_due none in (
+      leaves_end c.args.version (all_due c.args.due.now.items) (all_due c.nodes.due.items)
+          c.nodes.invariant.stays nothing,
+      nothing,
+    )

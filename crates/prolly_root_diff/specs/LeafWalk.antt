@@ -1,0 +1,52 @@
+-- What a walk over the leaves of a tree keeps, and what it gives.
+use Rattle.std.specs.Prelude.{◌≡◌, ℕ, ◌<◌, List, [], length, Option, Some, None}
+use Rattle.std.specs.declared.alloc.Global.{Global}
+use Rattle.std.specs.declared.collections.VecDeque.{VecDeque}
+use Rattle.prolly_check.specs.Content.{Content}
+use Rattle.prolly_check.specs.Entries.{IsWhole}
+use Rattle.prolly_check.specs.HeldPairs.{pairs_held}
+use Rattle.prolly_entry.specs.Reference.{reference_of}
+use Rattle.prolly_entry.specs.declared.version.Version.{Version}
+use Rattle.prolly_root.specs.declared.root_fault.RootFault.{RootFault}
+use Rattle.prolly_tree.specs.Tree.{Tree}
+use Rattle.prolly_root_diff.specs.DueTrees.{AreDueIn, IsWholeTree, all_due}
+use Rattle.prolly_root_diff.specs.Left.{Due, left_of_root}
+use Rattle.prolly_root_diff.specs.Leaves.{GivesLeaf, LeavesEnd}
+use Rattle.prolly_root_diff.specs.declared.root_leaves.LeafRead.{LeafRead}
+use Rattle.prolly_root_diff.specs.declared.siblings.Siblings.{Siblings}
+
+-- A walk over the leaves: the version of the tree's chunks, the subtrees that are due, and the fault
+-- that stopped it.
+pub record LeafWalk (T : Type 0) : Type 0 where
+  pub version : Version
+  pub due : VecDeque (Siblings T) Global
+  pub fault : Option RootFault
+
+-- What is due of the tree.
+abbrev pub due_of_walk : {T : Type 0} → LeafWalk T → List Due
+due_of_walk walk = all_due walk.due.items
+
+-- Nothing was read yet of the tree with this root.
+pub record IsLeafWalk {T : Type 0} (version : Version) (root : List ℕ) (walk : LeafWalk T) : Type 0
+  where
+    pub version_is : walk.version ≡ version
+    pub at : IsWholeTree root walk.due.items
+    pub due : due_of_walk walk ≡ (left_of_root root).due
+    pub goes : walk.fault ≡ None
+
+-- All that is due is of the content's tree, and stands where it is said.
+abbrev pub WalksIn : {T : Type 0} → (is_place : Content → (level : ℕ) → Tree level → T → Type 0) →
+    Content → LeafWalk T → Type 0
+WalksIn is_place content walk = AreDueIn is_place content walk.due.items
+
+-- The chunk is a leaf that has pairs, and has the reference.
+pub record IsLeafRead (version : Version) (leaf : LeafRead) : Type 0 where
+  pub whole : IsWhole version leaf.chunk.items
+  pub some : 0 < length (pairs_held leaf.chunk.items)
+  pub reference : leaf.reference.0 ≡ reference_of leaf.chunk.items
+
+-- What a walk gives: the next leaf; or that none is left, and that nothing is due.
+abbrev pub GivesNext : Version → List Due → Option LeafRead → List Due → Type 0
+GivesNext version old None new = LeavesEnd version old × (new ≡ [])
+GivesNext version old (Some leaf) new = IsLeafRead version leaf ×
+    GivesLeaf version old (pairs_held leaf.chunk.items) new

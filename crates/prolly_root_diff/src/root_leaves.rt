@@ -1,0 +1,133 @@
+//! The leaves of a tree, for who knows its root.
+ghost use Rattle.std.specs.Prelude.{◌≡◌, ◌<◌, None, Some, Err, IfOk, IfErr, IfSome, OnOk};
+ghost use Rattle.prolly_check.specs.Content.{Content};
+ghost use Rattle.prolly_root.specs.ChunkSource.{HasAsked};
+ghost use Rattle.prolly_root.specs.RootFault.{IsOrFails, MayFail};
+ghost use Rattle.prolly_root.specs.declared.root_fault.RootFault.{RootFault as RootFaultValue};
+ghost use Rattle.prolly_root_diff.specs.DueTrees.{AreDueIn, all_due};
+ghost use Rattle.prolly_root_diff.specs.LeafWalk.{GivesNext, IsLeafWalk, WalksIn, due_of_walk};
+ghost use Rattle.prolly_root_diff.specs.ToGo.{weights};
+
+use crate::due_trees::{read_first, whole_tree};
+use crate::laws::leaves_are_right;
+use crate::siblings::Siblings;
+use prolly_check::pairs_of;
+use prolly_entry::{Ref, Version};
+use prolly_root::{ChunkSource, RootFault};
+use std::alloc::{AllocError, Global};
+use std::collections::VecDeque;
+use std::marker::Model;
+
+/// A leaf that was read: it has pairs, it can be read, and it has the reference.
+#[derive(Drop)]
+pub struct LeafRead {
+    pub reference: Ref,
+    /// Its bytes.
+    pub chunk: Vec<u8>,
+}
+
+/// The leaves that are left of a tree, from left to right. The chunks come from a [`ChunkSource`],
+/// which is lent to each call.
+///
+/// Taken together they are the leaves of any map with the tree's root, unless two different chunks
+/// have one reference: see [`laws::leaves_are_right`](crate::laws::leaves_are_right). That holds
+/// whatever the source does: each chunk is compared with the reference in the one above it, and the
+/// first with the root. The tree that the source has is never refused.
+///
+/// Each chunk of the tree is read once. Memory is taken for the leaf that is given, and for the
+/// references of the children of the nodes above it.
+#[derive(Drop)]
+pub struct RootLeaves<T> {
+    version: Version,
+    /// The subtrees that are due, those below the lowest node first.
+    due: VecDeque<Siblings<T>>,
+    /// The fault that stopped it.
+    fault: Option<RootFault>,
+}
+
+impl<T> Model for RootLeaves<T> {
+    ghost use Rattle.prolly_root_diff.specs.LeafWalk.{LeafWalk};
+
+    ghost Value = { LeafWalk T };
+
+    ghost view = { λ l. record { version = l.version; due = l.due; fault = l.fault } };
+}
+
+impl<T: Copy + Drop> RootLeaves<T> {
+    /// All leaves of the tree with this root. The root, and the version of the chunks, come from who
+    /// is trusted. Nothing is read yet.
+    pub fn new(alloc: Global, version: Version, root: &Ref) -> Result<RootLeaves<T>, AllocError>
+        ensures { IfOk result (IsLeafWalk version root.now.0) }
+    {
+        Ok(RootLeaves {
+            version,
+            due: whole_tree(alloc, root)?,
+            fault: None,
+        })
+    }
+
+    /// The next leaf that has pairs, or none where none is left. (The one leaf of the empty map has
+    /// none.) Behind the last one there is none at each further call.
+    ///
+    /// After an `Err` each further call answers the same, and reads nothing.
+    pub fn next<S: ChunkSource<Place = T>>(
+        &mut self,
+        alloc: Global,
+        source: &mut S,
+    ) -> Result<Option<LeafRead>, RootFault>
+        ensures version { self.new.version ≡ self.old.version }
+        ensures gives { IfOk result (λ leaf. GivesNext self.old.version (due_of_walk self.old) leaf
+            (due_of_walk self.new)) }
+        ensures nearer { IfOk result (λ leaf. IfSome leaf (λ _.
+            weights (due_of_walk self.new) < weights (due_of_walk self.old))) }
+        ensures stops { IfErr result (λ fault. self.new.fault ≡ Some fault) }
+        ensures goes_on { OnOk result (self.new.fault ≡ None) }
+        ensures stopped { (fault : RootFaultValue) → self.old.fault ≡ Some fault →
+            (result ≡ Err fault) × (source.new ≡ source.old) }
+
+        // The tree, where the source has it, is not refused, and a failed read is told.
+        ensures lawful { (content : Content) → S.has source.old content →
+            self.old.version ≡ content.version → self.old.fault ≡ None →
+            WalksIn S.is_place content self.old →
+            IsOrFails (λ _. WalksIn S.is_place content self.new) MayFail result }
+        ensures asked { self.old.fault ≡ None →
+            HasAsked S.has S.failures source.old source.new result }
+    {
+        if let Some(fault) = self.fault {
+            return Err(fault);
+        }
+        let leaf = next_leaf(&mut self.due, alloc, source, self.version);
+        self.fault = match &leaf {
+            Ok(_) => None,
+            Err(fault) => Some(*fault),
+        };
+        leaf
+    }
+}
+
+/// The next leaf that has pairs, or none where none is left.
+fn next_leaf<S: ChunkSource>(
+    due: &mut VecDeque<Siblings<S::Place>>,
+    alloc: Global,
+    source: &mut S,
+    version: Version,
+) -> Result<Option<LeafRead>, RootFault>
+    ensures gives { IfOk result (λ leaf. GivesNext version (all_due due.old.items) leaf
+        (all_due due.new.items)) }
+    ensures nearer { IfOk result (λ leaf. IfSome leaf (λ _.
+        weights (all_due due.new.items) < weights (all_due due.old.items))) }
+    ensures lawful { (content : Content) → S.has source.old content →
+        version ≡ content.version → AreDueIn S.is_place content due.old.items →
+        IsOrFails (λ _. AreDueIn S.is_place content due.new.items) MayFail result }
+    ensures asked { HasAsked S.has S.failures source.old source.new result }
+{
+    // By these laws the leaves that are left stay the same where a node is read.
+    leaves_are_right();
+    'nodes: while !due.is_empty() {
+        let (reference, chunk) = read_first(due, alloc, source, version)?;
+        if !pairs_of(version, &chunk).is_empty() {
+            return Ok(Some(LeafRead { reference, chunk }));
+        }
+    }
+    Ok(None)
+}
