@@ -99,6 +99,15 @@ not_refused read bytes content fault short e f (inr v) =
     let one = one_verdict bytes (Ok content) (Err fault)
     (file_is_accepted bytes content short f) (subst (λ b. IsVerdict b (Err fault)) e v) in cc
 
+-- where nothing is read, only memory is wanted
+pub only_memory : (bytes : List ℕ) (content : Content) (fault : CheckFault) →
+    length bytes < 2 ^ 64 → IsFileOf bytes content →
+    UnlessMemory (λ fault. IsVerdict bytes (Err fault)) fault → fault ≡ faults.Memory
+only_memory bytes content fault short f (inl memory) = memory
+only_memory bytes content fault short f (inr v) =
+    let one = one_verdict bytes (Ok content) (Err fault)
+    (file_is_accepted bytes content short f) v in cc
+
 -- ---- a file has no more pairs than bytes, and its chunks have no more bytes
 
 each_has_bytes : (pairs : List Pair) → length pairs ≤ length (flat_map pair_spelling pairs)

@@ -21,6 +21,9 @@ use Rattle.prolly_tree.specs.lemmas.Maps.{above_last, find_above}
 use Rattle.prolly_file.specs.Scratch.{keys_in}
 use Rattle.prolly_check.specs.Leaves.{pairs_from}
 use Rattle.prolly_check.specs.ScanWay.{next_key, AreFirstFrom}
+pub use Rattle.prolly_check.specs.lemmas.PairLists.{above_not, find_first, find_over, from_all}
+pub use Rattle.prolly_check.specs.lemmas.PairLists.{from_first, none_from, nth_back, nth_front}
+pub use Rattle.prolly_check.specs.lemmas.PairLists.{pairs_from-append}
 use Rattle.prolly_check.proofs.RisingKeys.{is_less}
 
 -- ---- keys
@@ -31,25 +34,6 @@ all_below [] key h k = tt
 all_below (p ∷ []) key h k = (k, tt)
 all_below (p ∷ q ∷ ps) key h k = search (rules, order_trans, all_below (q ∷ ps) key h.1 k)
 
-pub find_over : (xs ys : List Pair) (key : List ℕ) → AllByRecursion (λ p. KeyBelow p.key key) xs →
-    find (xs ++ ys) key ≡ find ys key
-find_over [] ys key h = refl
-find_over (p ∷ xs) ys key h = search (rules, find_over xs ys key h.1)
-
-pub find_first : (xs ys : List Pair) (key : List ℕ) → find ys key ≡ None →
-    find (xs ++ ys) key ≡ find xs key
-find_first [] ys key h = h
-find_first (p ∷ xs) ys key h = search (rules, find_first xs ys key h)
-
-pub above_not : (x key : List ℕ) (ps : List Pair) → is_lt (key_order x key) ≡ false → Above x ps →
-    Above key ps
-above_not x key ps h k = go (key_order x key) refl h
-  where
-    go : (o : Ordering) → key_order x key ≡ o → is_lt o ≡ false → Above key ps
-    go Less e l = absurd (false≢true (sym l))
-    go Equal e l = subst (λ y. Above y ps) (order_same x key e) k
-    go Greater e l = above_more key x ps (greater_below x key e) k
-
 from_rises : (p : Pair) (ps : List Pair) → Above p.key ps → Rises ps → RisingFrom p.key (keys_in ps)
 from_rises p [] h k = tt
 from_rises p (q ∷ ps) h k = (h.0, from_rises q ps k.0 k.1)
@@ -58,31 +42,7 @@ pub rising_is : (ps : List Pair) → Rises ps → Rising (keys_in ps)
 rising_is [] h = tt
 rising_is (p ∷ ps) h = from_rises p ps h.0 h.1
 
--- ---- places
-
-pub nth_front : {A : Type 0} (xs ys : List A) (n : ℕ) → n < length xs →
-    slice_get (xs ++ ys) n ≡ slice_get xs n
-nth_front [] ys n h = absurd (omega arith)
-nth_front (x ∷ xs) ys zero h = refl
-nth_front (x ∷ xs) ys (suc n) h = search (rules, nth_front xs ys n (omega arith))
-
-pub nth_back : {A : Type 0} (xs ys : List A) (n : ℕ) →
-    slice_get (xs ++ ys) (length xs + n) ≡ slice_get ys n
-nth_back [] ys n = let e : 0 + n ≡ n = omega arith in rw e refl
-nth_back (x ∷ xs) ys n = search (rules, nth_back xs ys n)
-
 -- ---- scanning pairs from a key on, in a leaf and over chunks
-
--- the pairs from a key on, of two lists
-pub pairs_from-append : (from : List ℕ) (xs ys : List Pair) →
-    pairs_from from (xs ++ ys) ≡ pairs_from from xs ++ pairs_from from ys
-pairs_from-append from xs ys = filter-append (λ p. not (is_lt (key_order p.key from))) xs ys
-
--- pairs whose keys are below it are none of them
-pub none_from : (from : List ℕ) (ps : List Pair) → AllByRecursion (λ p. KeyBelow p.key from) ps →
-    pairs_from from ps ≡ []
-none_from from [] h = refl
-none_from from (p ∷ ps) h = search (rules, none_from from ps h.1)
 
 -- pairs of which the last is not below it have one
 pub some_from : (from : List ℕ) (ps : List Pair) → 0 < length ps →
@@ -95,16 +55,6 @@ some_from from (p ∷ q ∷ ps) some h e =
     (λ here f. cons≢nil f) (λ past f. some_from from (q ∷ ps) (omega arith) h f) e
 
 -- ---- in a map
-
--- pairs above a key are all from it on
-pub from_all : (key : List ℕ) (ps : List Pair) → Above key ps → pairs_from key ps ≡ ps
-from_all key [] h = refl
-from_all key (p ∷ ps) h = grind (arith, below_greater, from_all key ps h.1)
-
--- where the first one of a map is from the key on, all are
-pub from_first : (key : List ℕ) (p : Pair) (ps : List Pair) → Rises (p ∷ ps) →
-    is_lt (key_order p.key key) ≡ false → pairs_from key (p ∷ ps) ≡ p ∷ ps
-from_first key p ps h here = grind (arith, from_all, above_not)
 
 -- those from a key on are all from it on
 pub from_again : (key : List ℕ) (ps : List Pair) →

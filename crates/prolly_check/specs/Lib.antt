@@ -44,6 +44,8 @@ pub mod ScanWay
 pub mod Step
 -- Look-ups in a file that was checked.
 pub mod FileWays
+-- What is said of a chunk file, in short.
+pub mod Report
 -- What is said of a file that is no chunk file. (This project's texts.)
 pub mod FaultTexts
 -- Lemmas for the crates above, by subject.

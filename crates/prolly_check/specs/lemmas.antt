@@ -5,3 +5,5 @@ pub mod Ways
 pub mod Clashes
 -- Chunks of which no two have one reference.
 pub mod Chunks
+-- What is found in lists that stand one behind another.
+pub mod PairLists

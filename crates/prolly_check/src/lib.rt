@@ -7,6 +7,7 @@ mod file;
 pub mod laws;
 mod look_up;
 mod numbers;
+mod report;
 mod stream;
 mod tree;
 mod verdict;
@@ -17,6 +18,7 @@ pub use look_up::{
     pair_sought, rest_from, step_at, step_of, test_chunk, value_in,
 };
 pub use numbers::{Level, Missing};
+pub use report::{FileReport, check_bytes};
 pub use stream::{RootReport, StreamFault, check_by_root};
 pub use tree::{NoCounts, Tree};
 pub use verdict::{CheckFault, ChunkDigest, ChunkHasher, ManyThreads, OneThread, check, check_by};

@@ -1,11 +1,13 @@
-//! Proofs of ranges of small maps: each is read as it was written, and nothing else is.
+//! Proofs of ranges and of lists of keys of small maps: each is read as it was written, and nothing
+//! else is.
 mod damaged;
+mod lists;
 mod ranges;
 
 use crate::expect::expect_eq;
 use prolly_entry::{Pair, Ref, Sha512Cut, Version};
 use prolly_file::{ScriptDevice, ScriptSink, ScriptSource, scratch_as};
-use prolly_range::{KeySet, ProveFault, SetFault, SetVerifier, prove_set};
+use prolly_range::{KeySet, ProveFault, SetFault, SetVerifier, SortedKeys, prove_set};
 use prolly_root::FileChunks;
 use std::alloc::{AllocError, Global};
 use std::process::Abort;
@@ -142,4 +144,19 @@ fn expect_stopped(
 /// The range of keys of a byte each; to the end of the map where there is no other key.
 pub(crate) fn range<'a>(from: &'a [u8], to: Option<&'a [u8]>) -> KeySet<'a> {
     KeySet::Range { from, to }
+}
+
+/// The list of these keys, which rise.
+pub(crate) fn list(keys: &[Vec<u8>]) -> Result<KeySet<'_>, Fail> {
+    let sorted = SortedKeys::new(keys)?;
+    Ok(KeySet::Keys(sorted))
+}
+
+/// Copies of these keys.
+pub(crate) fn copies(alloc: Global, keys: &[&[u8]]) -> Result<Vec<Vec<u8>>, AllocError> {
+    let mut copies = Vec::new(alloc);
+    for key in keys {
+        copies.push(key.to_vec(alloc)?)?;
+    }
+    Ok(copies)
 }

@@ -1,3 +1,5 @@
+-- Where a list of keys that rise is split, and where a list ceases to rise.
+mod Splitting
 -- What of a set of keys may stand below trees.
 mod Parts
 -- Chunks that are taken one after another.
@@ -14,3 +16,5 @@ mod Weights
 mod Locating
 -- Writing the chunks of a proof, one after another.
 mod Writing
+-- What is known of a key from the pairs that were shown.
+mod Finding

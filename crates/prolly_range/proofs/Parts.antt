@@ -14,8 +14,10 @@ use Rattle.prolly_tree.specs.Tree.{Tree, pairs_below, greatest_key, last_key}
 use Rattle.prolly_tree.specs.lemmas.Maps.{Above, Rises, above_last, rises_front, rises_back}
 use Rattle.prolly_check.specs.Descent.{NodeFull}
 use Rattle.prolly_range.specs.KeySet.{KeySet, Met, has_key, met_first, met_in, pairs_wanted}
-use Rattle.prolly_range.specs.KeySet.{part_behind, part_below}
-use Rattle.prolly_range.specs.KeySet.KeySet.{Range}
+use Rattle.prolly_range.specs.KeySet.{part_behind, part_below, some_keys}
+use Rattle.prolly_range.specs.KeySet.KeySet.{Keys, Range}
+use Rattle.prolly_range.specs.SortedKeys.{is_one_of, keys_above, keys_up_to}
+use Rattle.prolly_range.proofs.Splitting.{one_above, one_up_to}
 
 -- ---- pairs and a part of a set
 
@@ -64,6 +66,35 @@ above_not_below x y z h k = go (is_lt (key_order x z)) refl
     go true e = absurd (false≢true (sym k ∙
         ap is_lt (order_trans y x z h (is_less (key_order x z) e))))
 
+-- ---- a list of keys
+
+-- lists that have the same of these keys want the same pairs
+same_wanted : (a b : List (List ℕ)) (ps : List Pair) →
+    AllByRecursion (λ p. is_one_of a p.key ≡ is_one_of b p.key) ps →
+    pairs_wanted (Keys a) ps ≡ pairs_wanted (Keys b) ps
+same_wanted a b [] h = refl
+same_wanted a b (p ∷ ps) h = rw (h.0, same_wanted a b ps h.1) refl
+
+-- of a list with no key nothing is wanted
+some_wanted : (keys : List (List ℕ)) (ps : List Pair) →
+    pairs_wanted (Keys keys) ps ≡ wanted_in (some_keys keys) ps
+some_wanted [] [] = refl
+some_wanted [] (p ∷ ps) = some_wanted [] ps
+some_wanted (key ∷ keys) ps = refl
+
+one_up_to_each : (keys : List (List ℕ)) (greatest : List ℕ) (ps : List Pair) → UpTo greatest ps →
+    AllByRecursion (λ p. is_one_of keys p.key ≡ is_one_of (keys_up_to greatest keys) p.key) ps
+one_up_to_each keys greatest [] h = tt
+one_up_to_each keys greatest (p ∷ ps) h =
+    (one_up_to p.key greatest h.0 keys, one_up_to_each keys greatest ps h.1)
+
+one_above_each : (keys : List (List ℕ)) (key : List ℕ) (ps : List Pair) → Above key ps →
+    AllByRecursion (λ p. is_one_of keys p.key ≡ is_one_of (keys_above key keys) p.key) ps
+one_above_each keys key [] h = tt
+one_above_each keys key (p ∷ ps) h = (one_above p.key key h.0 keys, one_above_each keys key ps h.1)
+
+-- ---- any set
+
 -- below a greatest key there is of the set what its part there has
 pub below_keeps : (set : KeySet) (greatest : List ℕ) (ps : List Pair) → UpTo greatest ps →
     pairs_wanted set ps ≡ wanted_in (part_below set greatest) ps
@@ -82,6 +113,9 @@ below_keeps (Range from to) greatest ps h = go (is_lt (key_order greatest from))
     go true e = rw e (none_wanted (Range from to) ps
         (past (is_less (key_order greatest from) e) ps h))
     go false e = rw e refl
+below_keeps (Keys keys) greatest ps h =
+    same_wanted keys (keys_up_to greatest keys) ps (one_up_to_each keys greatest ps h) ∙
+    some_wanted (keys_up_to greatest keys) ps
 
 -- and so behind a key
 pub behind_keeps : (set : KeySet) (key : List ℕ) (ps : List Pair) → Above key ps →
@@ -106,6 +140,9 @@ behind_keeps (Range from (Some to)) key ps h = go (is_lt (key_order key to)) ref
         wanted_in (part_behind (Range from (Some to)) key) ps
     go true e = rw e refl
     go false e = rw e (none_wanted (Range from (Some to)) ps (past e ps h))
+behind_keeps (Keys keys) key ps h =
+    same_wanted keys (keys_above key keys) ps (one_above_each keys key ps h) ∙
+    some_wanted (keys_above key keys) ps
 
 pub wanted-append : (set : KeySet) (xs ys : List Pair) →
     pairs_wanted set (xs ++ ys) ≡ pairs_wanted set xs ++ pairs_wanted set ys

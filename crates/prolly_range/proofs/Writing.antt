@@ -11,29 +11,8 @@ use Rattle.prolly_file.specs.Sink.{SinkView, TakesPrefix}
 use Rattle.prolly_range.specs.KeySet.{KeySet}
 use Rattle.prolly_range.specs.Prover.{ProvesNext, WritesPart, WritesProof, WritesRest, located_due}
 use Rattle.prolly_range.specs.declared.located.Located.{Located}
-use Rattle.prolly_range.specs.SetProof.{AreTaken, Due, Takes, root_due, set_file, set_start}
-
--- one more chunk is taken
-pub taken_more : (version : Version) (due : List Due) (chunks : List (List ℕ)) (pairs : List Pair)
-    (rest : List Due) (chunk : List ℕ) (shown : List Pair) (next : List Due) →
-    AreTaken version due chunks pairs rest → Takes version rest chunk shown next →
-    AreTaken version due (chunks ++ chunk ∷ []) (pairs ++ shown) next
-taken_more version due [] pairs rest chunk shown next taken takes = (
-  shown,
-  [],
-  next,
-  subst (λ d. Takes version d chunk shown next) (sym taken.0) takes,
-  (refl, refl),
-  ap (λ ps. ps ++ shown) taken.1 ∙ sym (append-nil shown),
-)
-taken_more version due (c ∷ chunks) pairs rest chunk shown next taken takes = (
-  taken.0,
-  taken.1 ++ shown,
-  taken.2,
-  taken.3,
-  taken_more version taken.2 chunks taken.1 rest chunk shown next taken.4 takes,
-  ap (λ ps. ps ++ shown) taken.5 ∙ append_assoc taken.0 taken.1 shown,
-)
+use Rattle.prolly_range.specs.SetProof.{AreTaken, Due, root_due, set_file, set_start}
+use Rattle.prolly_range.specs.lemmas.Taken.{taken_more}
 
 frames_more : (chunks : List (List ℕ)) (chunk : List ℕ) →
     flat_map framed chunks ++ framed chunk ≡ flat_map framed (chunks ++ chunk ∷ [])

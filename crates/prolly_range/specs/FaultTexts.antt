@@ -1,4 +1,5 @@
--- What is said of a proof that shows nothing more, or was not written. (This project's texts.)
+-- What is said of a proof that shows nothing more, or was not written, and of keys that do not rise.
+-- (This project's texts.)
 use Rattle.std.specs.Prelude.{ℕ, List, codes}
 use Rattle.prolly_root.specs.FaultTexts.{proof_fault_text, root_fault_text}
 use Rattle.prolly_range.specs.declared.fault.SetFault.{SetFault}
@@ -16,3 +17,6 @@ set_fault_text Stopped = codes "proof: an earlier call failed"
 abbrev pub prove_fault_text : ProveFault → List ℕ
 prove_fault_text (Chunks fault) = root_fault_text fault
 prove_fault_text Write = codes "write failed"
+
+abbrev pub not_rising_text : List ℕ
+not_rising_text = codes "key not greater than the one before it"

@@ -1,6 +1,6 @@
 -- Sets of keys that are sought together, and where in a tree they may stand. (This project's rules.)
 use Rattle.std.specs.Ordering.{is_lt}
-use Rattle.std.specs.Prelude.{ℕ, suc, Bool, true, not, ◌&&◌, List, [], ◌∷◌, Option, Some, None}
+use Rattle.std.specs.Prelude.{ℕ, suc, Bool, true, not, ◌&&◌, List, [], ◌∷◌, map, Option, Some, None}
 use Rattle.std.specs.Prelude.{if◌then◌else◌}
 use Rattle.std.specs.List.{filter}
 use Rattle.std.specs.Option.{option_copied}
@@ -8,15 +8,24 @@ use Rattle.prolly_entry.specs.Keys.{key_order}
 use Rattle.prolly_entry.specs.Pair.{Pair}
 use Rattle.prolly_range.specs.declared.key_set.KeySet.{KeySet as Asked}
 use Rattle.prolly_range.specs.declared.key_set.KeySet.TheVariants.{Range as AskedRange}
+use Rattle.prolly_range.specs.declared.key_set.KeySet.TheVariants.{Keys as AskedKeys}
+use Rattle.prolly_range.specs.declared.sorted_keys.SortedKeys.{SortedKeys}
+use Rattle.prolly_range.specs.SortedKeys.{is_one_of, keys_above, keys_up_to}
 
--- A set of keys: those that are not less than the one, and less than the other; where there is no
--- other, all that are not less than the one.
+-- A set of keys: those that are not less than the one, and less than the other, and where there is no
+-- other, all that are not less than the one; or those of a list.
 pub data KeySet : Type 0 where
   Range : List ℕ → Option (List ℕ) → KeySet
+  Keys : List (List ℕ) → KeySet
+
+-- The keys of a list that rises.
+abbrev pub keys_in : SortedKeys → List (List ℕ)
+keys_in sorted = map (λ k. k.items) sorted.keys.now
 
 -- What a call was asked for, as a set of keys.
 abbrev pub set_of : Asked → KeySet
 set_of (AskedRange from to) = Range from.now (option_copied to)
+set_of (AskedKeys sorted) = Keys (keys_in sorted)
 
 -- The key is less than the end of a range, where that has one.
 abbrev pub is_before : Option (List ℕ) → List ℕ → Bool
@@ -26,21 +35,29 @@ is_before (Some to) key = is_lt (key_order key to)
 -- The key is one of the set.
 abbrev pub has_key : KeySet → List ℕ → Bool
 has_key (Range from to) key = not (is_lt (key_order key from)) && is_before to key
+has_key (Keys keys) key = is_one_of keys key
 
 -- The pairs whose keys are of the set.
 abbrev pub pairs_wanted : KeySet → List Pair → List Pair
 pairs_wanted set pairs = filter (λ p. has_key set p.key) pairs
 
--- What of the set may stand among keys of which this is the greatest: nothing, where the range
--- begins behind it.
+-- The set of these keys; none where there is no key.
+abbrev pub some_keys : List (List ℕ) → Option KeySet
+some_keys [] = None
+some_keys (key ∷ keys) = Some (Keys (key ∷ keys))
+
+-- What of the set may stand among keys of which this is the greatest: of a range all, or nothing
+-- where it begins behind that key; of a list the keys that are not greater.
 abbrev pub part_below : KeySet → List ℕ → Option KeySet
 part_below (Range from to) greatest =
     if is_lt (key_order greatest from) then None else Some (Range from to)
+part_below (Keys keys) greatest = some_keys (keys_up_to greatest keys)
 
--- What of the set may stand among keys that are greater than this one: nothing, where the range
--- ends there or before.
+-- What of the set may stand among keys that are greater than this one: of a range all, or nothing
+-- where it ends there or before; of a list the keys that are greater.
 abbrev pub part_behind : KeySet → List ℕ → Option KeySet
 part_behind (Range from to) key = if is_before to key then Some (Range from to) else None
+part_behind (Keys keys) key = some_keys (keys_above key keys)
 
 -- One of several things in which keys are sought: its number, counted from 0, and which keys.
 pub record Met (A : Type 0) : Type 0 where

@@ -1,7 +1,11 @@
+-- Lists of keys that rise.
+pub mod SortedKeys
 -- Sets of keys, and where in a tree they may stand.
 pub mod KeySet
 -- The proof of what a map has at the keys of a set.
 pub mod SetProof
+-- What is known of keys from the pairs that were shown.
+pub mod Found
 -- The children of a node in which keys are sought.
 pub mod Children
 -- The chunks that are due, as a walk keeps them.
@@ -18,3 +22,5 @@ pub mod FaultTexts
 pub mod ToGo
 -- Writing a proof, from a source of chunks.
 pub mod Prover
+-- Lemmas for the crates above, by subject.
+pub mod lemmas

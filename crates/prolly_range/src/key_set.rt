@@ -1,8 +1,10 @@
 //! Sets of keys.
 ghost use Rattle.std.specs.Prelude.{◌≡◌, option_map};
-ghost use Rattle.prolly_range.specs.KeySet.{has_key, is_before, part_behind, part_below, set_of};
+ghost use Rattle.prolly_range.specs.KeySet.{has_key, is_before, keys_in, part_behind};
+ghost use Rattle.prolly_range.specs.KeySet.{part_below, set_of, some_keys};
 ghost use Rattle.std.specs.Option.{option_copied};
 
+use crate::sorted_keys::SortedKeys;
 use prolly_entry::key_order;
 
 /// A set of keys that are sought together.
@@ -14,15 +16,18 @@ pub enum KeySet<'a> {
         from: &'a [u8],
         to: Option<&'a [u8]>,
     },
+    /// These keys.
+    Keys(SortedKeys<'a>),
 }
 
 impl<'a> KeySet<'a> {
-    /// Whether the key is one of the set.
+    /// Whether the key is one of the set. Of n keys it is compared with O(log n).
     pub fn has(self, key: &[u8]) -> bool
         ensures { result ≡ has_key (set_of self.entry) key.now }
     {
         match self {
             KeySet::Range { from, to } => !key_order(key, from).is_lt() && is_before(to, key),
+            KeySet::Keys(keys) => keys.has(key),
         }
     }
 
@@ -37,6 +42,7 @@ impl<'a> KeySet<'a> {
                 }
                 Some(self)
             }
+            KeySet::Keys(keys) => some_keys(keys.split(greatest).0),
         }
     }
 
@@ -51,6 +57,7 @@ impl<'a> KeySet<'a> {
                 }
                 None
             }
+            KeySet::Keys(keys) => some_keys(keys.split(key).1),
         }
     }
 }
@@ -63,4 +70,14 @@ fn is_before(to: Option<&[u8]>, key: &[u8]) -> bool
         None => true,
         Some(to) => key_order(key, to).is_lt(),
     }
+}
+
+/// The set of these keys, if there are some.
+fn some_keys<'a>(keys: SortedKeys<'a>) -> Option<KeySet<'a>>
+    ensures { option_map set_of result ≡ some_keys (keys_in keys.entry) }
+{
+    if keys.keys().is_empty() {
+        return None;
+    }
+    Some(KeySet::Keys(keys))
 }

@@ -1,5 +1,6 @@
 //! Laws of proofs of sets of keys. They are the contract of a function that does nothing: to call it
 //! is to know the laws, and to prove the crate is to prove them.
+ghost use Rattle.prolly_range.specs.Found.{KeysAreFound};
 ghost use Rattle.prolly_range.specs.SetProof.{SetProofsAreRight, TakenAreRight};
 
 use prolly_check::laws::tops_are_read;
@@ -13,3 +14,9 @@ pub fn set_proofs_are_right()
 {
     tops_are_read();
 }
+
+/// Of a key of the set it is known what the map has there, a value or nothing, as soon as a pair was
+/// shown whose key is not less, or all were.
+pub fn keys_are_found()
+    ensures { KeysAreFound }
+{}

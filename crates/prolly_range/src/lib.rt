@@ -1,7 +1,9 @@
-//! Proofs of what a map has at all keys of a set, as at those of a range.
+//! Proofs of what a map has at all keys of a set: at those of a range, or of a list.
 //!
 //! The proof is the chunks of the map's tree that the set meets, each once, from the root down. Who
-//! knows the root's reference learns from it the pairs of these keys, and that there is no other.
+//! knows the root's reference learns from it the pairs of these keys, and that there is no other. So
+//! who asks for a list of keys learns of each what the map has there, a value or nothing: see
+//! [`laws::keys_are_found`].
 #![tactic(auto)]
 
 mod checked;
@@ -15,6 +17,7 @@ mod located;
 mod prove_fault;
 mod proved;
 mod prover;
+mod sorted_keys;
 mod start;
 mod verifier;
 
@@ -24,4 +27,5 @@ pub use key_set::KeySet;
 pub use prove_fault::ProveFault;
 pub use proved::{PairsWanted, ProvedChunk};
 pub use prover::prove_set;
+pub use sorted_keys::{NotRising, SortedKeys};
 pub use verifier::SetVerifier;

@@ -1,7 +1,8 @@
 //! Proofs of ranges that were changed, cut or put together anew.
-use super::{Tree, range};
+use super::{Tree, copies, list, range};
 use crate::expect::expect_eq;
 use prolly_entry::Version;
+use prolly_file::{FRAME_START, frame_at};
 use prolly_range::{KeySet, SetFault};
 use prolly_root::ProofFault;
 use prolly_test_parts::joined;
@@ -13,6 +14,9 @@ use std::test::Fail;
 const FROM: &[u8] = b"b";
 
 const TO: &[u8] = b"e";
+
+/// More frames than any of these proofs has.
+const MOST_FRAMES: usize = 100;
 
 /// The map of these, and the range.
 const KEYS: &[u8] = b"abcde";
@@ -136,6 +140,121 @@ fn takes_no_memory_for_a_length_that_lies(rt: HostRuntime) -> Result<(), Fail> {
         let frame = length.to_be_bytes();
         let proof = joined(alloc, &[b"PRLP\x11C", &frame, b"\0"])?;
         expect_fault(&rt, alloc, &tree, proof, ProofFault::Truncated)?;
+    }
+    Ok(())
+}
+
+/// The frames of a proof.
+fn frames_of(alloc: Global, proof: &[u8]) -> Result<Vec<Vec<u8>>, Fail> {
+    let mut frames = Vec::new(alloc);
+    let mut left = proof.strip_prefix(b"PRLP\x11").ok_or("start")?;
+    for _ in 0..MOST_FRAMES {
+        let Some(len) = frame_at(left) else {
+            break;
+        };
+        let size = FRAME_START.saturating_add(len);
+        let (frame, rest) = left.split_at_checked(size).ok_or("frame")?;
+        frames.push(frame.to_vec(alloc)?)?;
+        left = rest;
+    }
+    Ok(frames)
+}
+
+/// A proof of the frames of these numbers.
+fn proof_of(alloc: Global, frames: &[Vec<u8>], order: &[usize]) -> Result<Vec<u8>, AllocError> {
+    let mut proof = b"PRLP\x11".to_vec(alloc)?;
+    for place in order {
+        if let Some(frame) = frames.get(*place) {
+            proof.extend_from_slice(frame)?;
+        }
+    }
+    Ok(proof)
+}
+
+/// What is done to the frame of a number.
+#[derive(Clone, Copy, Debug)]
+enum Change {
+    LeftOut,
+    Doubled,
+    /// It is exchanged with the one behind it, the last one with the first.
+    Exchanged,
+}
+
+/// The numbers of so many frames, with this done to one.
+fn changed(
+    alloc: Global,
+    count: usize,
+    place: usize,
+    change: Change,
+) -> Result<Vec<usize>, AllocError> {
+    let mut order = Vec::new(alloc);
+    for number in 0..count {
+        order.push(number)?;
+    }
+    if place >= order.len() {
+        return Ok(order);
+    }
+    match change {
+        Change::LeftOut => {
+            order.remove(place);
+        }
+        Change::Doubled => order.insert(place, place)?,
+        Change::Exchanged => {
+            let other = if place + 1 < order.len() {
+                place + 1
+            } else {
+                0
+            };
+            order.swap(place, other);
+        }
+    }
+    Ok(order)
+}
+
+/// Fails unless the proof of the set is refused with this done to a frame, whichever it is.
+fn expect_refused(
+    rt: &impl Abort,
+    alloc: Global,
+    tree: &Tree,
+    set: KeySet<'_>,
+    change: Change,
+) -> Result<(), Fail> {
+    let proof = tree.proof(rt, alloc, set)?;
+    let frames = frames_of(alloc, &proof)?;
+    expect_eq(rt, &frames.is_empty(), &false);
+    for place in 0..frames.len() {
+        let order = changed(alloc, frames.len(), place, change)?;
+        let proof = proof_of(alloc, &frames, &order)?;
+        let (_, fault) = tree.shown(rt, alloc, set, proof, 0)?;
+        assert!(rt; fault.is_some(), "frame {place}");
+    }
+    Ok(())
+}
+
+#[test]
+fn refuses_frames_left_out_doubled_and_exchanged(rt: HostRuntime) -> Result<(), Fail> {
+    let alloc = rt.alloc();
+    let tree = Tree::of(alloc, Version::One, 0, KEYS)?;
+    let keys = copies(alloc, &[b"a", b"c\0", b"d", b"e"])?;
+    for set in [range(FROM, Some(TO)), list(&keys)?] {
+        for change in [Change::LeftOut, Change::Doubled, Change::Exchanged] {
+            expect_refused(&rt, alloc, &tree, set, change)?;
+        }
+    }
+    Ok(())
+}
+
+#[test]
+fn refuses_the_proof_of_another_list(rt: HostRuntime) -> Result<(), Fail> {
+    let alloc = rt.alloc();
+    let tree = Tree::of(alloc, Version::One, 0, KEYS)?;
+    let keys = copies(alloc, &[b"a", b"c"])?;
+    let fewer = copies(alloc, &[b"a"])?;
+    let more = copies(alloc, &[b"a", b"b", b"c"])?;
+    for others in [fewer, more] {
+        let proof = tree.proof(&rt, alloc, list(&others)?)?;
+        let (_, fault) = tree.shown(&rt, alloc, list(&keys)?, proof, 0)?;
+        assert!(rt; fault.is_some());
     }
     Ok(())
 }

@@ -11,16 +11,16 @@ use std::process::Abort;
 use std::test::Fail;
 
 /// The keys of the greatest map, of a byte each.
-const KEYS: &[u8] = b"bdfhjlnprt";
+pub(super) const KEYS: &[u8] = b"bdfhjlnprt";
 
 /// The keys at which ranges begin and end: those of the map, and one behind each.
-const ENDS: &[&[u8]] = &[
+pub(super) const ENDS: &[&[u8]] = &[
     b"", b"b", b"b\0", b"d", b"e", b"f", b"g", b"h", b"i", b"j", b"l", b"m", b"n", b"o", b"p",
     b"r", b"s", b"t", b"u",
 ];
 
 /// How many keys the maps have, and the bits by which they are cut.
-const MAPS: &[(usize, u8)] = &[
+pub(super) const MAPS: &[(usize, u8)] = &[
     (0, 0),
     (1, 0),
     (2, 1),

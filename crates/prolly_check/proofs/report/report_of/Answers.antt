@@ -1,0 +1,6 @@
+use Rattle.std.proofs.Common.{arith}
+use Rattle.prolly_check.proofs.CheckedFile.{few_pairs}
+use Rattle.prolly_check.proofs.report.report_of.Goals as goal
+
+pub count_pairs-requires : goal.count_pairs-requires
+count_pairs-requires c = grind (arith, few_pairs)

@@ -1,0 +1,4 @@
+-- Lemmas for the crates above.
+
+-- Chunks of a proof that are taken one after another.
+pub mod Taken
