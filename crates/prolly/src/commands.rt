@@ -1,6 +1,7 @@
 //! The commands, each over the files that it names. What the words alone decide is told first; then
 //! input files are opened in the order of the words, and then the output is made, before anything
 //! is read.
+mod apply;
 mod build;
 mod diff;
 mod dump;
@@ -12,6 +13,7 @@ mod scratch;
 
 ghost use Rattle.prolly_line.specs.GivenCommand.{IsWithinLimits};
 
+use crate::commands::apply::ApplyRequest;
 use crate::commands::diff::DiffRequest;
 use crate::hashing::on_all_processors;
 use crate::refusal::Refusal;
@@ -76,6 +78,25 @@ fn answer_or_refusal<T: Wait + Threads + Clock + Sync>(
             let config = config.with_batch(batch).unwrap();
             let config = config.with_version(version).unwrap();
             build::build_from(rt, threads, &config, &out, &files, quiet, mode)
+        }
+        Command::Apply {
+            root,
+            bits,
+            version,
+            old,
+            out,
+            changes,
+            quiet,
+            mode,
+        } => {
+            let version = version.map(|version| Version::of(version).unwrap());
+            let request = ApplyRequest {
+                root,
+                bits,
+                version,
+                quiet,
+            };
+            apply::apply_to(rt, threads, request, &old, &out, &changes, mode)
         }
         Command::Explain { file, notation } => report::explain(rt, file, notation),
         Command::Check {
@@ -197,7 +218,7 @@ fn answer_or_refusal<T: Wait + Threads + Clock + Sync>(
         }
         Command::Prove {
             file,
-            key,
+            sought,
             root,
             version,
             out,
@@ -210,20 +231,20 @@ fn answer_or_refusal<T: Wait + Threads + Clock + Sync>(
                 &file,
                 root,
                 version,
-                &key,
+                &sought,
                 &out,
                 mode,
             )
         }
         Command::Verify {
             root,
-            key,
+            sought,
             version,
             proof,
             notation,
         } => {
             let version = Version::of(version).unwrap();
-            proof::verify(rt, root, version, key, proof, notation)
+            proof::verify(rt, root, version, &sought, proof, notation)
         }
     }
 }

@@ -44,6 +44,14 @@ const COMMANDS: &str = "\
      false, force: false }))\n\
     build --quiet out.prl => build ((12, 12, 64, 16777216, 16, 1), (\"out.prl\", [], \
      true, WriteMode { atomic: false, sync: false, force: false }))\n\
+    apply --root 00000000000000000000000000000000 a.prl b.prl => apply ((Ref([0, 0, 0, 0, \
+     0, 0, 0, 0, 0, 0, 0, 0, 0, 0, 0, 0, 0, 0, 0, 0]), None, None), (\"a.prl\", \
+     \"b.prl\", []), (false, WriteMode { atomic: false, sync: false, force: false }))\n\
+    apply --bits 0 a.prl --format 2 b.prl x.rec --quiet y.rec --root \
+     vvvvvvvvvvvvvvvvvvvvvvvvvvvvvvvv --sync => apply ((Ref([255, 255, 255, 255, 255, \
+     255, 255, 255, 255, 255, 255, 255, 255, 255, 255, 255, 255, 255, 255, 255]), \
+     Some(0), Some(2)), (\"a.prl\", \"b.prl\", [\"x.rec\", \"y.rec\"]), (true, \
+     WriteMode { atomic: false, sync: true, force: false }))\n\
     explain a.rec => explain (\"a.rec\", Hex)\n\
     stat --json --text a.prl => stat (\"a.prl\", true, Text)\n\
     scan a.prl 00 1000000 => scan (\"a.prl\", [0], 1000000, None, 1, Hex)\n\
@@ -63,13 +71,13 @@ const COMMANDS: &str = "\
     diff a.prl --atomic --stat --out a.rec b.prl => diff ((\"a.prl\", \"b.prl\", None, \
      1), (Some(\"a.rec\"), true, Hex, WriteMode { atomic: true, sync: false, force: \
      false }))\n\
-    prove a.prl 6B --sync a.prf => prove (\"a.prl\", [107], None, 1, \"a.prf\", \
+    prove a.prl 6B --sync a.prf => prove (\"a.prl\", Key([107]), None, 1, \"a.prf\", \
      WriteMode { atomic: false, sync: true, force: false })\n\
     verify 00000000000000000000000000000000 00 => verify (Ref([0, 0, 0, 0, 0, 0, 0, 0, \
-     0, 0, 0, 0, 0, 0, 0, 0, 0, 0, 0, 0]), [0], 1, None, Hex)\n\
+     0, 0, 0, 0, 0, 0, 0, 0, 0, 0, 0, 0]), Key([0]), 1, None, Hex)\n\
     verify vvvvvvvvvvvvvvvvvvvvvvvvvvvvvvvv 00 a.prf --format 2 => verify (Ref([255, \
      255, 255, 255, 255, 255, 255, 255, 255, 255, 255, 255, 255, 255, 255, 255, 255, \
-     255, 255, 255]), [0], 2, Some(\"a.prf\"), Hex)\n\
+     255, 255, 255]), Key([0]), 2, Some(\"a.prf\"), Hex)\n\
     pack --removals --text a.rec => pack (\"a.rec\", Text, true, WriteMode { atomic: \
      false, sync: false, force: false })\n\
     get --text a.prl a\\x6cl => get (\"a.prl\", [97, 108, 108], None, 1, Text)\n\
@@ -80,7 +88,7 @@ const COMMANDS: &str = "\
      atomic: false, sync: false, force: false })\n\
     diff --text a.prl b.prl => diff ((\"a.prl\", \"b.prl\", None, 1), (None, false, \
      Text, WriteMode { atomic: false, sync: false, force: false }))\n\
-    prove --text a.prl a b => prove (\"a.prl\", [97], None, 1, \"b\", WriteMode { \
+    prove --text a.prl a b => prove (\"a.prl\", Key([97]), None, 1, \"b\", WriteMode { \
      atomic: false, sync: false, force: false })\n\
     pack --force a.rec => pack (\"a.rec\", Hex, false, WriteMode { atomic: false, sync: \
      false, force: true })\n\
@@ -100,16 +108,28 @@ const COMMANDS: &str = "\
      Ref([255, 255, 255, 255, 255, 255, 255, 255, 255, 255, 255, 255, 255, 255, 255, \
      255, 255, 255, 255, 255]) }), 2), (None, false, Hex, WriteMode { atomic: false, \
      sync: false, force: false }))\n\
-    prove a.prl 61 a.prf --force => prove (\"a.prl\", [97], None, 1, \"a.prf\", \
+    prove a.prl 61 a.prf --force => prove (\"a.prl\", Key([97]), None, 1, \"a.prf\", \
      WriteMode { atomic: false, sync: false, force: true })\n\
     verify --text 00000000000000000000000000000000 a => verify (Ref([0, 0, 0, 0, 0, 0, \
-     0, 0, 0, 0, 0, 0, 0, 0, 0, 0, 0, 0, 0, 0]), [97], 1, None, Text)\n\
+     0, 0, 0, 0, 0, 0, 0, 0, 0, 0, 0, 0, 0, 0]), Key([97]), 1, None, Text)\n\
     dump --root 00000000000000000000000000000000 --format 2 a.prl => dump (\"a.prl\", \
      Some(Ref([0, 0, 0, 0, 0, 0, 0, 0, 0, 0, 0, 0, 0, 0, 0, 0, 0, 0, 0, 0])), 2, None, \
      None, WriteMode { atomic: false, sync: false, force: false })\n\
     prove --format 2 a.prl 61 a.prf --root 00000000000000000000000000000000 => prove \
-     (\"a.prl\", [97], Some(Ref([0, 0, 0, 0, 0, 0, 0, 0, 0, 0, 0, 0, 0, 0, 0, 0, 0, 0, \
-     0, 0])), 2, \"a.prf\", WriteMode { atomic: false, sync: false, force: false })\n\
+     (\"a.prl\", Key([97]), Some(Ref([0, 0, 0, 0, 0, 0, 0, 0, 0, 0, 0, 0, 0, 0, 0, 0, 0, \
+     0, 0, 0])), 2, \"a.prf\", WriteMode { atomic: false, sync: false, force: false })\n\
+    prove --from 61 a.prl a.prf => prove (\"a.prl\", Range { from: [97], to: None }, None, \
+     1, \"a.prf\", WriteMode { atomic: false, sync: false, force: false })\n\
+    prove --text a.prl --to b a.prf --sync --from a => prove (\"a.prl\", Range { from: \
+     [97], to: Some([98]) }, None, 1, \"a.prf\", WriteMode { atomic: false, sync: true, \
+     force: false })\n\
+    verify --from 61 vvvvvvvvvvvvvvvvvvvvvvvvvvvvvvvv => verify (Ref([255, 255, 255, 255, \
+     255, 255, 255, 255, 255, 255, 255, 255, 255, 255, 255, 255, 255, 255, 255, 255]), \
+     Range { from: [97], to: None }, 1, None, Hex)\n\
+    verify --from 61 --to 62 --format 2 --text vvvvvvvvvvvvvvvvvvvvvvvvvvvvvvvv a.prf => \
+     verify (Ref([255, 255, 255, 255, 255, 255, 255, 255, 255, 255, 255, 255, 255, 255, \
+     255, 255, 255, 255, 255, 255]), Range { from: [54, 49], to: Some([54, 50]) }, 2, \
+     Some(\"a.prf\"), Text)\n\
 ";
 
 /// A command of this kind, with its fields.
@@ -155,9 +175,23 @@ pub(crate) fn fields_of(alloc: Global, command: &Command) -> Result<String, Allo
     }
 }
 
-/// A command that looks into a file, with its fields.
+/// A command that looks into a file, or makes the next one of it, with its fields.
 fn reader(alloc: Global, command: &Command) -> Result<String, AllocError> {
     match command {
+        Command::Apply {
+            root,
+            bits,
+            version,
+            old,
+            out,
+            changes,
+            quiet,
+            mode,
+        } => told(
+            alloc,
+            "apply",
+            &((root, bits, version), (old, out, changes), (quiet, mode)),
+        ),
         Command::Explain { file, notation } => told(alloc, "explain", &(file, notation)),
         Command::Check {
             file,
@@ -223,19 +257,19 @@ fn writer(alloc: Global, command: &Command) -> Result<String, AllocError> {
         ),
         Command::Prove {
             file,
-            key,
+            sought,
             root,
             version,
             out,
             mode,
-        } => told(alloc, "prove", &(file, key, root, version, out, mode)),
+        } => told(alloc, "prove", &(file, sought, root, version, out, mode)),
         Command::Verify {
             root,
-            key,
+            sought,
             version,
             proof,
             notation,
-        } => told(alloc, "verify", &(root, key, version, proof, notation)),
+        } => told(alloc, "verify", &(root, sought, version, proof, notation)),
         _ => String::from_str(alloc, "another command"),
     }
 }

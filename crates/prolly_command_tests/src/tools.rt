@@ -6,6 +6,7 @@ use std::process::Abort;
 mod build_answers;
 mod diff_answers;
 mod dump_answers;
+mod key_answers;
 pub(crate) mod look_up_answers;
 mod name_answers;
 mod pack_answers;

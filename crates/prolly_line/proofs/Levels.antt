@@ -1,7 +1,7 @@
 -- What stands in the rows of the subcommand that clap enters, by the subcommand as it is built.
 use Rattle.std.proofs.Common.{◌≡◌, ◌∙◌, ℕ, Bool, List, [], ◌∷◌, ◌||◌, ◌&&◌, Option, Some, None}
-use Rattle.std.proofs.Common.{true, false, refl, sym, ap, subst, arith}
-use Rattle.std.specs.Prelude.{find, if◌then◌else◌, not, option_map, pos}
+use Rattle.std.proofs.Common.{true, false, refl, sym, ap, subst, arith, cond, inl, inr}
+use Rattle.std.specs.Prelude.{find, if◌then◌else◌, not, option_and_then, option_map, pos}
 use Rattle.std.specs.List.{list_all, list_any}
 use Rattle.std.specs.Option.{option_map_or}
 use Rattle.std.specs.Str.{bytes_eq}
@@ -13,7 +13,7 @@ use Rattle.clap.specs.Simple.{Shape, built, entered, label_of, names_of}
 use Rattle.clap.specs.Values.{read_as, reading_of}
 use Rattle.clap.specs.ValueTests.{accepts}
 use Rattle.clap.specs.Walk.{Row, Rule, Text, answers_to, arg_by_id, has_row, is_empty, nothing_held}
-use Rattle.clap.specs.Walk.{one_of, first_of, rows_after, stop_after}
+use Rattle.clap.specs.Walk.{one_of, first_of, row_text, rows_after, stop_after}
 use Rattle.clap.proofs.OnLiterals.{clap_on_literals}
 use Rattle.clap.proofs.ValueTestLemmas.{accepts-Accepts}
 use Rattle.clap.specs.declared.builder.value_parser.ValueParser.{ValueParser}
@@ -21,7 +21,7 @@ use Rattle.clap.specs.declared.builder.value_parser.ValueParser.TheVariants.{Sig
 use Rattle.prolly_line.proofs.Passes.{Each, HasPassed, IsSound, level_passed, none_in, wants_value}
 use Rattle.prolly_line.proofs.Presence.{default_present, has_default, has_required}
 use Rattle.prolly_line.proofs.Presence.{required_present, value_present}
-use Rattle.prolly_line.specs.AcceptedWords.{HasNumber, HasWord, IsAccepted}
+use Rattle.prolly_line.specs.AcceptedWords.{HasNumber, HasWord, IsAccepted, MayHaveNumber}
 use Rattle.prolly_line.specs.Line.{line_faults, line_given, program_line}
 
 -- the subcommand that a word names, as clap builds it
@@ -143,14 +143,14 @@ row_there s rows id level sure =
 abbrev pub reader_of : Rule → ValueParser × Bool
 reader_of a = (parser_of_value a.parser, wants_value a)
 
--- the first value under an id that is sure, which passed the parser of its argument
-value_there : (s : Shape) (rows : List Row) (id : Text) (parser : ValueParser) →
+-- the first value under an id that has a row, which passed the parser of its argument
+value_of_row : (s : Shape) (rows : List Row) (id : Text) (parser : ValueParser) →
     Each (IsSound s.rules) s.rules → IsLevelOf s rows
-    → is_sure s id ≡ true → option_map reader_of (arg_by_id s.rules id) ≡ Some (parser, true)
+    → has_row id rows ≡ true → option_map reader_of (arg_by_id s.rules id) ≡ Some (parser, true)
     → (a : Rule) × (text : Text) × (first_of id rows ≡ Some text) ×
     (one_of id rows ≡ Some (read_as (reading_of parser) text))
     × (accepts a.ignore_case parser text ≡ true)
-value_there s rows id parser sound level sure reader = go (arg_by_id s.rules id) refl reader
+value_of_row s rows id parser sound level there reader = go (arg_by_id s.rules id) refl reader
   where
     passed : Each (HasPassed s.rules) rows
     passed = subst (Each (HasPassed s.rules)) (sym level.1)
@@ -167,7 +167,7 @@ value_there s rows id parser sound level sure reader = go (arg_by_id s.rules id)
         let is : parser_of_value a.parser ≡ parser =
         ap (λ (x : ValueParser × Bool). x.0) both in
         let wants : wants_value a ≡ true = ap (λ (x : ValueParser × Bool). x.1) both in
-        let got = value_present s.rules rows id a passed (row_there s rows id level sure) e
+        let got = value_present s.rules rows id a passed there e
         wants in (
           a,
           got.0,
@@ -176,6 +176,16 @@ value_there s rows id parser sound level sure reader = go (arg_by_id s.rules id)
               got.2,
           subst (λ (p : ValueParser). accepts a.ignore_case p got.0 ≡ true) is got.3,
         )
+
+-- the same of an id that is sure
+value_there : (s : Shape) (rows : List Row) (id : Text) (parser : ValueParser) →
+    Each (IsSound s.rules) s.rules → IsLevelOf s rows
+    → is_sure s id ≡ true → option_map reader_of (arg_by_id s.rules id) ≡ Some (parser, true)
+    → (a : Rule) × (text : Text) × (first_of id rows ≡ Some text) ×
+    (one_of id rows ≡ Some (read_as (reading_of parser) text))
+    × (accepts a.ignore_case parser text ≡ true)
+value_there s rows id parser sound level sure reader =
+    value_of_row s rows id parser sound level (row_there s rows id level sure) reader
 
 -- a number of an accepted subcommand
 pub number_at : (s : Shape) (rows : List Row) (id : Text) (low high : ℕ) →
@@ -190,6 +200,34 @@ number_at s rows id low high sound level sure reader =
       accepts-Accepts there.0.ignore_case (Signed (pos low) (pos high)) there.1
           there.4,
     )
+
+-- an id without a row has no value
+none_there : (id : Text) (rows : List Row) → has_row id rows ≡ false → one_of id rows ≡ None
+none_there id [] none = refl
+none_there id (r ∷ rs) none = go (none_there id rs) (bytes_eq r.id id) none
+  where
+    go : (has_row id rs ≡ false → one_of id rs ≡ None) → (b : Bool) → (b || has_row id rs) ≡ false
+        → option_and_then row_text (cond b (Some r) (find (λ x. bytes_eq x.id id) rs)) ≡ None
+    go below true k = cc
+    go below false k = below k
+
+-- a number of an accepted subcommand that may be missing
+pub number_if_any : (s : Shape) (rows : List Row) (id : Text) (low high : ℕ) →
+    Each (IsSound s.rules) s.rules → IsLevelOf s rows
+    → option_map reader_of (arg_by_id s.rules id) ≡ Some (Signed (pos low) (pos high), true)
+    → MayHaveNumber id low high rows
+number_if_any s rows id low high sound level reader = go (has_row id rows) refl
+  where
+    go : (b : Bool) → has_row id rows ≡ b → MayHaveNumber id low high rows
+    go false none = inl (none_there id rows none)
+    go true some =
+        let there = value_of_row s rows id (Signed (pos low) (pos high)) sound level some reader in
+        inr (
+          there.1,
+          there.3,
+          accepts-Accepts there.0.ignore_case (Signed (pos low) (pos high)) there.1
+              there.4,
+        )
 
 -- a word of an accepted subcommand
 pub word_at : (s : Shape) (rows : List Row) (id : Text) → Each (IsSound s.rules) s.rules →

@@ -4,7 +4,7 @@ mod Levels
 mod LineLemmas
 -- One more argument of a command whose line is known.
 mod LineSteps
--- An accepted subcommand is one of the fourteen.
+-- An accepted subcommand is one of the fifteen.
 mod Names
 -- Where clap takes the words, each value that it gives passed the parser of its argument.
 mod Passes

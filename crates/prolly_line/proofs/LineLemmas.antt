@@ -1,7 +1,7 @@
 -- What clap's clauses say of the program's command line.
-use Rattle.std.proofs.Common.{◌≡◌, ◌∙◌, ℕ, Bool, List, [], Option, Some, None, true, refl, sym, ap}
-use Rattle.std.proofs.Common.{subst, inl, inr}
-use Rattle.std.specs.Prelude.{IfErr, IfOk, Result, Ok, Err}
+use Rattle.std.proofs.Common.{◌≡◌, ◌∙◌, ◌≤◌, ℕ, Bool, List, [], Option, Some, None, true, refl, sym, ap}
+use Rattle.std.proofs.Common.{subst, inl, inr, codes}
+use Rattle.std.specs.Prelude.{IfErr, IfOk, IfSome, Result, Ok, Err}
 use Rattle.clap.specs.Words.{App, HasKind, HasMatchesOf, Row, Text, app_of, fault_of}
 use Rattle.clap.specs.Words.{is_simple, is_simple_and_free, kind_of, subcommand_of}
 use Rattle.clap.specs.Words.{subcommand_rows_of}
@@ -13,18 +13,23 @@ use Rattle.clap.proofs.OnLiterals.{clap_on_literals}
 use Rattle.prolly_entry.specs.declared.reference.Ref.{Ref}
 use Rattle.prolly_line.specs.AcceptedWords.{Answers, IsRefusedAt}
 use Rattle.prolly_line.specs.GivenCommand.{GivesTrust, HasFields, IsAskedFor, IsGivenBy}
-use Rattle.prolly_line.specs.GivenCommand.{AreLawfulRoots, IsLawfulTrust, MayGiveRoots}
+use Rattle.prolly_line.specs.GivenCommand.{AreLawfulRoots, GivesSought, IsLawfulSought, IsLawfulTrust}
+use Rattle.prolly_line.specs.GivenCommand.{MayGiveNumber, MayGiveRoots}
 use Rattle.prolly_line.specs.GivenCommand.{IsRefusalOf, IsRefusedBy, IsWithinLimits}
 use Rattle.prolly_line.specs.Line.{line_faults, line_given, program_line}
 use Rattle.prolly_line.specs.declared.command.Command.{Command}
-use Rattle.prolly_line.specs.declared.command.Command.TheVariants.{Pack, Scratch, Build, Explain}
-use Rattle.prolly_line.specs.declared.command.Command.TheVariants.{Check, Root, Stat, Get, Scan}
-use Rattle.prolly_line.specs.declared.command.Command.TheVariants.{Nth, Dump, Diff, Prove, Verify}
+use Rattle.prolly_line.specs.declared.command.Command.TheVariants.{Pack, Scratch, Build, Apply}
+use Rattle.prolly_line.specs.declared.command.Command.TheVariants.{Explain, Check, Root, Stat, Get}
+use Rattle.prolly_line.specs.declared.command.Command.TheVariants.{Scan, Nth, Dump, Diff, Prove}
+use Rattle.prolly_line.specs.declared.command.Command.TheVariants.{Verify}
 use Rattle.prolly_line.specs.declared.command.ParseFault.{ParseFault}
 use Rattle.prolly_line.specs.declared.command.RootPair.{RootPair}
 use Rattle.prolly_line.specs.declared.command.ParseFault.TheVariants.{Memory, Usage, Help}
 use Rattle.prolly_line.specs.declared.command.ParseFault.TheVariants.{BadRoot, LoneRoot, BadKey}
 use Rattle.prolly_line.specs.declared.command.ParseFault.TheVariants.{BadTextKey}
+use Rattle.prolly_line.specs.declared.command.Sought.{Sought}
+use Rattle.prolly_line.specs.declared.command.Sought.TheVariants.{Key, Range}
+use Rattle.prolly_text.specs.declared.notation.Notation.{Notation}
 
 -- ---- clap's model holds of the line
 
@@ -96,7 +101,7 @@ refused_by c words e fault line kinds refusal = go fault (error_at c words e lin
     go (Usage text) k r = elim k [
       | inl memory ↦ absurd (r.0 memory)
       | inr among ↦
-          (kind_of e, among, r.1)
+          inl (kind_of e, among, r.1)
     ]
     go (Help text) k r = elim k [
       | inl memory ↦ absurd (enough memory r)
@@ -119,7 +124,7 @@ answers_words words given (Err fault) entered refused = (tt, go fault refused)
   where
     go : (fault : ParseFault) → IsRefusedAt given fault → IsRefusedBy words fault
     go Memory r = tt
-    go (Usage text) r = absurd r
+    go (Usage text) r = inr (entered.0, (given, entered.1, r))
     go (Help text) r = absurd r
     go BadRoot r = (entered.0, (given, entered.1, r))
     go LoneRoot r = (entered.0, (given, entered.1, r))
@@ -132,11 +137,31 @@ lawful_trust : (rows : List Row) (root : Option Ref) (version : ℕ) → GivesTr
 lawful_trust rows None version h = (tt, h.1.1, h.1.2)
 lawful_trust rows (Some root) version h = (h.0.1, h.1.1, h.1.2)
 
+-- so is what is sought
+lawful_sought : (rows : List Row) (notation : Notation) (sought : Sought) →
+    GivesSought rows notation sought → IsLawfulSought sought
+lawful_sought rows notation (Key key) h = h.1.1.2.1
+lawful_sought rows notation (Range from None) h = (h.0.1.2.1, tt)
+lawful_sought rows notation (Range from (Some to)) h = (h.0.1.2.1, h.1.1.2.1)
+
 -- so are the roots of two trees
 lawful_roots : (rows : List Row) (roots : Option RootPair) → MayGiveRoots rows roots →
     AreLawfulRoots roots
 lawful_roots rows None h = tt
 lawful_roots rows (Some roots) h = (h.0.1, h.1.1)
+
+-- bits that may be missing are within their limits
+bits_kept : (rows : List Row) (bits : Option ℕ) → MayGiveNumber rows (codes "bits") 0 24 bits →
+    IfSome bits (λ bits. bits ≤ 24)
+bits_kept rows None h = tt
+bits_kept rows (Some bits) h = h.2
+
+-- and so is a version
+version_kept : (rows : List Row) (version : Option ℕ) →
+    MayGiveNumber rows (codes "format") 1 2 version →
+    IfSome version (λ version. (1 ≤ version) × (version ≤ 2))
+version_kept rows None h = tt
+version_kept rows (Some version) h = (h.1, h.2)
 
 -- the fields that an accepted subcommand gives are within the limits
 pub limits_kept : (given : Text × List Row) (answer : Result Command ParseFault) →
@@ -148,6 +173,11 @@ limits_kept given (Ok command) fields = go command fields
     go (Scratch bits version out mode) h = (h.1.2, h.2.1, h.2.2)
     go (Build bits stages capacity max_records batch version out files quiet mode) h =
         (h.1.2, h.2.1, h.2.2, h.3.1, h.3.2, h.4.1, h.4.2, h.5.1, h.5.2, h.6.1, h.6.2)
+    go (Apply root bits version old out changes quiet mode) h = (
+      h.1.1,
+      bits_kept given.1 bits h.2,
+      version_kept given.1 version h.3,
+    )
     go (Explain file notation) h = tt
     go (Check file root version) h = lawful_trust given.1 root version h.2
     go (Root file) h = tt
@@ -160,7 +190,10 @@ limits_kept given (Ok command) fields = go command fields
     go (Dump file root version out lines mode) h = lawful_trust given.1 root version h.2
     go (Diff old new roots version out stat notation mode) h =
         (lawful_roots given.1 roots h.3, h.4.1, h.4.2)
-    go (Prove file key root version out mode) h =
-        (h.2.1.1.2.1, lawful_trust given.1 root version h.3)
-    go (Verify root key version proof notation) h = (h.1.1, h.2.1.2.1, h.3.1, h.3.2)
+    go (Prove file sought root version out mode) h = (
+      lawful_sought given.1 h.2.0 sought h.2.1,
+      lawful_trust given.1 root version h.3,
+    )
+    go (Verify root sought version proof notation) h =
+        (h.1.1, lawful_sought given.1 notation sought h.2, h.3.1, h.3.2)
 limits_kept given (Err fault) refused = tt

@@ -1,4 +1,4 @@
--- An accepted subcommand is one of the fourteen.
+-- An accepted subcommand is one of the fifteen.
 use Rattle.std.proofs.Common.{◌≡◌, ◌∙◌, List, false, true, refl, sym, subst, codes}
 use Rattle.std.specs.Str.{bytes_eq}
 use Rattle.std.proofs.lemmas.Slice.Eq.{bytes_eq-Decides}
@@ -16,6 +16,7 @@ pub record IsStrange (name : Text) : Type 0 where
   pub pack : name ≡ codes "pack" → ⊥
   pub scratch : name ≡ codes "scratch" → ⊥
   pub build : name ≡ codes "build" → ⊥
+  pub apply : name ≡ codes "apply" → ⊥
   pub explain : name ≡ codes "explain" → ⊥
   pub check : name ≡ codes "check" → ⊥
   pub root : name ≡ codes "root" → ⊥
@@ -39,28 +40,31 @@ none_strange = (
     (
       (λ strange. strange.build refl),
       (
-        (λ strange. strange.explain refl),
+        (λ strange. strange.apply refl),
         (
-          (λ strange. strange.check refl),
+          (λ strange. strange.explain refl),
           (
-            (λ strange. strange.root refl),
+            (λ strange. strange.check refl),
             (
-              (λ strange. strange.stat refl),
+              (λ strange. strange.root refl),
               (
-                (λ strange. strange.get refl),
+                (λ strange. strange.stat refl),
                 (
-                  (λ strange. strange.scan refl),
+                  (λ strange. strange.get refl),
                   (
-                    (λ strange. strange.nth refl),
+                    (λ strange. strange.scan refl),
                     (
-                      (λ strange. strange.dump refl),
+                      (λ strange. strange.nth refl),
                       (
-                        (λ strange. strange.diff refl),
+                        (λ strange. strange.dump refl),
                         (
-                          (λ strange. strange.prove refl),
+                          (λ strange. strange.diff refl),
                           (
-                            (λ strange. strange.verify refl),
-                            ((λ strange. strange.help refl), tt),
+                            (λ strange. strange.prove refl),
+                            (
+                              (λ strange. strange.verify refl),
+                              ((λ strange. strange.help refl), tt),
+                            ),
                           ),
                         ),
                       ),
@@ -88,16 +92,16 @@ not_help given accepted is =
     let bad : true ≡ false = sym same ∙ past in
     cc
 
--- and so an accepted subcommand has the name of one of the fourteen
+-- and so an accepted subcommand has the name of one of the fifteen
 pub not_strange : (name : Text) (rows : List Row) → IsAccepted (name, rows)
     → (name ≡ codes "pack" → ⊥) → (name ≡ codes "scratch" → ⊥) → (name ≡ codes "build" → ⊥) →
-    (name ≡ codes "explain" → ⊥) → (name ≡ codes "check" → ⊥) → (name ≡ codes "root" → ⊥) →
+    (name ≡ codes "apply" → ⊥) → (name ≡ codes "explain" → ⊥) → (name ≡ codes "check" → ⊥) → (name ≡ codes "root" → ⊥) →
     (name ≡ codes "stat" → ⊥)
     → (name ≡ codes "get" → ⊥) → (name ≡ codes "scan" → ⊥) → (name ≡ codes "nth" → ⊥)
     → (name ≡ codes "dump" → ⊥) → (name ≡ codes "diff" → ⊥) → (name ≡ codes "prove" → ⊥) →
     (name ≡ codes "verify" → ⊥) → ⊥
-not_strange name rows accepted pack scratch build explain check root stat get scan nth dump diff
-    prove verify =
+not_strange name rows accepted pack scratch build apply explain check root stat get scan nth dump
+    diff prove verify =
     let level = accepted_level accepted.0 (name, rows) accepted.1 accepted.2 in
     let is : level.0.name ≡ name = found_name name (built program_line).subs level.0 no_aliases
     level.1 in
@@ -108,6 +112,7 @@ not_strange name rows accepted pack scratch build explain check root stat get sc
       pack = pack;
       scratch = scratch;
       build = build;
+      apply = apply;
       explain = explain;
       check = check;
       root = root;

@@ -4,11 +4,12 @@ use Rattle.std.proofs.Common.{◌≡◌, List, Some, refl, codes}
 use Rattle.clap.specs.Simple.{App, Shape, built_leaf, inherited, marked_built, with_leaf_noted}
 use Rattle.clap.specs.Walk.{Row}
 use Rattle.clap.proofs.OnLiterals.{clap_on_literals}
-use Rattle.prolly_line.proofs.Levels.{level_at, number_at, shape_at, word_at}
+use Rattle.prolly_line.proofs.Levels.{level_at, number_at, number_if_any, shape_at, word_at}
 use Rattle.prolly_line.proofs.Passes.{Each, IsSound}
 use Rattle.prolly_line.proofs.Sound.{all_sound}
 use Rattle.prolly_line.specs.AcceptedWords.{HasNumber, HasWord, IsAccepted}
-use Rattle.prolly_line.specs.Line.{build_line, check_line, diff_line, dump_line, explain_line}
+use Rattle.prolly_line.specs.AcceptedWords.{MayHaveNumber}
+use Rattle.prolly_line.specs.Line.{apply_line, build_line, check_line, diff_line, dump_line, explain_line}
 use Rattle.prolly_line.specs.Line.{get_line, nth_line, pack_line, program_line, prove_line, root_line}
 use Rattle.prolly_line.specs.Line.{scan_line, scratch_line, stat_line, verify_line}
 
@@ -109,6 +110,38 @@ takes_build rows accepted =
       batch = number_at build_shape rows (codes "batch") 1 1024 build_sound level refl refl;
       format = number_at build_shape rows (codes "format") 1 2 build_sound level refl refl;
       out = word_at build_shape rows (codes "out") build_sound level refl refl;
+    }
+
+-- ---- apply
+
+unfoldable apply_shape : Shape
+apply_shape = built_of apply_line
+
+apply_found : shape_at (codes "apply") ≡ Some apply_shape
+unfolding clap_on_literals apply_shape
+apply_found = refl
+
+apply_sound : IsSoundShape apply_shape
+unfolding clap_on_literals apply_shape
+apply_sound = all_sound apply_shape.rules refl
+
+pub record TakesApply (rows : List Row) : Type 0 where
+  pub root : HasWord (codes "root") rows
+  pub bits : MayHaveNumber (codes "bits") 0 24 rows
+  pub format : MayHaveNumber (codes "format") 1 2 rows
+  pub old : HasWord (codes "old") rows
+  pub out : HasWord (codes "out") rows
+
+pub takes_apply : (rows : List Row) → IsAccepted (codes "apply", rows) → TakesApply rows
+unfolding clap_on_literals apply_shape
+takes_apply rows accepted =
+    let level = level_at (codes "apply") apply_shape rows apply_found accepted in
+    record {
+      root = word_at apply_shape rows (codes "root") apply_sound level refl refl;
+      bits = number_if_any apply_shape rows (codes "bits") 0 24 apply_sound level refl;
+      format = number_if_any apply_shape rows (codes "format") 1 2 apply_sound level refl;
+      old = word_at apply_shape rows (codes "old") apply_sound level refl refl;
+      out = word_at apply_shape rows (codes "out") apply_sound level refl refl;
     }
 
 -- ---- explain
@@ -365,8 +398,6 @@ prove_sound = all_sound prove_shape.rules refl
 pub record TakesProve (rows : List Row) : Type 0 where
   pub format : HasNumber (codes "format") 1 2 rows
   pub file : HasWord (codes "file") rows
-  pub key : HasWord (codes "key") rows
-  pub out : HasWord (codes "out") rows
 
 pub takes_prove : (rows : List Row) → IsAccepted (codes "prove", rows) → TakesProve rows
 unfolding clap_on_literals prove_shape
@@ -375,8 +406,6 @@ takes_prove rows accepted =
     record {
       format = number_at prove_shape rows (codes "format") 1 2 prove_sound level refl refl;
       file = word_at prove_shape rows (codes "file") prove_sound level refl refl;
-      key = word_at prove_shape rows (codes "key") prove_sound level refl refl;
-      out = word_at prove_shape rows (codes "out") prove_sound level refl refl;
     }
 
 -- ---- verify
@@ -394,7 +423,6 @@ verify_sound = all_sound verify_shape.rules refl
 
 pub record TakesVerify (rows : List Row) : Type 0 where
   pub root : HasWord (codes "root") rows
-  pub key : HasWord (codes "key") rows
   pub format : HasNumber (codes "format") 1 2 rows
 
 pub takes_verify : (rows : List Row) → IsAccepted (codes "verify", rows) → TakesVerify rows
@@ -403,6 +431,5 @@ takes_verify rows accepted =
     let level = level_at (codes "verify") verify_shape rows verify_found accepted in
     record {
       root = word_at verify_shape rows (codes "root") verify_sound level refl refl;
-      key = word_at verify_shape rows (codes "key") verify_sound level refl refl;
       format = number_at verify_shape rows (codes "format") 1 2 verify_sound level refl refl;
     }

@@ -1,6 +1,6 @@
 -- What the getters of clap's matches give, by the rows of the subcommand.
 use Rattle.std.proofs.Common.{◌<◌, ◌≤◌, ◌^◌, ◌≡◌, ◌∙◌, ℕ, List, Option, Some, None, refl, sym, ap}
-use Rattle.std.proofs.Common.{subst, arith, option_map, true, false}
+use Rattle.std.proofs.Common.{subst, arith, option_map, true, false, inl, inr}
 use Rattle.std.specs.Prelude.{is_some}
 use Rattle.std.specs.Prelude.{Result, Ok}
 use Rattle.std.specs.Borrow.{Bor}
@@ -11,8 +11,12 @@ use Rattle.clap.specs.Words.{Row, Text, first_of, one_text, rows_of, without_min
 use Rattle.clap.specs.declared.parser.matches.Found.{Found}
 use Rattle.clap.proofs.CallerReads.{signed_reads}
 use Rattle.clap.proofs.WalkLemmas.{first_value-rows, one_text-rows}
-use Rattle.prolly_line.specs.AcceptedWords.{HasNumber, HasWord, ReadsNumber}
-use Rattle.prolly_line.specs.GivenCommand.{decimal_of, number_given}
+use Rattle.prolly_line.specs.AcceptedWords.{DoFit, HasNumber, HasWord, MayReadNumber, ReadsNumber}
+use Rattle.prolly_line.specs.GivenCommand.{GivesSought, MayGiveNumber, decimal_of, number_given}
+use Rattle.prolly_line.specs.GivenCommand.{place_of_last}
+use Rattle.prolly_line.specs.declared.command.Sought.{Sought}
+use Rattle.prolly_line.specs.declared.command.Sought.TheVariants.{Key, Range}
+use Rattle.prolly_text.specs.declared.notation.Notation.{Notation}
 
 -- a typed getter gives a number where a numeral in its range stands under the name
 pub number_there : (E : Type 0) (G : Text → Result ℕ E → Type 0) (k low high : ℕ) (f : Found)
@@ -69,6 +73,20 @@ reads_number E G k bound f id r n is fits only none value low high most has =
       omega arith,
     )
 
+-- what a typed getter gave is the number that may stand under the name, or none
+pub may_read_number : (E : Type 0) (G : Text → Result ℕ E → Type 0) (k bound : ℕ) (f : Found)
+    (id : Text) (r : Option ℕ) → bound < 2 ^ k
+    → ((t : Text) (x : Result ℕ E) → G t x → ParsesUnsigned k 10 t x)
+    → (one_text f id ≡ None → r ≡ None) → ((t : Text) → one_text f id ≡ Some t → ReadsOne G t r)
+    → MayReadNumber bound id (rows_of f) r
+may_read_number E G k bound f id r fits only none value low high most (inl gone) =
+    subst (MayGiveNumber (rows_of f) id low high) (sym (none (one_text-rows f id ∙ gone)))
+    (ap (option_map decimal_of) gone)
+may_read_number E G k bound f id r fits only none value low high most (inr has) =
+    let there = number_there E G k low high f id r only (omega arith) has value in
+    subst (MayGiveNumber (rows_of f) id low high) (sym there.1)
+    (reads_number E G k bound f id r there.0 there.1 fits only none value low high most has)
+
 -- the first word under a name, where the getter gave it
 pub word_read : (f : Found) (id : Text) (r : Option (Bor Text)) (s : Bor Text) →
     option_map (λ x. x.now) r ≡ first_value f id → r ≡ Some s
@@ -82,3 +100,10 @@ pub word_given : (f : Found) (id : Text) (r : Option (Bor Text)) →
     (is_some r ≡ true → HasWord id (rows_of f)) × (is_some r ≡ false → first_of id (rows_of f) ≡ None)
 word_given f id None e = (λ yes. cc, λ no. sym (first_value-rows f id) ∙ sym e)
 word_given f id (Some s) e = (λ yes. (s.now, sym (first_value-rows f id) ∙ sym e), λ no. cc)
+
+-- the last word is there, where it is needed and the words fit
+pub last_there : (rows : List Row) (notation : Notation) (sought : Sought) (last : Text) →
+    DoFit last true rows → GivesSought rows notation sought →
+    HasWord (place_of_last sought last) rows
+last_there rows notation (Key key) last fit h = fit.last_word h.0 refl
+last_there rows notation (Range from to) last fit h = fit.in_place (h.0.1.0, h.0.1.1) refl

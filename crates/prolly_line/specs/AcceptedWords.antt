@@ -1,16 +1,21 @@
 -- What stands in the rows of a subcommand whose words clap takes, and what is made of them.
-use Rattle.std.specs.Prelude.{◌≡◌, ◌≤◌, ⊤, ℕ, pos, Result, MatchResult, Option, Some, List, []}
+use Rattle.std.specs.Prelude.{◌≡◌, ◌≤◌, ⊤, ℕ, ◌⊎◌, pos, Bool, true, Result, MatchResult}
+use Rattle.std.specs.Prelude.{Option, Some, None, List, [], codes}
 use Rattle.clap.specs.Values.{IsSignedIn}
-use Rattle.clap.specs.Words.{Row, Text, first_of, found_of, one_of, rows_of, without_minus}
+use Rattle.clap.specs.Words.{Row, Text, found_of, one_of, rows_of, without_minus}
 use Rattle.clap.specs.declared.parser.matches.ArgMatches.{ArgMatches}
 use Rattle.prolly_line.specs.Line.{line_faults, line_given}
 use Rattle.prolly_entry.specs.declared.reference.Ref.{Ref}
-use Rattle.prolly_line.specs.GivenCommand.{GivesBadKey, GivesBadRoot, GivesNumber, HasBadKey}
+use Rattle.prolly_line.specs.GivenCommand.{GivesBadKey, GivesBadKeyAs, GivesBadRange, GivesBadRoot}
+use Rattle.prolly_line.specs.GivenCommand.{GivesBadSought, GivesNumber, HasBadKey, HasMisfit}
+use Rattle.prolly_line.specs.GivenCommand.{HasNone}
+pub use Rattle.prolly_line.specs.GivenCommand.{HasWord}
 use Rattle.prolly_line.specs.GivenCommand.{GivesBadPair, GivesLoneRoot, HasBadRoot, HasLoneRoot}
-use Rattle.prolly_line.specs.GivenCommand.{HasFields, MayGiveRoot}
+use Rattle.prolly_line.specs.GivenCommand.{HasFields, MayGiveNumber, MayGiveRoot}
 use Rattle.prolly_line.specs.declared.command.Command.{Command}
 use Rattle.prolly_line.specs.declared.command.ParseFault.{ParseFault}
 use Rattle.prolly_line.specs.declared.command.ParseFault.TheVariants.{Memory, BadRoot, LoneRoot}
+use Rattle.prolly_line.specs.declared.command.ParseFault.TheVariants.{Usage}
 use Rattle.prolly_line.specs.declared.command.ParseFault.TheVariants.{BadKey, BadTextKey}
 use Rattle.prolly_text.specs.declared.notation.Notation.TheVariants.{Hex, Text as AsText}
 
@@ -28,19 +33,34 @@ HasNumber name least most rows =
     (text : Text) × (one_of name rows ≡ Some (without_minus text)) ×
     IsSignedIn (pos least) (pos most) text
 
+-- a numeral from least to most stands under this name, or none
+abbrev pub MayHaveNumber : Text → ℕ → ℕ → List Row → Type 0
+MayHaveNumber name least most rows = (one_of name rows ≡ None) ⊎ HasNumber name least most rows
+
 -- the number under this name, in each range up to a bound in which the numeral lies
 abbrev pub ReadsNumber : ℕ → Text → List Row → ℕ → Type 0
 ReadsNumber bound name rows n =
     (least most : ℕ) → most ≤ bound → HasNumber name least most rows
     → GivesNumber rows name least most n
 
--- a word stands under this name
-abbrev pub HasWord : Text → List Row → Type 0
-HasWord name rows = (text : Text) × (first_of name rows ≡ Some text)
+-- the same of a number that may be missing
+abbrev pub MayReadNumber : ℕ → Text → List Row → Option ℕ → Type 0
+MayReadNumber bound name rows n =
+    (least most : ℕ) → most ≤ bound → MayHaveNumber name least most rows
+    → MayGiveNumber rows name least most n
+
+-- what follows of words that fit where a key or a range is sought
+pub record DoFit (last : Text) (needs_last : Bool) (rows : List Row) : Type 0 where
+  pub no_to : HasNone (codes "from") rows → HasNone (codes "to") rows
+  pub key : HasNone (codes "from") rows → HasWord (codes "key") rows
+  pub last_word : HasNone (codes "from") rows → needs_last ≡ true → HasWord last rows
+  pub no_last : HasWord (codes "from") rows → HasNone last rows
+  pub in_place : HasWord (codes "from") rows → needs_last ≡ true → HasWord (codes "key") rows
 
 -- an accepted subcommand is refused in this way
 abbrev pub IsRefusedAt : Text × List Row → ParseFault → Type 0
 IsRefusedAt given Memory = ⊤
+IsRefusedAt given (Usage text) = HasMisfit given
 IsRefusedAt given BadRoot = HasBadRoot given
 IsRefusedAt given LoneRoot = HasLoneRoot given
 IsRefusedAt given BadKey = HasBadKey given Hex
@@ -57,12 +77,26 @@ AreRefusedRoots rows BadRoot = GivesBadPair rows
 AreRefusedRoots rows LoneRoot = GivesLoneRoot rows
 AreRefusedRoots rows _ = ⊥
 
--- the word for the key is refused in this way
-abbrev pub IsRefusedKey : List Row → ParseFault → Type 0
-IsRefusedKey rows Memory = ⊤
-IsRefusedKey rows BadKey = GivesBadKey rows Hex
-IsRefusedKey rows BadTextKey = GivesBadKey rows AsText
-IsRefusedKey rows _ = ⊥
+-- the word for a key under a name is refused in this way
+abbrev pub IsRefusedKey : Text → List Row → ParseFault → Type 0
+IsRefusedKey name rows Memory = ⊤
+IsRefusedKey name rows BadKey = GivesBadKeyAs name rows Hex
+IsRefusedKey name rows BadTextKey = GivesBadKeyAs name rows AsText
+IsRefusedKey name rows _ = ⊥
+
+-- the words for the keys of a range are refused in this way
+abbrev pub IsRefusedRange : List Row → ParseFault → Type 0
+IsRefusedRange rows Memory = ⊤
+IsRefusedRange rows BadKey = GivesBadRange rows Hex
+IsRefusedRange rows BadTextKey = GivesBadRange rows AsText
+IsRefusedRange rows _ = ⊥
+
+-- the words for what is sought are refused in this way
+abbrev pub IsRefusedSought : List Row → ParseFault → Type 0
+IsRefusedSought rows Memory = ⊤
+IsRefusedSought rows BadKey = GivesBadSought rows Hex
+IsRefusedSought rows BadTextKey = GivesBadSought rows AsText
+IsRefusedSought rows _ = ⊥
 
 -- what a look-up trusts, or the word for its key, is refused in this way: the key only where the
 -- root is good

@@ -2,6 +2,7 @@
 use Rattle.std.specs.Prelude.{◌≡◌, ◌≢◌, ◌≤◌, ◌↔◌, Bool, true, false, IsTrue, ⊤, ℕ, ◌⊎◌}
 use Rattle.std.specs.Prelude.{Option, Some, None, List, [], IfSome}
 use Rattle.std.specs.Prelude.{length, map, option_map, string_bytes, codes, unwrap_or}
+use Rattle.std.specs.Global.{Vec}
 use Rattle.std.specs.Str.Parse.{digits_value, without_leading_plus}
 use Rattle.clap.specs.Words.{IsAmong, Row, Text, all_of, first_of, one_of}
 use Rattle.clap.specs.declared.error.kind.ErrorKind.{ErrorKind}
@@ -15,9 +16,12 @@ use Rattle.prolly_text.specs.declared.notation.Notation.TheVariants.{Hex, Text a
 use Rattle.prolly_line.specs.Line.{line_faults, line_given}
 use Rattle.prolly_line.specs.declared.command.Command.{Command}
 use Rattle.prolly_line.specs.declared.command.WriteMode.{WriteMode}
-use Rattle.prolly_line.specs.declared.command.Command.TheVariants.{Pack, Scratch, Build, Explain}
-use Rattle.prolly_line.specs.declared.command.Command.TheVariants.{Check, Root, Stat, Get, Scan}
-use Rattle.prolly_line.specs.declared.command.Command.TheVariants.{Nth, Dump, Diff, Prove, Verify}
+use Rattle.prolly_line.specs.declared.command.Command.TheVariants.{Pack, Scratch, Build, Apply}
+use Rattle.prolly_line.specs.declared.command.Command.TheVariants.{Explain, Check, Root, Stat, Get}
+use Rattle.prolly_line.specs.declared.command.Command.TheVariants.{Scan, Nth, Dump, Diff, Prove}
+use Rattle.prolly_line.specs.declared.command.Command.TheVariants.{Verify}
+use Rattle.prolly_line.specs.declared.command.Sought.{Sought}
+use Rattle.prolly_line.specs.declared.command.Sought.TheVariants.{Key, Range}
 use Rattle.prolly_line.specs.declared.command.ParseFault.{ParseFault}
 use Rattle.prolly_line.specs.declared.command.RootPair.{RootPair}
 use Rattle.prolly_line.specs.declared.command.ParseFault.TheVariants.{Memory, Usage, Help}
@@ -37,6 +41,11 @@ number_given name rows = option_map decimal_of (one_of name rows)
 -- the number under a name, which lies from least to most
 abbrev pub GivesNumber : List Row → Text → ℕ → ℕ → ℕ → Type 0
 GivesNumber rows name least most n = (number_given name rows ≡ Some n) × (least ≤ n) × (n ≤ most)
+
+-- the number under a name, which lies from least to most, or none where the words have none
+abbrev pub MayGiveNumber : List Row → Text → ℕ → ℕ → Option ℕ → Type 0
+MayGiveNumber rows name least most None = number_given name rows ≡ None
+MayGiveNumber rows name least most (Some n) = GivesNumber rows name least most n
 
 -- the word under a name, as it stands
 abbrev pub GivesWord : List Row → Text → Text → Type 0
@@ -82,18 +91,77 @@ GivesLines rows None = GivesNotation rows Hex × GivesFlag rows (codes "hex") fa
 abbrev pub IsKeyText : Notation → Text → List ℕ → Type 0
 IsKeyText notation text key = IsWritten notation text key × (length key ≤ 1024)
 
+-- the notation, and the bytes that the word under a name writes in it
+abbrev pub GivesKeyAs : Text → List Row → Notation → List ℕ → Type 0
+GivesKeyAs name rows notation key =
+    GivesNotation rows notation
+    × ((text : Text) × (first_of name rows ≡ Some text) × IsKeyText notation text key)
+
 -- the notation, and the bytes that the word for the key writes in it
 abbrev pub GivesKey : List Row → Notation → List ℕ → Type 0
-GivesKey rows notation key =
-    GivesNotation rows notation
-    × ((text : Text) × (first_of (codes "key") rows ≡ Some text) × IsKeyText notation text key)
+GivesKey rows notation key = GivesKeyAs (codes "key") rows notation key
 
--- the word for the key is no text of a key in this notation, which the words give
-abbrev pub GivesBadKey : List Row → Notation → Type 0
-GivesBadKey rows notation =
+-- the same of a key that may be missing: there is none where there is no word for it
+abbrev pub MayGiveKeyAs : Text → List Row → Notation → Option (Vec ℕ) → Type 0
+MayGiveKeyAs name rows notation None = first_of name rows ≡ None
+MayGiveKeyAs name rows notation (Some key) = GivesKeyAs name rows notation key.items
+
+-- the word under a name is no text of a key in this notation, which the words give
+abbrev pub GivesBadKeyAs : Text → List Row → Notation → Type 0
+GivesBadKeyAs name rows notation =
     GivesNotation rows notation
-    × ((text : Text) × (first_of (codes "key") rows ≡ Some text)
+    × ((text : Text) × (first_of name rows ≡ Some text)
     × ((key : List ℕ) → IsKeyText notation text key → ⊥))
+
+-- the same of the word for the key
+abbrev pub GivesBadKey : List Row → Notation → Type 0
+GivesBadKey rows notation = GivesBadKeyAs (codes "key") rows notation
+
+-- no word stands under a name
+abbrev pub HasNone : Text → List Row → Type 0
+HasNone name rows = first_of name rows ≡ None
+
+-- a word stands under a name
+abbrev pub HasWord : Text → List Row → Type 0
+HasWord name rows = (text : Text) × (first_of name rows ≡ Some text)
+
+-- what is sought: the key, where there is no `--from`, and else the range from the key that this gives
+-- to the one that `--to` gives, or without an end where there is no `--to`
+abbrev pub GivesSought : List Row → Notation → Sought → Type 0
+GivesSought rows notation (Key key) =
+    HasNone (codes "from") rows × GivesKey rows notation key.items
+GivesSought rows notation (Range from to) =
+    GivesKeyAs (codes "from") rows notation from.items
+    × MayGiveKeyAs (codes "to") rows notation to
+
+-- the name under which the last word stands: it stands behind a key, and in the place of the key where
+-- a range is sought
+abbrev pub place_of_last : Sought → Text → Text
+place_of_last (Key key) last = last
+place_of_last (Range from to) last = codes "key"
+
+-- the last word, and where a range is sought there is none behind it
+abbrev pub GivesLast : Sought → Text → List Row → Option Text → Type 0
+GivesLast sought last rows word =
+    GivesOption rows (place_of_last sought last) word
+    × (HasWord (codes "from") rows → HasNone last rows)
+
+-- one of the keys of a range is no text of a key in this notation, which the words give; the end of
+-- the range only where the other one is
+abbrev pub GivesBadRange : List Row → Notation → Type 0
+GivesBadRange rows notation = GivesBadKeyAs (codes "from") rows notation
+    ⊎ (((from : List ℕ) × GivesKeyAs (codes "from") rows notation from)
+    × GivesBadKeyAs (codes "to") rows notation)
+
+-- the words do not fit where a key or a range is sought, and behind a key stands a word that goes by
+-- the name `last`, which may be needed: there is neither a key nor a `--from`, or a `--to` without
+-- that; or the last word is missing; or beside `--from` there is a word too many
+abbrev pub AreMisfit : Text → Bool → List Row → Type 0
+AreMisfit last needs_last rows =
+    (HasNone (codes "from") rows × (HasWord (codes "to") rows ⊎ HasNone (codes "key") rows
+    ⊎ ((needs_last ≡ true) × HasNone last rows)))
+    ⊎ (HasWord (codes "from") rows × (HasWord last rows
+    ⊎ ((needs_last ≡ true) × HasNone (codes "key") rows)))
 
 -- how a bad word for a key is told
 abbrev pub bad_key : Notation → ParseFault
@@ -180,6 +248,16 @@ HasFields (Build bits stages capacity max_records batch version out files quiet 
     × GivesWords given.1 (codes "files") (map string_bytes files.items)
     × GivesFlag given.1 (codes "quiet") quiet
     × GivesMode given.1 mode
+HasFields (Apply root bits version old out changes quiet mode) given =
+    (given.0 ≡ codes "apply")
+    × GivesRoot given.1 root.0
+    × MayGiveNumber given.1 (codes "bits") 0 24 bits
+    × MayGiveNumber given.1 (codes "format") 1 2 version
+    × GivesWord given.1 (codes "old") (string_bytes old)
+    × GivesWord given.1 (codes "out") (string_bytes out)
+    × GivesWords given.1 (codes "changes") (map string_bytes changes.items)
+    × GivesFlag given.1 (codes "quiet") quiet
+    × GivesMode given.1 mode
 HasFields (Explain file notation) given =
     (given.0 ≡ codes "explain")
     × GivesWord given.1 (codes "file") (string_bytes file)
@@ -230,19 +308,19 @@ HasFields (Diff old new roots version out stat notation mode) given =
     × GivesFlag given.1 (codes "stat") stat
     × GivesNotation given.1 notation
     × GivesMode given.1 mode
-HasFields (Prove file key root version out mode) given =
+HasFields (Prove file sought root version out mode) given =
     (given.0 ≡ codes "prove")
     × GivesWord given.1 (codes "file") (string_bytes file)
-    × ((notation : Notation) × GivesKey given.1 notation key.items)
+    × ((notation : Notation) × GivesSought given.1 notation sought)
     × GivesTrust given.1 root version
-    × GivesWord given.1 (codes "out") (string_bytes out)
+    × GivesLast sought (codes "out") given.1 (Some (string_bytes out))
     × GivesMode given.1 mode
-HasFields (Verify root key version proof notation) given =
+HasFields (Verify root sought version proof notation) given =
     (given.0 ≡ codes "verify")
     × GivesRoot given.1 root.0
-    × GivesKey given.1 notation key.items
+    × GivesSought given.1 notation sought
     × GivesNumber given.1 (codes "format") 1 2 version
-    × GivesOption given.1 (codes "proof") (option_map string_bytes proof)
+    × GivesLast sought (codes "proof") given.1 (option_map string_bytes proof)
 
 -- clap takes the words, and the command is what they give
 abbrev pub IsGivenBy : List Text → Command → Type 0
@@ -259,7 +337,13 @@ IsLawfulTrust root version =
 abbrev pub AreLawfulRoots : Option RootPair → Type 0
 AreLawfulRoots roots = IfSome roots (λ roots. IsReference roots.old.0 × IsReference roots.new.0)
 
--- the numbers of the command, and the length of its key, are within their limits, and its root is
+-- the keys that are sought are not too long
+abbrev pub IsLawfulSought : Sought → Type 0
+IsLawfulSought (Key key) = length key.items ≤ 1024
+IsLawfulSought (Range from to) =
+    (length from.items ≤ 1024) × IfSome to (λ to. length to.items ≤ 1024)
+
+-- the numbers of the command, and the lengths of its keys, are within their limits, and its root is
 -- a reference
 abbrev pub IsWithinLimits : Command → Type 0
 IsWithinLimits (Pack out notation removals mode) = ⊤
@@ -271,6 +355,10 @@ IsWithinLimits (Build bits stages capacity max_records batch version out files q
     × (1 ≤ max_records) × (max_records ≤ 16777216)
     × (1 ≤ batch) × (batch ≤ 1024)
     × (1 ≤ version) × (version ≤ 2)
+IsWithinLimits (Apply root bits version old out changes quiet mode) =
+    IsReference root.0
+    × IfSome bits (λ bits. bits ≤ 24)
+    × IfSome version (λ version. (1 ≤ version) × (version ≤ 2))
 IsWithinLimits (Explain file notation) = ⊤
 IsWithinLimits (Check file root version) = IsLawfulTrust root version
 IsWithinLimits (Root file) = ⊤
@@ -284,10 +372,10 @@ IsWithinLimits (Nth file n root version notation) =
 IsWithinLimits (Dump file root version out lines mode) = IsLawfulTrust root version
 IsWithinLimits (Diff old new roots version out stat notation mode) =
     AreLawfulRoots roots × (1 ≤ version) × (version ≤ 2)
-IsWithinLimits (Prove file key root version out mode) =
-    (length key.items ≤ 1024) × IsLawfulTrust root version
-IsWithinLimits (Verify root key version proof notation) =
-    IsReference root.0 × (length key.items ≤ 1024) × (1 ≤ version) × (version ≤ 2)
+IsWithinLimits (Prove file sought root version out mode) =
+    IsLawfulSought sought × IsLawfulTrust root version
+IsWithinLimits (Verify root sought version proof notation) =
+    IsReference root.0 × IsLawfulSought sought × (1 ≤ version) × (version ≤ 2)
 
 -- ---- refusals
 
@@ -298,7 +386,7 @@ MayTakeRoot name = (name ≡ codes "get") ⊎ (name ≡ codes "scan") ⊎ (name 
 
 -- the subcommand takes a root, or may be given one
 abbrev pub TakesRoot : Text → Type 0
-TakesRoot name = MayTakeRoot name ⊎ (name ≡ codes "verify")
+TakesRoot name = MayTakeRoot name ⊎ (name ≡ codes "verify") ⊎ (name ≡ codes "apply")
 
 -- the subcommand takes a root, or two of them, and a word for one is the text of no reference
 abbrev pub HasBadRoot : Text × List Row → Type 0
@@ -311,14 +399,30 @@ HasLoneRoot given = (given.0 ≡ codes "diff") × GivesLoneRoot given.1
 
 -- the subcommand takes a key, and a root before it only if its word is the text of a reference
 abbrev pub ReadsKey : Text × List Row → Type 0
-ReadsKey given =
-    (((given.0 ≡ codes "get") ⊎ (given.0 ≡ codes "scan") ⊎ (given.0 ≡ codes "prove"))
-    × ((root : Option Ref) × MayGiveRoot given.1 root))
+ReadsKey given = ((given.0 ≡ codes "get") ⊎ (given.0 ≡ codes "scan"))
+    × ((root : Option Ref) × MayGiveRoot given.1 root)
+
+-- the same of one that takes a key or a range
+abbrev pub ReadsSought : Text × List Row → Type 0
+ReadsSought given =
+    ((given.0 ≡ codes "prove") × ((root : Option Ref) × MayGiveRoot given.1 root))
     ⊎ ((given.0 ≡ codes "verify") × ((root : List ℕ) × GivesRoot given.1 root))
 
--- the subcommand takes a key, its word for the key is no text of one, and no word before is bad
+-- the word for the key is no text of one where there is no `--from`, or one of those for the keys of
+-- a range
+abbrev pub GivesBadSought : List Row → Notation → Type 0
+GivesBadSought rows notation = (HasNone (codes "from") rows × GivesBadKey rows notation)
+    ⊎ GivesBadRange rows notation
+
+-- the subcommand takes a key or a range, a word for a key is no text of one, and no word before is bad
 abbrev pub HasBadKey : Text × List Row → Notation → Type 0
-HasBadKey given notation = ReadsKey given × GivesBadKey given.1 notation
+HasBadKey given notation = (ReadsKey given × GivesBadKey given.1 notation)
+    ⊎ (ReadsSought given × GivesBadSought given.1 notation)
+
+-- the subcommand takes a key or a range, and its words do not fit
+abbrev pub HasMisfit : Text × List Row → Type 0
+HasMisfit given = ((given.0 ≡ codes "prove") × AreMisfit (codes "out") true given.1)
+    ⊎ ((given.0 ≡ codes "verify") × AreMisfit (codes "proof") false given.1)
 
 -- an error of clap's of this kind is what the words ask for: help, or the version
 abbrev pub IsAskedFor : ErrorKind → Type 0
@@ -328,7 +432,9 @@ IsAskedFor kind = (kind ≡ DisplayHelp) ⊎ (kind ≡ DisplayVersion)
 abbrev pub IsRefusedBy : List Text → ParseFault → Type 0
 IsRefusedBy words Memory = ⊤
 IsRefusedBy words (Usage text) =
-    (kind : ErrorKind) × IsAmong kind (line_faults words) × (IsAskedFor kind → ⊥)
+    ((kind : ErrorKind) × IsAmong kind (line_faults words) × (IsAskedFor kind → ⊥))
+    ⊎ ((line_faults words ≡ [])
+    × ((given : Text × List Row) × (line_given words ≡ Some given) × HasMisfit given))
 IsRefusedBy words (Help text) =
     (kind : ErrorKind) × IsAmong kind (line_faults words) × IsAskedFor kind
 IsRefusedBy words BadRoot =
@@ -343,6 +449,12 @@ IsRefusedBy words BadKey =
 IsRefusedBy words BadTextKey =
     (line_faults words ≡ [])
     × ((given : Text × List Row) × (line_given words ≡ Some given) × HasBadKey given AsText)
+
+-- the fault is that of words which do not fit, told as clap does; memory may run out
+abbrev pub IsWordFault : ParseFault → Type 0
+IsWordFault Memory = ⊤
+IsWordFault (Usage text) = ⊤
+IsWordFault _ = ⊥
 
 -- an error of clap's of this kind comes to this fault
 abbrev pub IsRefusalOf : ErrorKind → ParseFault → Type 0

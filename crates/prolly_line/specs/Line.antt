@@ -20,6 +20,11 @@ number_option name least most default = record (option_rule name) {
   defaults = default ∷ [];
 }
 
+-- such an option without a default
+abbrev pub optional_number_option : Text → ℕ → ℕ → Rule
+optional_number_option name least most = record (option_rule name)
+    { parser = Some (Signed (pos least) (pos most)) }
+
 -- `--NAME`
 abbrev pub flag : Text → Rule
 flag name = record (new_rule name) { long = Some name; action = Some SetTrue }
@@ -62,8 +67,23 @@ batch_option = number_option (codes "batch") 1 1024 (codes "16")
 abbrev pub format_option : Rule
 format_option = number_option (codes "format") 1 2 (codes "1")
 
+abbrev pub old_bits_option : Rule
+old_bits_option = optional_number_option (codes "bits") 0 24
+
+abbrev pub old_format_option : Rule
+old_format_option = optional_number_option (codes "format") 1 2
+
 abbrev pub root_option : Rule
 root_option = option_rule (codes "root")
+
+abbrev pub required_root_option : Rule
+required_root_option = record root_option { required = true }
+
+abbrev pub from_option : Rule
+from_option = option_rule (codes "from")
+
+abbrev pub to_option : Rule
+to_option = option_rule (codes "to")
 
 abbrev pub old_root_option : Rule
 old_root_option = option_rule (codes "old-root")
@@ -125,6 +145,9 @@ new_word = word_rule (codes "new")
 abbrev pub key_word : Rule
 key_word = word_rule (codes "key")
 
+abbrev pub optional_key_word : Rule
+optional_key_word = optional_word (codes "key")
+
 abbrev pub limit_word : Rule
 limit_word = number_word (codes "limit") 0 1000000
 
@@ -133,6 +156,9 @@ n_word = number_word (codes "n") 0 4294967295
 
 abbrev pub files_words : Rule
 files_words = words_rule (codes "files")
+
+abbrev pub changes_words : Rule
+changes_words = words_rule (codes "changes")
 
 -- ---- subcommands
 
@@ -147,6 +173,10 @@ with_trust app = with_rule (with_rule app root_option) format_option
 -- the options that name the roots of two trees that are trusted, and the version of their chunks
 abbrev pub with_roots : App → App
 with_roots app = with_rule (with_rule (with_rule app old_root_option) new_root_option) format_option
+
+-- the options that give a range in place of a key
+abbrev pub with_range : App → App
+with_range app = with_rule (with_rule app from_option) to_option
 
 -- `NAME [--text] [--root ROOT] [--format V] FILE`, a look-up in a file, or by a root that it trusts
 abbrev pub look_up_line : Text → App
@@ -169,6 +199,13 @@ build_line = with_rule (with_rule (with_mode
     (with_rule (with_rule (with_rule (with_rule (with_rule (with_rule (with_rule
     (new_app (codes "build")) bits_option) stages_option) capacity_option) max_records_option)
     batch_option) format_option) quiet_flag)) out_word) files_words
+
+-- `apply [--bits Q] [--format V] --root ROOT [--quiet] [--atomic] [--sync] [--force] OLD OUT
+-- [CHANGES...]`
+abbrev pub apply_line : App
+apply_line = with_rule (with_rule (with_rule (with_mode (with_rule (with_rule (with_rule (with_rule
+    (new_app (codes "apply")) old_bits_option) old_format_option) required_root_option)
+    quiet_flag)) old_word) out_word) changes_words
 
 -- `explain [--text] FILE`
 abbrev pub explain_line : App
@@ -210,15 +247,16 @@ abbrev pub diff_line : App
 diff_line = with_rule (with_rule (with_mode (with_rule (with_roots (with_rule (with_rule
     (new_app (codes "diff")) text_flag) stat_flag)) out_option)) old_word) new_word
 
--- `prove [--text] [--root ROOT] [--format V] [--atomic] [--sync] [--force] FILE KEY OUT`
+-- `prove [--text] [--root ROOT] [--format V] [--from KEY] [--to KEY] [--atomic] [--sync] [--force]
+-- FILE [KEY] [OUT]`
 abbrev pub prove_line : App
-prove_line = with_rule (with_rule (with_rule (with_mode (with_trust (with_rule
-    (new_app (codes "prove")) text_flag))) file_word) key_word) out_word
+prove_line = with_rule (with_rule (with_rule (with_mode (with_range (with_trust (with_rule
+    (new_app (codes "prove")) text_flag)))) file_word) optional_key_word) optional_out_word
 
--- `verify [--text] [--format V] ROOT KEY [PROOF]`
+-- `verify [--text] [--format V] [--from KEY] [--to KEY] ROOT [KEY] [PROOF]`
 abbrev pub verify_line : App
-verify_line = with_rule (with_rule (with_rule (with_rule (with_rule (new_app (codes "verify"))
-    text_flag) format_option) root_word) key_word) proof_word
+verify_line = with_rule (with_rule (with_rule (with_range (with_rule (with_rule
+    (new_app (codes "verify")) text_flag) format_option)) root_word) optional_key_word) proof_word
 
 -- ---- the whole line
 
@@ -233,11 +271,11 @@ bare_line = on_top (λ s. record s {
 
 -- the words after the program's name, in the order in which one uses the subcommands
 abbrev pub program_line : App
-program_line = with_subcommand (with_subcommand (with_subcommand (with_subcommand
+program_line = with_subcommand (with_subcommand (with_subcommand (with_subcommand (with_subcommand
     (with_subcommand (with_subcommand (with_subcommand (with_subcommand
     (with_subcommand (with_subcommand (with_subcommand (with_subcommand (with_subcommand
-    (with_subcommand bare_line pack_line.top) scratch_line.top) build_line.top) explain_line.top)
-    check_line.top) root_line.top) stat_line.top) get_line.top) scan_line.top) nth_line.top)
+    (with_subcommand bare_line pack_line.top) scratch_line.top) build_line.top) apply_line.top)
+    explain_line.top) check_line.top) root_line.top) stat_line.top) get_line.top) scan_line.top) nth_line.top)
     dump_line.top) diff_line.top) prove_line.top) verify_line.top
 
 -- the kinds of error that clap may give at the words; none where it takes them

@@ -1,10 +1,13 @@
 //! The options and words of the subcommands, each with the rule that clap reads it by.
 ghost use Rattle.prolly_line.specs.Line.{atomic_flag, batch_option, bits_option, capacity_option};
 ghost use Rattle.prolly_line.specs.Line.{file_word, files_words, flag, force_flag, format_option};
+ghost use Rattle.prolly_line.specs.Line.{from_option, optional_key_word, to_option};
 ghost use Rattle.prolly_line.specs.Line.{hex_flag, json_flag, key_word, limit_word, quiet_flag};
 ghost use Rattle.prolly_line.specs.Line.{removals_flag};
 ghost use Rattle.prolly_line.specs.Line.{max_records_option, n_word, number_option, number_word};
+ghost use Rattle.prolly_line.specs.Line.{changes_words, old_bits_option, old_format_option};
 ghost use Rattle.prolly_line.specs.Line.{option_rule, optional_out_word, out_option, out_word};
+ghost use Rattle.prolly_line.specs.Line.{optional_number_option, required_root_option, words_rule};
 ghost use Rattle.prolly_line.specs.Line.{proof_word, root_option};
 ghost use Rattle.prolly_line.specs.Line.{root_word, stages_option, stat_flag, sync_flag};
 ghost use Rattle.prolly_line.specs.Line.{text_flag, word_rule};
@@ -67,12 +70,37 @@ fn number_word<'a>(
     ))
 }
 
+// Such an option without a default.
+fn optional_number_option<'a>(
+    alloc: Global,
+    name: &'a str,
+    value_name: &'a str,
+    least: u32,
+    most: u32,
+) -> Arg<'a>
+    ensures { IsReadBy (optional_number_option name.now least most) result }
+{
+    text_option(alloc, name, value_name).value_parser(ValueParser::signed(
+        i64::from(least),
+        i64::from(most),
+    ))
+}
+
 /// `--bits Q`
 pub(crate) fn bits_option<'a>(alloc: Global) -> Arg<'a>
     ensures { IsReadBy bits_option result }
 {
     number_option(alloc, "bits", "Q", 0, 24, "12").help(
         "Cut by Q bits of a hash: about one entry in 2^Q ends a chunk (0 to 24)",
+    )
+}
+
+/// `--bits Q`, of a tree that stands already.
+pub(crate) fn old_bits_option<'a>(alloc: Global) -> Arg<'a>
+    ensures { IsReadBy old_bits_option result }
+{
+    optional_number_option(alloc, "bits", "Q", 0, 24).help(
+        "Refuse OLD unless its header says Q (0 to 24)",
     )
 }
 
@@ -119,6 +147,15 @@ pub(crate) fn format_option<'a>(alloc: Global, what: &'a str) -> Arg<'a>
     number_option(alloc, "format", "V", 1, 2, "1").help(what)
 }
 
+/// `--format V`, of a tree that stands already.
+pub(crate) fn old_format_option<'a>(alloc: Global) -> Arg<'a>
+    ensures { IsReadBy old_format_option result }
+{
+    optional_number_option(alloc, "format", "V", 1, 2).help(
+        "Refuse OLD unless its header says version V (1 or 2)",
+    )
+}
+
 /// `--out FILE`, the file that a subcommand makes; `what` says for its help what that is.
 pub(crate) fn out_option<'a>(alloc: Global, what: &'a str) -> Arg<'a>
     ensures { IsReadBy out_option result }
@@ -132,6 +169,33 @@ pub(crate) fn root_option<'a>(alloc: Global) -> Arg<'a>
 {
     text_option(alloc, "root", "ROOT").help(
         "Trust ROOT, the text of the tree's root, in place of the whole file",
+    )
+}
+
+/// `--root ROOT`, which has to be there.
+pub(crate) fn required_root_option<'a>(alloc: Global) -> Arg<'a>
+    ensures { IsReadBy required_root_option result }
+{
+    text_option(alloc, "root", "ROOT")
+        .required(true)
+        .help("The text of the root of OLD's tree")
+}
+
+/// `--from KEY`, with which a proof is one of a range.
+pub(crate) fn from_option<'a>(alloc: Global) -> Arg<'a>
+    ensures { IsReadBy from_option result }
+{
+    text_option(alloc, "from", "KEY").help(
+        "Of a range in place of a key: from KEY on, which is written as that is",
+    )
+}
+
+/// `--to KEY`, at which such a range ends.
+pub(crate) fn to_option<'a>(alloc: Global) -> Arg<'a>
+    ensures { IsReadBy to_option result }
+{
+    text_option(alloc, "to", "KEY").help(
+        "The end of the range, before KEY; without it, the range has no end. Needs --from",
     )
 }
 
@@ -212,13 +276,12 @@ pub(crate) fn out_word<'a>(alloc: Global, what: &'a str) -> Arg<'a>
     required_word(alloc, "out", "OUT").help(what)
 }
 
-/// `[OUT]`, the file that a subcommand makes in place of what it prints.
-pub(crate) fn optional_out_word<'a>(alloc: Global) -> Arg<'a>
+/// `[OUT]`, the file that a subcommand makes, where there is another place for it or none is made;
+/// `what` says for its help which.
+pub(crate) fn optional_out_word<'a>(alloc: Global, what: &'a str) -> Arg<'a>
     ensures { IsReadBy optional_out_word result }
 {
-    Arg::new(alloc, "out").value_name("OUT").help(
-        "The file to make; without it, it is written to standard output",
-    )
+    Arg::new(alloc, "out").value_name("OUT").help(what)
 }
 
 /// A chunk file that a subcommand reads; `what` says for its help which one it is.
@@ -267,6 +330,16 @@ pub(crate) fn key_word<'a>(alloc: Global) -> Arg<'a>
     )
 }
 
+/// `[KEY]`, where a range may stand in its place.
+pub(crate) fn optional_key_word<'a>(alloc: Global) -> Arg<'a>
+    ensures { IsReadBy optional_key_word result }
+{
+    Arg::new(alloc, "key").value_name("KEY").help(
+        "The key in hexadecimal, two digits a byte, or with --text as text; at most 1,024 bytes. \
+         With --from it is left out",
+    )
+}
+
 /// `LIMIT`
 pub(crate) fn limit_word<'a>(alloc: Global) -> Arg<'a>
     ensures { IsReadBy limit_word result }
@@ -285,12 +358,27 @@ pub(crate) fn n_word<'a>(alloc: Global) -> Arg<'a>
     )
 }
 
+// Any number of words.
+fn any_words<'a>(alloc: Global, name: &'a str, value_name: &'a str) -> Arg<'a>
+    ensures { IsReadBy (words_rule name.now) result }
+{
+    Arg::new(alloc, name).num_args(0..).value_name(value_name)
+}
+
 /// `FILES`
 pub(crate) fn files_words<'a>(alloc: Global) -> Arg<'a>
     ensures { IsReadBy files_words result }
 {
-    Arg::new(alloc, "files")
-        .num_args(0..)
-        .value_name("FILES")
-        .help("The record files, at most 16; of several, the last one that has a key wins")
+    any_words(alloc, "files", "FILES").help(
+        "The record files, at most 16; of several, the last one that has a key wins",
+    )
+}
+
+/// `CHANGES`
+pub(crate) fn changes_words<'a>(alloc: Global) -> Arg<'a>
+    ensures { IsReadBy changes_words result }
+{
+    any_words(alloc, "changes", "CHANGES").help(
+        "The record files of changes, at most 15; of several, the last one that has a key wins",
+    )
 }

@@ -17,6 +17,18 @@ pub(crate) fn described<'a>(alloc: Global, name: &'a str, help: Help<'a>) -> Com
         .after_help(help.example)
 }
 
+/// Such a command, of which this is told in place of clap's own line of usage.
+pub(crate) fn described_as<'a>(
+    alloc: Global,
+    name: &'a str,
+    usage: &'a str,
+    help: Help<'a>,
+) -> Command<'a>
+    ensures { HasCommandLine (new_app name.now) result }
+{
+    described(alloc, name, help).override_usage(usage)
+}
+
 /// Adds an argument to a line, where there was memory for it. A `?` for each argument in one
 /// function would make a large proof.
 pub(crate) fn with_argument<'a>(

@@ -35,6 +35,16 @@ pub struct RootPair {
     pub new: Ref,
 }
 
+/// What a proof is to show.
+#[derive(Debug, Drop)]
+pub enum Sought {
+    /// What the map has at a key.
+    Key(Vec<u8>),
+    /// Its pairs whose key is not less than `from`, and less than `to`; where there is no `to`, all
+    /// whose key is not less than `from`.
+    Range { from: Vec<u8>, to: Option<Vec<u8>> },
+}
+
 /// What the program is asked to do. File names are the words as they stand. A notation is that of
 /// keys and values, in the words and in the lines that are read or printed.
 #[derive(Drop)]
@@ -65,6 +75,19 @@ pub enum Command {
         version: u8,
         out: String,
         files: Vec<String>,
+        quiet: bool,
+        mode: WriteMode,
+    },
+    /// Make the tree of a root with the changes of record files laid over it. The old file has that
+    /// tree; where bits or a version are given, they are to be those that its header says. Where
+    /// `quiet` is set, no progress is shown.
+    Apply {
+        root: Ref,
+        bits: Option<u8>,
+        version: Option<u8>,
+        old: String,
+        out: String,
+        changes: Vec<String>,
         quiet: bool,
         mode: WriteMode,
     },
@@ -145,21 +168,21 @@ pub enum Command {
         notation: Notation,
         mode: WriteMode,
     },
-    /// Write a proof of what a file has at a key. The root and the version say the same as for
-    /// `Get`.
+    /// Write a proof of what a file has at a key, or in a range. The root and the version say the
+    /// same as for `Get`.
     Prove {
         file: String,
-        key: Vec<u8>,
+        sought: Sought,
         root: Option<Ref>,
         version: u8,
         out: String,
         mode: WriteMode,
     },
-    /// Say what a proof shows of a key to whoever knows the root and the version of the chunks.
-    /// Without a file the proof comes from standard input.
+    /// Say what a proof shows of a key, or of a range, to whoever knows the root and the version of
+    /// the chunks. Without a file the proof comes from standard input.
     Verify {
         root: Ref,
-        key: Vec<u8>,
+        sought: Sought,
         version: u8,
         proof: Option<String>,
         notation: Notation,
@@ -171,7 +194,7 @@ pub enum Command {
 pub enum ParseFault {
     /// Memory ran out.
     Memory,
-    /// The words are not what the command line takes; clap's text says why.
+    /// The words are not what the command line takes, which the text says as clap does.
     Usage(String),
     /// The words ask for help, or for the version, which is the text.
     Help(String),
@@ -179,11 +202,11 @@ pub enum ParseFault {
     BadRoot,
     /// Of the roots of two trees one is given alone.
     LoneRoot,
-    /// The word for the key is not hexadecimal, or writes more than 1,024 bytes. It is told only
-    /// where the word for the root, if there is one, is good.
+    /// A word for a key is not hexadecimal, or writes more than 1,024 bytes. It is told only where
+    /// the word for the root, if there is one, is good.
     BadKey,
-    /// With `--text`, the word for the key is no text of bytes, or of more than 1,024. It is told
-    /// only where the word for the root, if there is one, is good.
+    /// With `--text`, a word for a key is no text of bytes, or of more than 1,024. It is told only
+    /// where the word for the root, if there is one, is good.
     BadTextKey,
 }
 
@@ -209,8 +232,8 @@ pub fn parse(alloc: Global, words: &[String]) -> Result<Command, ParseFault>
     command_of(alloc, name, given)
 }
 
-// What an error of clap's comes to.
-fn refusal(alloc: Global, error: &clap::Error) -> ParseFault
+/// What an error of clap's comes to.
+pub(crate) fn refusal(alloc: Global, error: &clap::Error) -> ParseFault
     ensures { IsRefusalOf (kind_of error.now) result }
 {
     let Ok(text) = format!(in alloc; "{error}") else {
@@ -240,6 +263,7 @@ fn command_of(alloc: Global, name: &str, given: &ArgMatches<'_>) -> Result<Comma
         "pack" => fields::pack(alloc, given),
         "scratch" => fields::scratch(alloc, given),
         "build" => fields::build(alloc, given),
+        "apply" => fields::apply(alloc, given),
         "explain" => fields::explain(alloc, given),
         "check" => fields::check(alloc, given),
         "root" => fields::root(alloc, given),

@@ -1,14 +1,16 @@
 //! The fields of a command, from what clap found for its subcommand. Each function requires that
 //! clap has accepted the words, and so takes what has to be there without a test.
-ghost use Rattle.std.specs.Prelude.{codes, IfErr, IfOk};
-ghost use Rattle.prolly_line.specs.AcceptedWords.{Answers, HasNumber, HasWord, IsAccepted};
+ghost use Rattle.std.specs.Prelude.{codes, IfErr, IfOk, true, false};
+ghost use Rattle.prolly_line.specs.AcceptedWords.{Answers, DoFit, HasNumber, HasWord, IsAccepted};
 ghost use Rattle.prolly_line.specs.AcceptedWords.{IsRefusedLookUp, rows_in};
 ghost use Rattle.prolly_line.specs.GivenCommand.{GivesKey, GivesNotation, GivesTrust};
 
 use crate::command::{Command, ParseFault};
+use crate::misfit::Misfit;
+use crate::subcommands::{prove_line, verify_line};
 use crate::values::{
-    byte_of, flag_of, key_of, lines_of, mode_of, notation_of, number_of, option_of, root_of,
-    roots_of, text_of, texts_of, trust_of,
+    byte_of, flag_of, key_of, lines_of, mode_of, notation_of, number_of, option_of,
+    optional_byte_of, place_of_last, root_of, roots_of, sought_of, text_of, texts_of, trust_of,
 };
 use clap::ArgMatches;
 use prolly_entry::Ref;
@@ -79,6 +81,32 @@ pub(crate) fn build(alloc: Global, given: &ArgMatches<'_>) -> Result<Command, Pa
     })
 }
 
+/// `apply [--bits Q] [--format V] --root ROOT [--quiet] [--atomic] [--sync] [--force] OLD OUT
+/// [CHANGES...]`
+pub(crate) fn apply(alloc: Global, given: &ArgMatches<'_>) -> Result<Command, ParseFault>
+    requires { IsAccepted (codes "apply", rows_in given.now) }
+    ensures { Answers (codes "apply", rows_in given.now) result }
+{
+    let root = root_of(given, "root")?;
+    let bits = optional_byte_of(given, "bits");
+    let version = optional_byte_of(given, "format");
+    let old = text_of(alloc, given, "old")?;
+    let out = text_of(alloc, given, "out")?;
+    let changes = texts_of(alloc, given, "changes")?;
+    let quiet = flag_of(given, "quiet");
+    let mode = mode_of(given);
+    Ok(Command::Apply {
+        root,
+        bits,
+        version,
+        old,
+        out,
+        changes,
+        quiet,
+        mode,
+    })
+}
+
 /// `explain [--text] FILE`
 pub(crate) fn explain(alloc: Global, given: &ArgMatches<'_>) -> Result<Command, ParseFault>
     requires { IsAccepted (codes "explain", rows_in given.now) }
@@ -141,7 +169,7 @@ fn trusted_key(
     ensures refused { IfErr result (IsRefusedLookUp (rows_in given.now)) }
 {
     let trust = trust_of(given)?;
-    let key = key_of(alloc, given, notation)?;
+    let key = key_of(alloc, given, "key", notation)?;
     Ok((trust.0, trust.1, key))
 }
 
@@ -245,18 +273,33 @@ pub(crate) fn diff(alloc: Global, given: &ArgMatches<'_>) -> Result<Command, Par
     })
 }
 
-/// `prove [--text] [--root ROOT] [--format V] [--atomic] [--sync] [--force] FILE KEY OUT`
+/// `prove [--text] [--root ROOT] [--format V] [--from KEY] [--to KEY] [--atomic] [--sync] [--force]
+/// FILE [KEY] OUT`
 pub(crate) fn prove(alloc: Global, given: &ArgMatches<'_>) -> Result<Command, ParseFault>
     requires { IsAccepted (codes "prove", rows_in given.now) }
     ensures { Answers (codes "prove", rows_in given.now) result }
 {
-    let (root, version, key) = trusted_key(alloc, given, notation_of(given))?;
+    match Misfit::of(given, "out", true) {
+        Some(misfit) => Err(misfit.fault(alloc, prove_line(alloc))),
+        None => fitting_prove(alloc, given),
+    }
+}
+
+// The same, where the words fit.
+fn fitting_prove(alloc: Global, given: &ArgMatches<'_>) -> Result<Command, ParseFault>
+    requires accepted { IsAccepted (codes "prove", rows_in given.now) }
+    requires fit { DoFit (codes "out") true (rows_in given.now) }
+    ensures { Answers (codes "prove", rows_in given.now) result }
+{
+    let notation = notation_of(given);
+    let (root, version) = trust_of(given)?;
+    let sought = sought_of(alloc, given, notation)?;
     let file = text_of(alloc, given, "file")?;
-    let out = text_of(alloc, given, "out")?;
+    let out = text_of(alloc, given, place_of_last(&sought, "out"))?;
     let mode = mode_of(given);
     Ok(Command::Prove {
         file,
-        key,
+        sought,
         root,
         version,
         out,
@@ -264,19 +307,31 @@ pub(crate) fn prove(alloc: Global, given: &ArgMatches<'_>) -> Result<Command, Pa
     })
 }
 
-/// `verify [--text] [--format V] ROOT KEY [PROOF]`
+/// `verify [--text] [--format V] [--from KEY] [--to KEY] ROOT [KEY] [PROOF]`
 pub(crate) fn verify(alloc: Global, given: &ArgMatches<'_>) -> Result<Command, ParseFault>
     requires { IsAccepted (codes "verify", rows_in given.now) }
     ensures { Answers (codes "verify", rows_in given.now) result }
 {
+    match Misfit::of(given, "proof", false) {
+        Some(misfit) => Err(misfit.fault(alloc, verify_line(alloc))),
+        None => fitting_verify(alloc, given),
+    }
+}
+
+// The same, where the words fit.
+fn fitting_verify(alloc: Global, given: &ArgMatches<'_>) -> Result<Command, ParseFault>
+    requires accepted { IsAccepted (codes "verify", rows_in given.now) }
+    requires fit { DoFit (codes "proof") false (rows_in given.now) }
+    ensures { Answers (codes "verify", rows_in given.now) result }
+{
     let notation = notation_of(given);
     let root = root_of(given, "root")?;
-    let key = key_of(alloc, given, notation)?;
+    let sought = sought_of(alloc, given, notation)?;
     let version = byte_of(given, "format");
-    let proof = option_of(alloc, given, "proof")?;
+    let proof = option_of(alloc, given, place_of_last(&sought, "proof"))?;
     Ok(Command::Verify {
         root,
-        key,
+        sought,
         version,
         proof,
         notation,

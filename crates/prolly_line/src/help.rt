@@ -118,8 +118,8 @@ than the first part of a chunk file, which `check` calls truncated; only where
 nothing but its line could not be made or printed is it whole. With --atomic it
 is as it was, unless only standard output failed.
 
-No command reads a whole chunk file of more than 1,073,741,824 bytes, which
-about 28,200,000 records of 38 bytes make.
+A chunk file of more than 1,073,741,824 bytes, which about 28,200,000 records of
+38 bytes make, is read by its root alone, by the commands that take --root.
 
 --bits and --format decide what the chunk file holds. Choose --bits before the
 first build, since another number is another root. The default, 12, suits trees
@@ -138,6 +138,32 @@ Where standard error is a terminal, a build that takes longer than a second
 shows its progress there. With --quiet it does not.",
     example: "Example: the records of a day over those of the day before
   prolly build tuesday.prl monday.rec tuesday.rec",
+};
+
+pub(crate) const APPLY: Help<'static> = Help {
+    about: "Make the next chunk file from the last one and its changes",
+    details: "Makes OUT, the chunk file of the tree of ROOT with the changes of up to 15 record
+files laid over it: the file that `build` makes of the old pairs and CHANGES.
+Where several files have a key the last of them wins: its pair replaces the
+value, its removal takes the key away.
+
+OLD has the tree of ROOT. It may be of any size and is not checked first:
+nothing of it is believed but what ROOT vouches for, and each chunk is compared
+with its reference before it counts. What no change touches goes over as it is.
+So a few changes take less than half the processor time of a `build`.
+
+Prints the text of the new root and the numbers of chunks, pairs and levels.
+
+The new tree has the --bits and the --format that the header of OLD says. Where
+these are given and OLD says otherwise, it is refused: `dump` and `build` make a
+tree of other bits. A root does not tell its bits, so a header that lies about
+them is found by the leaves, nearly always, and refused.
+
+OUT is written as by `build`: it is emptied once there is something to write,
+and after a fault behind that it holds no more than the first part of a chunk
+file. With --atomic it is as it was then.",
+    example: "Example: the tree of the day before, and the records of a day
+  prolly apply --root nu05v9k058pmjdu7s5312ho13geggue6 days.prl next.prl wednesday.rec",
 };
 
 pub(crate) const EXPLAIN: Help<'static> = Help {
@@ -331,50 +357,71 @@ FILE that has bytes and does not begin as a record file does is refused, unless
 };
 
 pub(crate) const PROVE: Help<'static> = Help {
-    about: "Write a proof of what a chunk file has at a key",
+    about: "Write a proof of what a chunk file has at a key, or in a range",
     details: "Writes a proof of what FILE has at the key: its value, or that it has none. The
 proof is the chunks of FILE from the root down to the one at which the look-up
 of the key ends. Whoever knows the root of FILE can check it by `verify`,
 without FILE.
 
-With --text the key is taken as text, with the escapes of `pack --text`.
+With --from there is no KEY among the words, and the proof is one of a range: of
+all pairs whose key is not less than that of --from, and less than that of --to,
+and that there are no others. Without --to the range has no end. Keys are
+compared byte by byte. The proof is the chunks that have such keys, and those
+above them, each once.
+
+With --text keys are taken as text, with the escapes of `pack --text`.
 
 Without --root the whole file is checked first, as by `check`: that takes time
 linear in it, no file over 1 GiB is read, and --format is ignored. With --root
-only what is needed is read: the lengths and levels of the frames, and one chunk
-a level, each compared with the reference above it, from ROOT down. So what is
-written is a proof for ROOT, whatever else the file holds; a chunk that does not
-fit is refused.
+only what is needed is read: the lengths and levels of the frames, and the
+chunks of the proof, each compared with the reference above it, from ROOT down.
+So what is written is a proof for ROOT, whatever else the file holds; a chunk
+that does not fit is refused.
 
-Nothing is printed. The exit status is 0 also where FILE does not have the key.
+Nothing is printed. The exit status is 0 also where FILE does not have the key,
+or has no pair in the range.
 
 OUT is replaced once the proof is whole: after a fault it is as it was. An OUT
 that has bytes and does not begin as a proof does is refused, unless --force is
 given.",
-    example: "Example: a proof of what ab.prl has at the key of one byte, 61
-  prolly prove ab.prl 61 61.proof",
+    example: "Examples: a proof of what ab.prl has at the key of one byte, 61, and one of all
+that it has from there on before the key 63
+  prolly prove ab.prl 61 61.proof
+  prolly prove --from 61 --to 63 ab.prl range.proof",
 };
 
 pub(crate) const VERIFY: Help<'static> = Help {
-    about: "Say what a proof shows of a key, by the root alone",
+    about: "Say what a proof shows of a key, or of a range, by the root alone",
     details: "Says what a proof shows of a key to whoever knows ROOT, the root of a tree, as
 `scratch`, `build` and `check` print it. The proof is one that `prove` has made.
 It may come from anywhere: where it is taken, the tree of that root has what is
 printed at the key, or two different chunks have one SHA-512 prefix, which
 nobody has seen yet.
 
-The proof is read from PROOF, or from standard input where PROOF is not given.
+With --from there is no KEY among the words, and the proof is one of a range: of
+all pairs whose key is not less than that of --from, and less than that of --to,
+or without --to of all from there on. They are printed as `scan` prints them,
+each line HEXKEY HEXVALUE, those of a chunk once it was compared with the
+reference above it. So what is printed is right for ROOT; that it is all only
+the exit status tells, once the proof was read to its end.
 
-With --text the key is taken and the value shown as text, with the escapes of
-`pack --text`.
+The proof is read from PROOF, or from standard input where PROOF is not given.
+That of a range may be of any size.
+
+With --text keys are taken, and what is shown is printed, as text, with the
+escapes of `pack --text`.
 
 The exit status is
-  0  where the key has a value, which is printed in hexadecimal
+  0  where the key has a value, which is printed in hexadecimal, or where all
+     pairs of the range were printed, also where there are none
   1  where the key has none; nothing is printed
   2  where a word is not understood, as where ROOT is not the text of a root
   4  where the proof is refused; a line names the first fault of it
   5  where the proof cannot be read, or the answer cannot be printed",
-    example: "Example: what the tree of a root has at the key of one byte, 61
+    example: "Examples: what the tree of a root has at the key of one byte, 61, and all that
+it has from there on before the key 63
   prolly verify \
-    nu05v9k058pmjdu7s5312ho13geggue6 61 61.proof",
+    nu05v9k058pmjdu7s5312ho13geggue6 61 61.proof
+  prolly verify --from 61 --to 63 \
+    nu05v9k058pmjdu7s5312ho13geggue6 range.proof",
 };

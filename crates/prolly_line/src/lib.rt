@@ -10,8 +10,9 @@ mod command;
 mod fields;
 mod help;
 mod line;
+mod misfit;
 mod subcommands;
 mod values;
 
-pub use command::{Command, ParseFault, RootPair, WriteMode, parse};
+pub use command::{Command, ParseFault, RootPair, Sought, WriteMode, parse};
 pub use prolly_text::Notation;

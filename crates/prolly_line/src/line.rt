@@ -3,11 +3,11 @@ ghost use Rattle.std.specs.Prelude.{◌≡◌, IfOk};
 ghost use Rattle.clap.specs.Words.{app_of};
 ghost use Rattle.prolly_line.specs.Line.{bare_line, program_line};
 
-use crate::assembly::{described, with_subcommand, with_three};
+use crate::assembly::{described, with_three};
 use crate::help;
 use crate::subcommands::{
-    build_line, check_line, diff_line, dump_line, explain_line, get_line, nth_line, pack_line,
-    prove_line, root_line, scan_line, scratch_line, stat_line, verify_line,
+    apply_line, build_line, check_line, diff_line, dump_line, explain_line, get_line, nth_line,
+    pack_line, prove_line, root_line, scan_line, scratch_line, stat_line, verify_line,
 };
 use clap::Command;
 use std::alloc::{AllocError, Global};
@@ -35,12 +35,16 @@ pub(crate) fn program_line<'a>(alloc: Global) -> Result<Command<'a>, AllocError>
     );
     let line = with_three(
         line,
+        apply_line(alloc),
         explain_line(alloc),
         check_line(alloc),
-        root_line(alloc),
     );
-    let line = with_three(line, stat_line(alloc), get_line(alloc), scan_line(alloc));
-    let line = with_three(line, nth_line(alloc), dump_line(alloc), diff_line(alloc));
-    let line = with_subcommand(line, prove_line(alloc));
-    with_subcommand(line, verify_line(alloc))
+    let line = with_three(line, root_line(alloc), stat_line(alloc), get_line(alloc));
+    let line = with_three(line, scan_line(alloc), nth_line(alloc), dump_line(alloc));
+    with_three(
+        line,
+        diff_line(alloc),
+        prove_line(alloc),
+        verify_line(alloc),
+    )
 }

@@ -1,13 +1,13 @@
 //! The subcommands, each with the line that clap reads it by.
 ghost use Rattle.std.specs.Prelude.{IfOk};
 ghost use Rattle.clap.specs.Words.{App, Rule, with_rule};
-ghost use Rattle.prolly_line.specs.Line.{build_line, check_line, diff_line, dump_line};
+ghost use Rattle.prolly_line.specs.Line.{apply_line, build_line, check_line, diff_line, dump_line};
 ghost use Rattle.prolly_line.specs.Line.{explain_line, get_line, look_up_line, nth_line, pack_line};
 ghost use Rattle.prolly_line.specs.Line.{prove_line, root_line, scan_line, scratch_line, stat_line};
-ghost use Rattle.prolly_line.specs.Line.{verify_line, with_mode, with_roots, with_trust};
+ghost use Rattle.prolly_line.specs.Line.{verify_line, with_mode, with_range, with_roots, with_trust};
 ghost use Rattle.prolly_line.specs.LocalArgs.{HasCommandLine, IsReadBy};
 
-use crate::assembly::{described, with_argument};
+use crate::assembly::{described, described_as, with_argument};
 use crate::help::Help;
 use crate::{arguments, help};
 use clap::{Arg, Command};
@@ -15,6 +15,20 @@ use std::alloc::{AllocError, Global};
 
 // What FILE says where it is to be a chunk file.
 const CHUNK_FILE: &str = "The chunk file";
+
+// What OUT says where it is to become one.
+const MADE_CHUNK_FILE: &str = "The chunk file to make";
+
+// What OUT says of a dump.
+const DUMPED_FILE: &str = "The file to make; without it, it is written to standard output";
+
+// How `prove` is used.
+const PROVE_USAGE: &str = "prolly prove [OPTIONS] <FILE> <KEY> <OUT>
+       prolly prove [OPTIONS] --from <KEY> [--to <KEY>] <FILE> <OUT>";
+
+// How `verify` is used.
+const VERIFY_USAGE: &str = "prolly verify [OPTIONS] <ROOT> <KEY> [PROOF]
+       prolly verify [OPTIONS] --from <KEY> [--to <KEY>] <ROOT> [PROOF]";
 
 // What `--text` says of a dump.
 const DUMPED_TEXT: &str = "Write lines KEY, tab, VALUE of text in place of a record file";
@@ -62,6 +76,18 @@ fn with_trust<'a>(
     );
     let line = with_argument(line, arguments::root_option(alloc));
     with_argument(line, format)
+}
+
+// Adds the options that give a range in place of a key.
+fn with_range<'a>(
+    alloc: Global,
+    line: Result<Command<'a>, AllocError>,
+) -> Result<Command<'a>, AllocError>
+    ensures { (app : App) → IfOk line.entry (HasCommandLine app)
+        → IfOk result (HasCommandLine (with_range app)) }
+{
+    let line = with_argument(line, arguments::from_option(alloc));
+    with_argument(line, arguments::to_option(alloc))
 }
 
 // Adds the options that name the roots of two trees that are trusted, and the version of their
@@ -148,8 +174,23 @@ pub(crate) fn build_line<'a>(alloc: Global) -> Result<Command<'a>, AllocError>
     let line = with_argument(line, arguments::format_option(alloc, WRITTEN_FORMAT));
     let line = with_argument(line, arguments::quiet_flag(alloc));
     let line = with_mode(alloc, line, ASIDE);
-    let line = with_argument(line, arguments::out_word(alloc, "The chunk file to make"));
+    let line = with_argument(line, arguments::out_word(alloc, MADE_CHUNK_FILE));
     with_argument(line, arguments::files_words(alloc))
+}
+
+/// `apply [--bits Q] [--format V] --root ROOT [--quiet] [--atomic] [--sync] [--force] OLD OUT
+/// [CHANGES...]`
+pub(crate) fn apply_line<'a>(alloc: Global) -> Result<Command<'a>, AllocError>
+    ensures { IfOk result (HasCommandLine apply_line) }
+{
+    let old = arguments::tree_word(alloc, "old", "OLD", "The chunk file of ROOT's tree");
+    let line = described(alloc, "apply", help::APPLY).arg(arguments::old_bits_option(alloc));
+    let line = with_argument(line, arguments::old_format_option(alloc));
+    let line = with_argument(line, arguments::required_root_option(alloc));
+    let line = with_argument(line, arguments::quiet_flag(alloc));
+    let line = with_argument(with_mode(alloc, line, ASIDE), old);
+    let line = with_argument(line, arguments::out_word(alloc, MADE_CHUNK_FILE));
+    with_argument(line, arguments::changes_words(alloc))
 }
 
 /// `explain [--text] FILE`
@@ -199,7 +240,7 @@ pub(crate) fn dump_line<'a>(alloc: Global) -> Result<Command<'a>, AllocError>
     let line = with_mode(alloc, with_trust(alloc, line), ALWAYS_ASIDE);
     with_argument(
         with_argument(line, arguments::file_word(alloc, CHUNK_FILE)),
-        arguments::optional_out_word(alloc),
+        arguments::optional_out_word(alloc, DUMPED_FILE),
     )
 }
 
@@ -250,19 +291,28 @@ pub(crate) fn nth_line<'a>(alloc: Global) -> Result<Command<'a>, AllocError>
     look_up_line(alloc, "nth", help::NTH, text, arguments::n_word(alloc))
 }
 
-/// `prove [--text] [--root ROOT] [--format V] [--atomic] [--sync] [--force] FILE KEY OUT`
+/// `prove [--text] [--root ROOT] [--format V] [--from KEY] [--to KEY] [--atomic] [--sync] [--force]
+/// FILE [KEY] [OUT]`
+///
+/// Where `--from` is given, the word behind FILE is OUT, and there is no third one.
 pub(crate) fn prove_line<'a>(alloc: Global) -> Result<Command<'a>, AllocError>
     ensures { IfOk result (HasCommandLine prove_line) }
 {
-    let text = arguments::text_flag(alloc, "Take the key as text in place of hexadecimal");
-    let line = described(alloc, "prove", help::PROVE).arg(text);
-    let line = with_mode(alloc, with_trust(alloc, line), ALWAYS_ASIDE);
+    let text = arguments::text_flag(alloc, "Take keys as text in place of hexadecimal");
+    let line = described_as(alloc, "prove", PROVE_USAGE, help::PROVE).arg(text);
+    let line = with_range(alloc, with_trust(alloc, line));
+    let line = with_mode(alloc, line, ALWAYS_ASIDE);
     let line = with_argument(line, arguments::file_word(alloc, CHUNK_FILE));
-    let line = with_argument(line, arguments::key_word(alloc));
-    with_argument(line, arguments::out_word(alloc, "The proof to make"))
+    let line = with_argument(line, arguments::optional_key_word(alloc));
+    with_argument(
+        line,
+        arguments::optional_out_word(alloc, "The proof to make"),
+    )
 }
 
-/// `verify [--text] [--format V] ROOT KEY [PROOF]`
+/// `verify [--text] [--format V] [--from KEY] [--to KEY] ROOT [KEY] [PROOF]`
+///
+/// Where `--from` is given, the word behind ROOT is PROOF, and there is no third one.
 pub(crate) fn verify_line<'a>(alloc: Global) -> Result<Command<'a>, AllocError>
     ensures { IfOk result (HasCommandLine verify_line) }
 {
@@ -270,10 +320,14 @@ pub(crate) fn verify_line<'a>(alloc: Global) -> Result<Command<'a>, AllocError>
         alloc,
         "The version of the tree's chunks (1 or 2). It is not read off the proof, which could lie",
     );
-    let text = arguments::text_flag(alloc, KEY_AND_VALUE);
-    let line = described(alloc, "verify", help::VERIFY).arg(text);
+    let text = arguments::text_flag(
+        alloc,
+        "Take keys and print what is shown as text in place of hexadecimal",
+    );
+    let line = described_as(alloc, "verify", VERIFY_USAGE, help::VERIFY).arg(text);
     let line = with_argument(line, format);
+    let line = with_range(alloc, line);
     let line = with_argument(line, arguments::root_word(alloc));
-    let line = with_argument(line, arguments::key_word(alloc));
+    let line = with_argument(line, arguments::optional_key_word(alloc));
     with_argument(line, arguments::proof_word(alloc))
 }

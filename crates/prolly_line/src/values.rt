@@ -2,16 +2,18 @@
 ghost use Rattle.std.specs.Prelude.{◌≡◌, ◌⊎◌, Some, None, IfOk, IfErr, ℕ, List, map, string_bytes};
 ghost use Rattle.std.specs.Prelude.{option_map, codes, true, false};
 ghost use Rattle.clap.specs.Words.{first_of};
-ghost use Rattle.prolly_line.specs.GivenCommand.{GivesFlag, GivesKey, GivesMode, GivesOption};
-ghost use Rattle.prolly_line.specs.GivenCommand.{GivesWord};
+ghost use Rattle.prolly_line.specs.GivenCommand.{GivesFlag, GivesKeyAs, GivesMode, GivesOption};
+ghost use Rattle.prolly_line.specs.GivenCommand.{GivesSought, GivesWord, HasNone, MayGiveKeyAs};
+ghost use Rattle.prolly_line.specs.GivenCommand.{place_of_last};
 ghost use Rattle.prolly_line.specs.GivenCommand.{GivesBadRoot, GivesBadRootAs, GivesRootAs};
 ghost use Rattle.prolly_line.specs.GivenCommand.{GivesTrust, GivesWords, MayGiveRoots};
 ghost use Rattle.prolly_line.specs.GivenCommand.{GivesLines, GivesNotation, IsKeyText, bad_key};
 ghost use Rattle.prolly_line.specs.AcceptedWords.{HasNumber, HasWord, IsRefusedKey, ReadsNumber};
-ghost use Rattle.prolly_line.specs.AcceptedWords.{AreRefusedRoots, rows_in};
+ghost use Rattle.prolly_line.specs.AcceptedWords.{AreRefusedRoots, IsRefusedRange, IsRefusedSought};
+ghost use Rattle.prolly_line.specs.AcceptedWords.{MayReadNumber, rows_in};
 ghost use Rattle.prolly_line.specs.declared.command.ParseFault.TheVariants.{BadRoot, Memory};
 
-use crate::command::{ParseFault, RootPair, WriteMode};
+use crate::command::{ParseFault, RootPair, Sought, WriteMode};
 use clap::ArgMatches;
 use prolly_entry::Ref;
 use prolly_text::{Notation, TextFault};
@@ -26,6 +28,13 @@ pub(crate) fn byte_of(given: &ArgMatches<'_>, name: &str) -> u8
     ensures { ReadsNumber 255 name.now (rows_in given.now) result }
 {
     given.get_one::<u8>(name).unwrap()
+}
+
+/// A number of 8 bits that may be missing.
+pub(crate) fn optional_byte_of(given: &ArgMatches<'_>, name: &str) -> Option<u8>
+    ensures { MayReadNumber 255 name.now (rows_in given.now) result }
+{
+    given.get_one::<u8>(name)
 }
 
 /// A number of 32 bits.
@@ -141,18 +150,78 @@ fn copies_of(alloc: Global, words: &[&str]) -> Result<Vec<String>, AllocError>
     Ok(copies)
 }
 
-/// The key of a subcommand that takes one, from its word in the notation of the words.
+/// The key of a subcommand that takes one under this name, from its word in the notation of the
+/// words.
 pub(crate) fn key_of(
     alloc: Global,
     given: &ArgMatches<'_>,
+    name: &str,
     notation: Notation,
 ) -> Result<Vec<u8>, ParseFault>
-    requires word { HasWord (codes "key") (rows_in given.now) }
+    requires word { HasWord name.now (rows_in given.now) }
     requires notation { GivesNotation (rows_in given.now) notation }
-    ensures key { IfOk result (λ key. GivesKey (rows_in given.now) notation key.items) }
-    ensures refused { IfErr result (IsRefusedKey (rows_in given.now)) }
+    ensures key { IfOk result (λ key. GivesKeyAs name.now (rows_in given.now) notation key.items) }
+    ensures refused { IfErr result (IsRefusedKey name.now (rows_in given.now)) }
 {
-    decoded(alloc, notation, word_of(given, "key"))
+    decoded(alloc, notation, word_of(given, name))
+}
+
+/// The same of a key that may be missing.
+fn optional_key_of(
+    alloc: Global,
+    given: &ArgMatches<'_>,
+    name: &str,
+    notation: Notation,
+) -> Result<Option<Vec<u8>>, ParseFault>
+    requires { GivesNotation (rows_in given.now) notation }
+    ensures key { IfOk result (MayGiveKeyAs name.now (rows_in given.now) notation) }
+    ensures refused { IfErr result (IsRefusedKey name.now (rows_in given.now)) }
+{
+    if !is_given(given, name) {
+        return Ok(None);
+    }
+    Ok(Some(key_of(alloc, given, name, notation)?))
+}
+
+/// The range of a subcommand that takes one.
+fn range_of(alloc: Global, given: &ArgMatches<'_>, notation: Notation) -> Result<Sought, ParseFault>
+    requires word { HasWord (codes "from") (rows_in given.now) }
+    requires notation { GivesNotation (rows_in given.now) notation }
+    ensures range { IfOk result (λ sought. GivesSought (rows_in given.now) notation sought) }
+    ensures refused { IfErr result (IsRefusedRange (rows_in given.now)) }
+{
+    let from = key_of(alloc, given, "from", notation)?;
+    let to = optional_key_of(alloc, given, "to", notation)?;
+    Ok(Sought::Range { from, to })
+}
+
+/// What is sought: a range where `--from` is given, and else a key.
+pub(crate) fn sought_of(
+    alloc: Global,
+    given: &ArgMatches<'_>,
+    notation: Notation,
+) -> Result<Sought, ParseFault>
+    requires word { HasNone (codes "from") (rows_in given.now) →
+        HasWord (codes "key") (rows_in given.now) }
+    requires notation { GivesNotation (rows_in given.now) notation }
+    ensures sought { IfOk result (λ sought. GivesSought (rows_in given.now) notation sought) }
+    ensures refused { IfErr result (IsRefusedSought (rows_in given.now)) }
+{
+    if is_given(given, "from") {
+        return range_of(alloc, given, notation);
+    }
+    Ok(Sought::Key(key_of(alloc, given, "key", notation)?))
+}
+
+/// The name under which the word stands that is the last one: `last`, or that of the key where a
+/// range is sought.
+pub(crate) fn place_of_last<'a>(sought: &Sought, last: &'a str) -> &'a str
+    ensures { result.now ≡ place_of_last sought.now last.now }
+{
+    match sought {
+        Sought::Key(_) => last,
+        Sought::Range { .. } => "key",
+    }
 }
 
 // The key that a text writes in a notation.
@@ -222,8 +291,8 @@ pub(crate) fn roots_of(given: &ArgMatches<'_>) -> Result<Option<RootPair>, Parse
     }))
 }
 
-// Whether a word stands under this name.
-fn is_given(given: &ArgMatches<'_>, name: &str) -> bool
+/// Whether a word stands under this name.
+pub(crate) fn is_given(given: &ArgMatches<'_>, name: &str) -> bool
     ensures yes { result ≡ true → HasWord name.now (rows_in given.now) }
     ensures no { result ≡ false → first_of name.now (rows_in given.now) ≡ None }
 {

@@ -16,3 +16,5 @@ pub mod LineLemmas
 pub mod WrittenLines
 -- Packing a text line by line.
 pub mod PackSteps
+-- Reading keys line by line.
+mod KeySteps

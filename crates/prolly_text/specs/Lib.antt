@@ -26,7 +26,10 @@ pub mod Lines
 pub mod RecordForms
 -- What packing a text comes to: the record file of its lines, or the first line at fault.
 pub mod PackedLines
--- What is said of a text that is not packed. (This project's texts.)
+-- Lines of keys that rise. (This project's format.)
+pub mod KeyLines
+-- What is said of a text that is not packed, and of one that is no list of keys. (This project's
+-- texts.)
 pub mod LinesFaults
 -- Lemmas for the crates above, by subject.
 pub mod lemmas

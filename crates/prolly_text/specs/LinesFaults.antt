@@ -1,6 +1,9 @@
--- What is said of a text that is not packed. (This project's texts.)
+-- What is said of a text that is not packed, and of one that is no list of keys. (This project's
+-- texts.)
 use Rattle.std.specs.Prelude.{ℕ, List, ◌++◌, codes}
 use Rattle.std.specs.Fmt.{decimal}
+use Rattle.prolly_text.specs.declared.lines.keys.KeysFault.{KeysFault}
+use Rattle.prolly_text.specs.declared.lines.keys.KeysFault.TheVariants as keys
 use Rattle.prolly_text.specs.declared.lines.pack.LinesFault.{LinesFault}
 use Rattle.prolly_text.specs.declared.lines.pack.LinesFault.TheVariants as lines
 use Rattle.prolly_text.specs.declared.lines.pack.PackFault.{PackFault}
@@ -18,3 +21,12 @@ pack_text (packs.ValueTooLong line) = codes "line " ++ decimal line ++ codes ": 
 abbrev pub lines_text : LinesFault → List ℕ
 lines_text (lines.Pack fault) = pack_text fault
 lines_text (lines.BadText line) = codes "line " ++ decimal line ++ codes ": not a pair of text"
+
+-- What is said of a line of a list of keys.
+abbrev pub keys_text : KeysFault → List ℕ
+keys_text keys.Memory = codes "out of memory"
+keys_text (keys.BadLine line) = codes "line " ++ decimal line ++ codes ": not a key in hexadecimal"
+keys_text (keys.BadText line) = codes "line " ++ decimal line ++ codes ": not a key of text"
+keys_text (keys.KeyTooLong line) = codes "line " ++ decimal line ++ codes ": key too long"
+keys_text (keys.NotRising line) = codes "line " ++ decimal line ++
+    codes ": key not greater than the one before"

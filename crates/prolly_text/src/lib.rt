@@ -12,8 +12,8 @@ pub use laws::{
     lines_are_packed, names_show, one_reading, texts_stand_apart, written_is_read, written_shows,
 };
 pub use lines::{
-    LineForm, LinesFault, PackFault, RecordForm, append_change, append_line, pack_lines,
-    pack_lines_in,
+    KeysFault, LineForm, LinesFault, PackFault, RecordForm, append_change, append_line,
+    keys_of_lines, pack_lines, pack_lines_in,
 };
 pub use notation::{Notation, TextFault, append_hex, append_name};
 pub use numbers::{

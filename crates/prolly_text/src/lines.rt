@@ -1,7 +1,9 @@
-//! Records as lines of text: how they are read, and how they are written.
+//! Records and keys as lines of text: how they are read, and how records are written.
 mod form;
+mod keys;
 mod line;
 mod pack;
 
 pub use form::{LineForm, RecordForm, append_change, append_line};
+pub use keys::{KeysFault, keys_of_lines};
 pub use pack::{LinesFault, PackFault, pack_lines, pack_lines_in};

@@ -90,3 +90,16 @@ pub stopped : {E : Type 0} (are : (List Record → Type 0) → Type 0)
     OnErr result (untouched ⊎ IsPart are took_until)
 stopped are took_until untouched (Ok answer) fault is = tt
 stopped are took_until untouched (Err e) fault is = inr (record { fault = fault; is = is })
+
+-- ---- a fault that is shown
+
+-- What is so of each answer that shows the fault is so of this one.
+pub is_shown : {E : Type 0} (P : Answer → Type 0) (fault : Fault) (result : Result Answer E) →
+    ((answer : Answer) → ShowsFault answer fault → P answer) →
+    IfOk result (λ answer. ShowsFault answer fault) → IfOk result P
+is_shown P fault (Ok answer) so shows = so answer shows
+is_shown P fault (Err e) so shows = tt
+
+pub is_unshown : {E : Type 0} (P : Type 0) (result : Result Answer E) → P → OnErr result P
+is_unshown P (Ok answer) so = tt
+is_unshown P (Err e) so = so

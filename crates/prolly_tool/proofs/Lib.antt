@@ -24,3 +24,11 @@ pub mod KeyRanks
 pub mod Stating
 -- Writing a difference by the roots, change by change.
 pub mod RootDiffSteps
+-- Looking up key after key, and writing the line of each.
+mod KeySteps
+-- What is left of the proof of a set of keys.
+pub mod SetRests
+-- Verifying a range, chunk by chunk.
+pub mod SetSteps
+-- The pairs of a range are those that a scan has there.
+pub mod Ranges

@@ -12,7 +12,6 @@ use Rattle.prolly_entry.specs.Record.{Record}
 use Rattle.prolly_entry.specs.declared.version.Version.{Version}
 use Rattle.prolly_file.specs.Failures.{after_failure}
 use Rattle.prolly_file.specs.Sink.{IsSettled, SinkView}
-use Rattle.prolly_file.specs.Writes.{Writes}
 use Rattle.prolly_root.specs.RootFault.{TellsFailure}
 use Rattle.prolly_root.specs.declared.root_fault.RootFault.{RootFault}
 use Rattle.prolly_root.specs.declared.root_fault.RootFault.TheVariants as roots
@@ -509,6 +508,8 @@ module _ {W : Type 0} (seen : W → SinkView) (version : Version) (old new : Lis
     stopped_told (faults.CheckNew f) told other d t = absurd d
     stopped_told (faults.Proof f) told other d t = absurd d
     stopped_told (faults.Root f) told other d t = absurd d
+    stopped_told faults.WrongBits told other d t = absurd d
+    stopped_told faults.OtherHeader told other d t = absurd d
     stopped_told faults.NoCounts told other d t = absurd d
     stopped_told faults.InputTooLong told other d t = absurd d
     stopped_told faults.BadKey told other d t = absurd d

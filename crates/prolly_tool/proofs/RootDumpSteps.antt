@@ -293,7 +293,7 @@ module _ {W : Type 0} (seen : W → SinkView) (old mid new : W)
       prefix_unflushed seen old mid new keeping same counted bytes t
   part_taken (Err (Output Write)) other same counted t = absurd (other refl)
 
-  taken_told : (outcome told : Outcome) → IsSettledAs seen mid new outcome told →
+  pub taken_told : (outcome told : Outcome) → IsSettledAs seen mid new outcome told →
       TakesFor seen old mid bytes outcome → TakesAllFor seen old new bytes told
   taken_told outcome told (inl is) t =
       subst (TakesAllFor seen old new bytes) (sym (is.1 ∙ is.0))

@@ -409,6 +409,8 @@ stop_cases d v r l n took until (faults.Proof f) lists goal a b t =
 stop_cases d v r l n took until (faults.Root f) lists goal a b t = a f t
 stop_cases d v r l n took until (faults.RootOld f) lists goal a b t = absurd t
 stop_cases d v r l n took until (faults.RootNew f) lists goal a b t = absurd t
+stop_cases d v r l n took until faults.WrongBits lists goal a b t = absurd t
+stop_cases d v r l n took until faults.OtherHeader lists goal a b t = absurd t
 stop_cases d v r l n took until faults.NoCounts lists goal a b t = absurd t
 stop_cases d v r l n took until faults.InputTooLong lists goal a b t =
     absurd t

@@ -23,6 +23,7 @@ use Rattle.prolly_tool.specs.declared.faults.fault.Fault.TheVariants.{OutIsStdou
 use Rattle.prolly_tool.specs.declared.faults.fault.Fault.TheVariants.{CheckNew}
 use Rattle.prolly_tool.specs.declared.faults.fault.Fault.TheVariants.{Proof, Root, RootOld, RootNew}
 use Rattle.prolly_tool.specs.declared.faults.fault.Fault.TheVariants.{BadRoot, LoneRoot, Stream}
+use Rattle.prolly_tool.specs.declared.faults.fault.Fault.TheVariants.{WrongBits, OtherHeader}
 use Rattle.prolly_text.specs.LinesFaults.{lines_text}
 
 -- What is said of one of two files, which is told first; want of memory is no file's fault.
@@ -50,6 +51,8 @@ fault_text (Proof fault) = proof_fault_text fault
 fault_text (Root fault) = root_fault_text fault
 fault_text (RootOld fault) = root_side_text (codes "old ") fault
 fault_text (RootNew fault) = root_side_text (codes "new ") fault
+fault_text WrongBits = codes "the bits are not those of the tree"
+fault_text OtherHeader = codes "OLD has other --bits or another --format"
 fault_text NoCounts = codes "chunk file: no counts"
 fault_text InputTooLong = codes "input too long"
 fault_text BadKey = codes "not a key in hexadecimal"
@@ -126,6 +129,8 @@ fault_status (Proof fault) = 4
 fault_status (Root fault) = root_status fault
 fault_status (RootOld fault) = root_status fault
 fault_status (RootNew fault) = root_status fault
+fault_status WrongBits = 3
+fault_status OtherHeader = 3
 fault_status NoCounts = 4
 fault_status InputTooLong = 5
 fault_status BadKey = 2

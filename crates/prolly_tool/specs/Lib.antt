@@ -16,6 +16,8 @@ pub mod Names
 pub mod Answers
 -- What the command `build` prints.
 pub mod Build
+-- What the command `apply` asks of the old file's header, and what it prints.
+pub mod Apply
 -- What the commands that read a chunk file print.
 pub mod LookUps
 -- What the command `root` answers.
@@ -28,12 +30,16 @@ pub mod Counts
 pub mod Diff
 -- What the commands `prove` and `verify` answer.
 pub mod Proofs
+-- What `prove` and `verify` answer of a range of keys.
+pub mod SetProofs
 -- What `diff` answers to who names the roots.
 pub mod RootDiffs
 -- What `scan` answers to who names the root.
 pub mod RootScans
 -- What `dump` answers to who names the root.
 pub mod RootDumps
+-- What `get` answers of many keys.
+pub mod KeyLookUps
 -- What `explain` answers, and what a command says of a record file that it goes over once.
 pub mod Surveys
 -- What the command `stat` answers.

@@ -3,6 +3,7 @@ mod fault;
 mod name_fault;
 mod output_fault;
 mod root_output_fault;
+mod set_fault;
 
 pub use fault::Fault;
 pub use name_fault::NameFault;

@@ -8,16 +8,19 @@ pub mod laws;
 mod lines;
 
 pub use answers::{
-    Answer, RootDiff, RootScan, StatForm, Stated, answer_build, answer_check, answer_check_by,
-    answer_check_by_root, answer_diff, answer_diff_by_root, answer_dump, answer_dump_by_root,
-    answer_explain, answer_found, answer_found_pair, answer_get, answer_get_in, answer_nth,
-    answer_nth_in, answer_pack, answer_pack_in, answer_prove, answer_prove_by_root, answer_root,
-    answer_scan, answer_scan_by_root, answer_scan_in, answer_scratch, answer_stat, answer_verify,
+    Answer, RootDiff, RootScan, StatForm, Stated, agreed_header, answer_apply, answer_build,
+    answer_check, answer_check_by, answer_check_by_root, answer_diff, answer_diff_by_root,
+    answer_dump, answer_dump_by_root, answer_explain, answer_found, answer_found_pair, answer_get,
+    answer_get_in, answer_get_keys, answer_get_keys_by_root, answer_nth, answer_nth_in,
+    answer_pack, answer_pack_in, answer_prove, answer_prove_by_root, answer_prove_set,
+    answer_prove_set_by_root, answer_root, answer_scan, answer_scan_by_root, answer_scan_in,
+    answer_scratch, answer_stat, answer_verify, answer_verify_range,
 };
 pub use faults::{Fault, NameFault, OutputFault};
 pub use input::INPUT_LIMIT;
 pub use prolly_build::{AllStart, Config, ConfigFault, Permit, Report, build, build_with};
-pub use prolly_line::{Command, ParseFault, RootPair, WriteMode, parse};
+pub use prolly_line::{Command, ParseFault, RootPair, Sought, WriteMode, parse};
 pub use prolly_text::{
-    LineForm, LinesFault, Notation, PackFault, RecordForm, pack_lines, pack_lines_in,
+    KeysFault, LineForm, LinesFault, Notation, PackFault, RecordForm, keys_of_lines, pack_lines,
+    pack_lines_in,
 };

@@ -49,7 +49,7 @@ pub fn build_from<T: Wait + Threads + Clock + Sync>(
 
 /// The record files of these names, where none is the output, and how many bytes they have, where
 /// that is known.
-fn sources_of<'a>(
+pub(super) fn sources_of<'a>(
     rt: &HostRuntime,
     files: &[String],
     output: Found,

@@ -121,7 +121,7 @@ fn split_at(line: &[u8], byte: u8) -> Option<(&[u8], &[u8])>
 }
 
 /// The bytes that a text stands for.
-fn bytes_of(alloc: Global, notation: Notation, text: &[u8]) -> Result<Vec<u8>, LineFlaw>
+pub(crate) fn bytes_of(alloc: Global, notation: Notation, text: &[u8]) -> Result<Vec<u8>, LineFlaw>
     ensures ok { IfOk result (λ bytes. IsWritten notation text.now bytes.items) }
     ensures err { IfErr result (λ flaw. IsNotWritten notation text.now flaw) }
 {

@@ -22,7 +22,8 @@ pub fn answer_build(alloc: Global, built: &Result<Report, RunFault>) -> Result<A
     }
 }
 
-fn line_of(alloc: Global, report: &Report) -> Result<Vec<u8>, AllocError>
+/// The line of a report, without its end.
+pub(super) fn line_of(alloc: Global, report: &Report) -> Result<Vec<u8>, AllocError>
     ensures { IfOk result (λ line. line.items ≡ report_text report.now) }
 {
     let mut line = Vec::new(alloc);

@@ -125,7 +125,7 @@ fn write_leaf<W: Sink>(
 
 /// Flushes the sink, and answers the outcome, or else that this failed. A sink of which a write
 /// failed is left as it is.
-fn settled<W: Sink>(
+pub(crate) fn settled<W: Sink>(
     sink: &mut W,
     outcome: Result<(), RootOutputFault>,
 ) -> Result<(), RootOutputFault>

@@ -43,6 +43,10 @@ pub enum Fault {
     RootOld(RootFault),
     /// The new file of two has not the tree of its root.
     RootNew(RootFault),
+    /// The leaves of the old file's tree are not cut by the bits that its header says.
+    WrongBits,
+    /// The header of the old file says other bits, or another version, than are given.
+    OtherHeader,
     /// A chunk file of version One has no counts, by which a pair is found by its number.
     NoCounts,
     /// Standard input is longer than the program reads.
@@ -69,7 +73,7 @@ impl Fault {
         match self {
             Fault::Memory | Fault::Pack(LinesFault::Pack(PackFault::Memory)) => 6,
             Fault::Run(fault) => run_status(fault),
-            Fault::Pack(_) => 3,
+            Fault::Pack(_) | Fault::WrongBits | Fault::OtherHeader => 3,
             Fault::Check(fault) | Fault::CheckOld(fault) | Fault::CheckNew(fault) => {
                 check_status(fault)
             }
@@ -191,6 +195,8 @@ impl Display for Fault {
             Fault::Root(fault) => fault.fmt(f),
             Fault::RootOld(fault) => RootSideText("old ", *fault).fmt(f),
             Fault::RootNew(fault) => RootSideText("new ", *fault).fmt(f),
+            Fault::WrongBits => f.write_str("the bits are not those of the tree"),
+            Fault::OtherHeader => f.write_str("OLD has other --bits or another --format"),
             Fault::NoCounts => f.write_str("chunk file: no counts"),
             Fault::InputTooLong => f.write_str("input too long"),
             Fault::BadKey => f.write_str("not a key in hexadecimal"),

@@ -7,7 +7,7 @@ pub unreachable-requires : goal.unreachable-requires
 unreachable-requires c =
     not_strange c.args.name.now (rows_in c.args.given.now) c.requires c.in_default.not-pack
     c.in_default.not-scratch
-    c.in_default.not-build c.in_default.not-explain c.in_default.not-check c.in_default.not-root
+    c.in_default.not-build c.in_default.not-apply c.in_default.not-explain c.in_default.not-check c.in_default.not-root
     c.in_default.not-stat
     c.in_default.not-get c.in_default.not-scan
     c.in_default.not-nth
@@ -36,6 +36,13 @@ build-requires c = subst (λ name. IsAccepted (name, rows_in c.args.given.now)) 
 pub returns-in-build : goal.returns-in-build
 returns-in-build c = subst (λ name. Answers (name, rows_in c.args.given.now) c.build.result)
     (sym c.in-build.is) c.build.ensures
+
+pub apply-requires : goal.apply-requires
+apply-requires c = subst (λ name. IsAccepted (name, rows_in c.args.given.now)) c.in-apply.is c.requires
+
+pub returns-in-apply : goal.returns-in-apply
+returns-in-apply c = subst (λ name. Answers (name, rows_in c.args.given.now) c.apply.result)
+    (sym c.in-apply.is) c.apply.ensures
 
 pub explain-requires : goal.explain-requires
 explain-requires c = subst (λ name. IsAccepted (name, rows_in c.args.given.now)) c.in-explain.is c.requires

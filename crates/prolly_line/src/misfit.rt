@@ -1,0 +1,106 @@
+//! Words that clap takes, and that do not fit together.
+ghost use Rattle.std.specs.Prelude.{◌≢◌, IfNone, IfSome, codes};
+ghost use Rattle.prolly_line.specs.AcceptedWords.{DoFit, rows_in};
+ghost use Rattle.prolly_line.specs.GivenCommand.{AreMisfit, HasNone, HasWord, IsAskedFor};
+ghost use Rattle.prolly_line.specs.GivenCommand.{IsWordFault};
+
+use crate::command::{ParseFault, refusal};
+use crate::values::is_given;
+use clap::error::ErrorKind;
+use clap::{ArgMatches, Command};
+use std::alloc::{AllocError, Global};
+
+/// Which words are missing, or one too many, where a key or a range is sought.
+#[derive(Clone, Copy)]
+pub(crate) enum Misfit {
+    /// `--to` without `--from`.
+    LoneTo,
+    /// Neither a key nor a range.
+    NoKey,
+    /// No output.
+    NoOut,
+    /// A key beside a range.
+    KeyBesideRange,
+}
+
+impl Misfit {
+    /// What of the words behind the first one does not fit, of a command that takes a key, and
+    /// behind it a word that goes by the name `last`; with `--from` there is no key, and the last
+    /// word stands in its place.
+    pub(crate) fn of(given: &ArgMatches<'_>, last: &str, needs_last: bool) -> Option<Misfit>
+        ensures some { IfSome result (λ _. AreMisfit last.now needs_last (rows_in given.now)) }
+        ensures none { IfNone result (DoFit last.now needs_last (rows_in given.now)) }
+    {
+        if is_given(given, "from") {
+            Misfit::beside_range(given, last, needs_last)
+        } else {
+            Misfit::beside_key(given, last, needs_last)
+        }
+    }
+
+    /// The same, where there is a range.
+    fn beside_range(given: &ArgMatches<'_>, last: &str, needs_last: bool) -> Option<Misfit>
+        requires { HasWord (codes "from") (rows_in given.now) }
+        ensures some { IfSome result (λ _. AreMisfit last.now needs_last (rows_in given.now)) }
+        ensures none { IfNone result (DoFit last.now needs_last (rows_in given.now)) }
+    {
+        if is_given(given, last) {
+            return Some(Misfit::KeyBesideRange);
+        }
+        if needs_last && !is_given(given, "key") {
+            return Some(Misfit::NoOut);
+        }
+        None
+    }
+
+    /// The same, where there is none.
+    fn beside_key(given: &ArgMatches<'_>, last: &str, needs_last: bool) -> Option<Misfit>
+        requires { HasNone (codes "from") (rows_in given.now) }
+        ensures some { IfSome result (λ _. AreMisfit last.now needs_last (rows_in given.now)) }
+        ensures none { IfNone result (DoFit last.now needs_last (rows_in given.now)) }
+    {
+        if is_given(given, "to") {
+            return Some(Misfit::LoneTo);
+        }
+        if !is_given(given, "key") {
+            return Some(Misfit::NoKey);
+        }
+        if needs_last && !is_given(given, last) {
+            return Some(Misfit::NoOut);
+        }
+        None
+    }
+
+    /// How it is told, as by clap, with the usage of the line.
+    pub(crate) fn fault(self, alloc: Global, line: Result<Command<'_>, AllocError>) -> ParseFault
+        ensures { IsWordFault result }
+    {
+        let Ok(mut line) = line else {
+            return ParseFault::Memory;
+        };
+        match line.error(self.kind(), self.text()) {
+            Ok(error) => refusal(alloc, &error),
+            Err(_) => ParseFault::Memory,
+        }
+    }
+
+    /// The kind of clap's errors that it is one of.
+    fn kind(self) -> ErrorKind
+        ensures { (IsAskedFor result → ⊥) × (result ≢ ErrorKind.OutOfMemory) }
+    {
+        match self {
+            Misfit::KeyBesideRange => ErrorKind::ArgumentConflict,
+            _ => ErrorKind::MissingRequiredArgument,
+        }
+    }
+
+    /// What is said of it.
+    fn text(self) -> &'static str {
+        match self {
+            Misfit::LoneTo => "the following required arguments were not provided:\n  --from <KEY>",
+            Misfit::NoKey => "the following required arguments were not provided:\n  <KEY>",
+            Misfit::NoOut => "the following required arguments were not provided:\n  <OUT>",
+            Misfit::KeyBesideRange => "the argument '--from <KEY>' cannot be used with '<KEY>'",
+        }
+    }
+}

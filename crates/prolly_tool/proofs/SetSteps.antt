@@ -1,0 +1,471 @@
+-- Verifying a range, chunk by chunk.
+use Rattle.std.proofs.Common.{◌≡◌, ◌≢◌, ◌⊎◌, inl, inr, ℕ, min, Bool, true, false, List, [], ◌∷◌, ◌++◌}
+use Rattle.std.proofs.Common.{length, Option, Some, None, Result, Ok, Err, refl, sym, ap, ◌∙◌}
+use Rattle.std.proofs.Common.{subst, arith, append_assoc, append-nil}
+use Rattle.std.specs.Prelude.{◌↔◌, IsErrOf, IfErr, OnOk}
+use Rattle.std.specs.List.{AllByRecursion, flat_map}
+use Rattle.std.proofs.lemmas.Bool.{cases_eq}
+use Rattle.std.proofs.lemmas.List.{length-append}
+use Rattle.std.proofs.lemmas.List.Concat.{flat_map-append}
+use Rattle.prolly_entry.specs.Pair.{Pair}
+use Rattle.prolly_entry.specs.declared.version.Version.{Version}
+use Rattle.prolly_entry.specs.lemmas.Lists.{all_append}
+use Rattle.prolly_file.specs.Failures.{CountsFailure, after_failure}
+use Rattle.prolly_file.specs.Frame.{framed, IsSmall}
+use Rattle.prolly_file.specs.Sink.{IsSettled, SinkView}
+use Rattle.prolly_file.specs.Writer.{next_count}
+use Rattle.prolly_range.specs.KeySet.{KeySet}
+use Rattle.prolly_range.specs.SetProof.{AreTaken, Due, IsSetProof, root_due}
+use Rattle.prolly_range.specs.SetProof.{set_file, set_start}
+use Rattle.prolly_range.specs.Verifier.{ComesTo, IsAtEnd, IsNextFault, IsRestOf, IsStartFault}
+use Rattle.prolly_range.specs.Verifier.{MayFail, TakesNext, VerifierView}
+use Rattle.prolly_range.specs.declared.fault.SetFault.{SetFault}
+use Rattle.prolly_range.specs.declared.fault.SetFault.TheVariants as sets
+use Rattle.prolly_range.specs.lemmas.Taken.{taken_more}
+use Rattle.prolly_text.specs.declared.notation.Notation.{Notation}
+use Rattle.prolly_tree.specs.Events.{greatest_count}
+use Rattle.prolly_tool.specs.LookUps.{pair_lines, pair_text}
+use Rattle.prolly_tool.specs.OutputFault.{told}
+use Rattle.prolly_tool.specs.Outputs.{TookAll, TookBytes, TookPart, TookUntil}
+use Rattle.prolly_tool.specs.RootScans.{IsFlushed}
+use Rattle.prolly_tool.specs.SetProofs.{IsNoSetProof, IsStoppedSet, IsVerifiedSet, StoppedSet}
+use Rattle.prolly_tool.specs.SetProofs.{TellsProofReads, told_set}
+use Rattle.prolly_tool.specs.declared.faults.fault.Fault.{Fault}
+use Rattle.prolly_tool.specs.declared.faults.fault.Fault.TheVariants.{Read, Write}
+use Rattle.prolly_tool.specs.declared.faults.output_fault.OutputFault.{OutputFault}
+use Rattle.prolly_tool.specs.declared.faults.output_fault.OutputFault.TheVariants as outputs
+use Rattle.prolly_tool.proofs.ScanSteps.{all_flushed, all_unflushed, prefix_flushed}
+use Rattle.prolly_tool.proofs.ScanSteps.{prefix_unflushed, took_also, until_also}
+use Rattle.prolly_tool.proofs.SetRests.{not_begun, rest_behind, rest_begins}
+use Rattle.prolly_tool.proofs.Writing.{TookSoFar, took_none}
+
+-- ---- what a call came to
+
+-- A source that is honest now was honest at first: what is said of it where it is now, is said where
+-- it was at first.
+module _ (version : Version) (due next : List Due) (left after : List ℕ) (first now : Bool)
+    (honest : first ≡ true → now ≡ true) where
+  pub chunk_came : (shown : List Pair) (chunk : Option (List Pair)) → chunk ≡ Some shown →
+      (v : Version) → v ≡ version → ComesTo v due chunk next now left after →
+      TakesNext version due shown next first left after
+  chunk_came shown chunk is v same comes =
+      let t : TakesNext version due shown next now left after =
+      subst (λ o. ComesTo version due o next now left after) is
+      (subst (λ v. ComesTo v due chunk next now left after) same comes) in
+      record {
+        chunk = t.chunk;
+        takes = t.takes;
+        small = t.small;
+        read = λ h. t.read (honest h);
+      }
+
+  pub end_came : (chunk : Option (List Pair)) → chunk ≡ None → (v : Version) →
+      ComesTo v due chunk next now left after → IsAtEnd due next first left
+  end_came chunk is v comes =
+      let end : IsAtEnd due next now left =
+      subst (λ o. ComesTo v due o next now left after) is comes in
+      record {
+        none = end.none;
+        still = end.still;
+        over = λ h. end.over (honest h);
+      }
+
+-- What a verifier keeps that was opened.
+pub record IsOpened (verifier : VerifierView) (version : Version) (due : List Due) : Type 0 where
+  pub version_is : verifier.version ≡ version
+  pub due_is : verifier.due ≡ due
+  pub count_is : verifier.count ≡ 0
+  pub going : verifier.stopped ≡ false
+
+pub is_opened : (verifier : VerifierView) (version : Version) (due : List Due) →
+    verifier ≡ record { version = version; due = due; count = 0; stopped = false } →
+    IsOpened verifier version due
+is_opened verifier version due e = record {
+  version_is = ap (λ v. v.version) e;
+  due_is = ap (λ v. v.due) e;
+  count_is = ap (λ v. v.count) e;
+  going = ap (λ v. v.stopped) e;
+}
+
+-- ---- on its way
+
+module _ {W : Type 0} (seen : W → SinkView) (notation : Notation) (version : Version)
+    (root : List ℕ) (set : KeySet) (honest : Bool) (bytes : List ℕ) where
+  -- So much is due behind the chunks that were taken, and the lines of their pairs were written.
+  pub record IsReading (due : List Due) (count : ℕ) (left : List ℕ) (old new : W) : Type 0 where
+    pub chunks : List (List ℕ)
+    pub pairs : List Pair
+    pub small : AllByRecursion IsSmall chunks
+    pub taken : AreTaken version (root_due root set ∷ []) chunks pairs due
+    pub count_is : count ≡ min greatest_count (length chunks)
+    pub read : honest ≡ true → bytes ≡ set_file version chunks ++ left
+    pub rest : honest ≡ true → (ps : List Pair) → IsSetProof version root set bytes ps →
+        IsRestOf version due left
+    pub took : TookSoFar seen (pair_lines notation pairs) old new
+
+  abbrev Verified : W → W → Type 0
+  Verified old new = IsVerifiedSet notation version root set honest bytes
+      (λ lines. TookBytes seen lines old new)
+
+  abbrev Stopped : W → W → Fault → Type 0
+  Stopped old new = IsStoppedSet notation version root set honest bytes
+      (λ lines. TookBytes seen lines old new) (λ fault lines. TookUntil seen fault lines old new)
+
+  abbrev Refused : SetFault → Type 0
+  Refused fault = honest ≡ true → IsNoSetProof version root set bytes fault
+
+  pub range_begins : (due : List Due) (count : ℕ) (left : List ℕ) (old : W) →
+      due ≡ root_due root set ∷ [] → count ≡ 0 →
+      (honest ≡ true → bytes ≡ set_start version ++ left) → IsReading due count left old old
+  range_begins due count left old is none start = record {
+    chunks = [];
+    pairs = [];
+    small = tt;
+    taken = (sym is, refl);
+    count_is = none;
+    read = start;
+    rest = λ h ps p. subst (λ d. IsRestOf version d left) (sym is)
+        (rest_begins version root set bytes left ps (start h) p);
+    took = took_none seen old;
+  }
+
+  -- The bytes do not begin as a proof.
+  pub range_refused : (fault : SetFault) (old : W) →
+      (honest ≡ true → IsStartFault version bytes fault) → Stopped old old (told_set fault)
+  range_refused fault old start = record {
+    chunks = [];
+    pairs = [];
+    due = root_due root set ∷ [];
+    taken = (refl, refl);
+    stopped = inl (fault, refl, λ h. refused fault (start h), (took_none seen old).all);
+  }
+    where
+      refused : (fault : SetFault) → IsStartFault version bytes fault →
+          IsNoSetProof version root set bytes fault
+      refused sets.Memory s = tt
+      refused sets.Read s = tt
+      refused (sets.Proof fault) s = (inl s, λ ps p. not_begun version root set bytes fault ps s p)
+      refused sets.Stopped s = absurd s
+
+  module _ (due : List Due) (count : ℕ) (left : List ℕ) (old mid : W)
+      (r : IsReading due count left old mid) where
+    -- Nothing is due any more.
+    pub range_ends : (new : List Due) → IsAtEnd due new honest left → Verified old mid
+    range_ends new end = record {
+      proof = set_file version r.chunks;
+      pairs = r.pairs;
+      proves = record {
+        chunks = r.chunks;
+        small = r.small;
+        is = refl;
+        taken = subst (AreTaken version (root_due root set ∷ []) r.chunks r.pairs) end.none r.taken;
+      };
+      read = λ h. r.read h ∙ ap (λ x. set_file version r.chunks ++ x) (end.over h) ∙
+          append-nil (set_file version r.chunks);
+      took = r.took.all;
+    }
+
+    -- What is next is at fault.
+    pub range_fails : (fault : SetFault) →
+        (honest ≡ true → IsNextFault version due count left fault) →
+        (honest ≡ true → IsRestOf version due left → MayFail fault) →
+        Stopped old mid (told_set fault)
+    range_fails fault next accepts = record {
+      chunks = r.chunks;
+      pairs = r.pairs;
+      due = due;
+      taken = r.taken;
+      stopped = inl (fault, refl, refused fault next accepts, r.took.all);
+    }
+      where
+        other : (fault : SetFault) → MayFail fault → fault ≢ sets.Memory → fault ≢ sets.Read → ⊥
+        other fault (inl e) m n = m e
+        other fault (inr e) m n = n e
+
+        refused : (fault : SetFault) → (honest ≡ true → IsNextFault version due count left fault) →
+            (honest ≡ true → IsRestOf version due left → MayFail fault) → Refused fault
+        refused sets.Memory next accepts h = tt
+        refused sets.Read next accepts h = tt
+        refused (sets.Proof fault) next accepts h = (
+          inr (record {
+            chunks = r.chunks;
+            pairs = r.pairs;
+            due = due;
+            left = left;
+            small = r.small;
+            taken = r.taken;
+            is = r.read h;
+            so = subst (λ n. IsNextFault version due n left (sets.Proof fault)) r.count_is (next h);
+          }),
+          λ ps p. other (sets.Proof fault) (accepts h (r.rest h ps p)) (λ e. cc) (λ e. cc),
+        )
+        refused sets.Stopped next accepts h = absurd (next h)
+
+    module _ (shown : List Pair) (next : List Due) (after : List ℕ)
+        (t : TakesNext version due shown next honest left after) where
+      taken : AreTaken version (root_due root set ∷ []) (r.chunks ++ t.chunk ∷ []) (r.pairs ++ shown)
+          next
+      taken = taken_more version (root_due root set ∷ []) r.chunks r.pairs due t.chunk shown next
+          r.taken t.takes
+
+      text : pair_lines notation (r.pairs ++ shown) ≡
+          pair_lines notation r.pairs ++ pair_lines notation shown
+      text = flat_map-append (λ p. pair_text notation p ++ 0x0A ∷ []) r.pairs shown
+
+      module _ (new : W) where
+        -- The lines of one more chunk are not all written.
+        pub chunk_unwritten : (fault : OutputFault) →
+            TookUntil seen fault (pair_lines notation shown) mid new → Stopped old new (told fault)
+        chunk_unwritten fault u = record {
+          chunks = r.chunks ++ t.chunk ∷ [];
+          pairs = r.pairs ++ shown;
+          due = next;
+          taken = taken;
+          stopped = inr (
+            fault,
+            refl,
+            subst (λ lines. TookUntil seen fault lines old new) (sym text)
+                (until_also seen (pair_lines notation r.pairs) (pair_lines notation shown) old mid new
+                r.took fault u),
+          );
+        }
+
+        -- They are written.
+        pub range_goes_on : (more : ℕ) → more ≡ next_count count →
+            TookBytes seen (pair_lines notation shown) mid new →
+            ((seen mid).is_keeping ≡ true → (seen new).is_keeping ≡ true) →
+            IsReading next more after old new
+        range_goes_on more one w keeping = record {
+          chunks = r.chunks ++ t.chunk ∷ [];
+          pairs = r.pairs ++ shown;
+          small = all_append IsSmall r.chunks (t.chunk ∷ []) r.small (t.small, tt);
+          taken = taken;
+          count_is = omega (arith, one, r.count_is, length-append r.chunks (t.chunk ∷ []));
+          read = λ h. r.read h ∙ ap (λ x. set_file version r.chunks ++ x) (t.read h) ∙
+              sym (append_assoc (set_file version r.chunks) (framed t.chunk) after) ∙
+              file_more after;
+          rest = λ h ps p. rest_behind version due t.chunk shown next left after t.takes t.small
+              (t.read h) (r.rest h ps p);
+          took = subst (λ lines. TookSoFar seen lines old new) (sym text)
+              (took_also seen (pair_lines notation r.pairs) (pair_lines notation shown) old mid new
+              r.took w keeping);
+        }
+          where
+            file_more : (after : List ℕ) → (set_file version r.chunks ++ framed t.chunk) ++ after ≡
+                set_file version (r.chunks ++ t.chunk ∷ []) ++ after
+            file_more after = ap (λ x. x ++ after)
+                (append_assoc (set_start version) (flat_map framed r.chunks) (framed t.chunk) ∙
+                ap (λ x. set_start version ++ x)
+                (ap (λ x. flat_map framed r.chunks ++ x) (sym (append-nil (framed t.chunk))) ∙
+                sym (flat_map-append framed r.chunks (t.chunk ∷ []))))
+
+-- ---- the end
+
+module _ {W : Type 0} (seen : W → SinkView) (notation : Notation) (version : Version)
+    (root : List ℕ) (set : KeySet) (honest : Bool) (bytes : List ℕ) (old mid new : W)
+    (keeping : (seen old).is_keeping ≡ true → (seen mid).is_keeping ≡ true) where
+  abbrev All : List ℕ → Type 0
+  All lines = TookAll seen lines old new
+
+  abbrev Until : OutputFault → List ℕ → Type 0
+  Until fault lines = TookUntil seen fault lines old new
+
+  abbrev Done : Type 0
+  Done = IsVerifiedSet notation version root set honest bytes (λ lines. TookBytes seen lines old mid)
+
+  abbrev Ended : Fault → Type 0
+  Ended = IsStoppedSet notation version root set honest bytes All Until
+
+  module _ (same : (seen mid).is_keeping ≡ true → (seen new).taken ≡ (seen mid).taken) where
+    pub range_ended : (d : Done) (result : Result (Unit {0}) Fault) →
+        CountsFailure (seen mid).failures (seen new).failures result →
+        OnOk result (IsSettled (seen new)) →
+        OnOk result (IsVerifiedSet notation version root set honest bytes All)
+    range_ended d (Ok x) counted settled = record {
+      proof = d.proof;
+      pairs = d.pairs;
+      proves = d.proves;
+      read = d.read;
+      took = all_flushed seen old mid new keeping same counted settled
+          (pair_lines notation d.pairs) d.took;
+    }
+    range_ended d (Err fault) counted settled = tt
+
+    pub range_unflushed : (d : Done) (result : Result (Unit {0}) Fault) →
+        CountsFailure (seen mid).failures (seen new).failures result →
+        IfErr result (λ fault. fault ≡ Write) → IfErr result Ended
+    range_unflushed d (Ok x) counted is = tt
+    range_unflushed d (Err fault) counted is = record {
+      chunks = d.proves.chunks;
+      pairs = d.pairs;
+      due = [];
+      taken = d.proves.taken;
+      stopped = inr (
+        outputs.Write,
+        is,
+        all_unflushed seen old mid new keeping same counted
+            (pair_lines notation d.pairs) d.took,
+      );
+    }
+
+  -- The sink is flushed before the fault is told.
+  module _ (fault : Fault) (s : IsStoppedSet notation version root set honest bytes
+      (λ lines. TookBytes seen lines old mid) (λ fault lines. TookUntil seen fault lines old mid)
+      fault) where
+    abbrev Refuses : SetFault → Type 0
+    Refuses of_proof = honest ≡ true → IsNoSetProof version root set bytes of_proof
+
+    abbrev StoppedBy : Fault → Type 0
+    StoppedBy = StoppedSet Refuses All Until (pair_lines notation s.pairs)
+
+    told_write : (of_proof : SetFault) → told_set of_proof ≢ Write
+    told_write sets.Memory e = cc
+    told_write sets.Read e = cc
+    told_write (sets.Proof f) e = cc
+    told_write sets.Stopped e = cc
+
+    -- A write failed.
+    failed : new ≡ mid → fault ≡ Write → StoppedBy fault
+    failed is write = go s.stopped
+      where
+        go : StoppedSet Refuses (λ lines. TookBytes seen lines old mid)
+            (λ fault lines. TookUntil seen fault lines old mid) (pair_lines notation s.pairs) fault →
+            StoppedBy fault
+        go (inl p) = absurd (told_write p.0 (sym p.1 ∙ write))
+        go (inr w) = inr (
+          w.0,
+          w.1,
+          subst (λ last. TookUntil seen w.0 (pair_lines notation s.pairs)
+              old last) (sym is) w.2,
+        )
+
+    module _ (same : (seen mid).is_keeping ≡ true → (seen new).taken ≡ (seen mid).taken)
+        (other : fault ≢ Write) where
+      -- It is flushed.
+      told_flushed : (seen new).failures ≡ (seen mid).failures → IsSettled (seen new) →
+          StoppedBy fault
+      told_flushed counted settled = go s.stopped
+        where
+          until : (of_lines : OutputFault) → fault ≡ told of_lines →
+              TookUntil seen of_lines (pair_lines notation s.pairs) old mid →
+              Until of_lines (pair_lines notation s.pairs)
+          until outputs.Memory e t = prefix_flushed seen old mid new keeping same counted settled
+              (pair_lines notation s.pairs) t
+          until outputs.Write e t = absurd (other e)
+
+          go : StoppedSet Refuses (λ lines. TookBytes seen lines old mid)
+              (λ fault lines. TookUntil seen fault lines old mid) (pair_lines notation s.pairs)
+              fault → StoppedBy fault
+          go (inl p) = inl (
+            p.0,
+            p.1,
+            p.2,
+            all_flushed seen old mid new keeping same counted settled
+                (pair_lines notation s.pairs) p.3,
+          )
+          go (inr w) = inr (w.0, w.1, until w.0 w.1 w.2)
+
+      -- That fails.
+      told_unflushed : (seen new).failures ≡ after_failure (seen mid).failures → StoppedBy Write
+      told_unflushed counted = inr (outputs.Write, refl, go s.stopped)
+        where
+          until : (of_lines : OutputFault) → fault ≡ told of_lines →
+              TookUntil seen of_lines (pair_lines notation s.pairs) old mid →
+              TookPart seen (pair_lines notation s.pairs) old new
+          until outputs.Memory e t = prefix_unflushed seen old mid new keeping same counted
+              (pair_lines notation s.pairs) t
+          until outputs.Write e t = absurd (other e)
+
+          go : StoppedSet Refuses (λ lines. TookBytes seen lines old mid)
+              (λ fault lines. TookUntil seen fault lines old mid) (pair_lines notation s.pairs)
+              fault → TookPart seen (pair_lines notation s.pairs) old new
+          go (inl p) = all_unflushed seen old mid new keeping same counted
+              (pair_lines notation s.pairs) p.3
+          go (inr w) = until w.0 w.1 w.2
+
+    ended_by : (told_as : Fault) → StoppedBy told_as → Ended told_as
+    ended_by told_as stopped = record {
+      chunks = s.chunks;
+      pairs = s.pairs;
+      due = s.due;
+      taken = s.taken;
+      stopped = stopped;
+    }
+
+    pub range_stopped : (told_as : Fault) → ((fault ≡ Write) × (told_as ≡ fault) × (new ≡ mid))
+        ⊎ ((fault ≢ Write) × IsFlushed seen mid new fault told_as) → Ended told_as
+    range_stopped told_as (inl is) =
+        subst Ended (sym is.1) (ended_by fault (failed is.2 is.0))
+    range_stopped told_as (inr is) = elim is.1.tells [
+      | inl f ↦ subst Ended (sym f.0)
+          (ended_by fault (told_flushed is.1.same is.0 f.1 f.2))
+      | inr f ↦ subst Ended (sym f.0) (ended_by Write (told_unflushed is.1.same is.0 f.1))
+    ]
+
+-- ---- what is told of the reads
+
+-- None failed in a call that went well.
+pub none_failed : (old new : ℕ) → ((new ≢ old) → ⊥) → new ≡ old
+none_failed old new none = elim (cases_eq new old) [
+  | inl e ↦ e
+  | inr other ↦ absurd (none other)
+]
+
+pub unfailed : {T : Type 0} (x : T) (old new : ℕ) →
+    (IsErrOf {T = T} (Ok x) sets.Read ↔ (new ≢ old)) → new ≡ old
+unfailed x old new read = none_failed old new (λ other. not_err x (read.1 other))
+  where
+    not_err : {T : Type 0} (x : T) → ◌≡◌ {A = Result T SetFault} (Ok x) (Err sets.Read) → ⊥
+    not_err x e = cc
+
+pub proof_tells : (before mid after : ℕ) (fault : SetFault) → mid ≡ before →
+    (IsErrOf {T = Unit {0}} (Err fault) sets.Read ↔ (after ≢ mid)) →
+    TellsProofReads (after ≢ before) (Err (told_set fault))
+proof_tells before mid after fault same read = (
+  λ e. subst (λ n. after ≢ n) same (read.0 (ap Err (is_read fault e))),
+  λ failed. inl (ap told_set (err_is (read.1 (subst (λ n. after ≢ n) (sym same) failed)))),
+)
+  where
+    is_read : (fault : SetFault) → told_set fault ≡ Read → fault ≡ sets.Read
+    is_read sets.Memory e = cc
+    is_read sets.Read e = refl
+    is_read (sets.Proof f) e = cc
+    is_read sets.Stopped e = cc
+
+    err_is : ◌≡◌ {A = Result (Unit {0}) SetFault} (Err fault) (Err sets.Read) → fault ≡ sets.Read
+    err_is e = cc
+
+pub lines_tell : (before after : ℕ) (fault : OutputFault) → after ≡ before →
+    TellsProofReads (after ≢ before) (Err (told fault))
+lines_tell before after fault same = (
+  λ e. absurd (not_read fault e),
+  λ failed. absurd (failed same),
+)
+  where
+    not_read : (fault : OutputFault) → told fault ≡ Read → ⊥
+    not_read outputs.Memory e = cc
+    not_read outputs.Write e = cc
+
+-- The flush at the end is done, or fails.
+pub end_tells : (failed : Type 0) (result : Result (Unit {0}) Fault) → ¬ failed →
+    IfErr result (λ fault. fault ≡ Write) → TellsProofReads failed result
+end_tells failed (Ok done) none is = none
+end_tells failed (Err fault) none is = (λ e. absurd (other e), λ f. absurd (none f))
+  where
+    other : fault ≡ Read → ⊥
+    other e = let bad : Write ≡ Read = sym is ∙ e in cc
+
+-- The fault is told, once the sink is flushed, or that this failed.
+pub flush_tells : {W : Type 0} (seen : W → SinkView) (mid new : W) (failed : Type 0)
+    (fault told_as : Fault) → TellsProofReads failed (Err fault) →
+    ((fault ≡ Write) × (told_as ≡ fault) × (new ≡ mid))
+    ⊎ ((fault ≢ Write) × IsFlushed seen mid new fault told_as) → TellsProofReads failed (Err told_as)
+flush_tells seen mid new failed fault told_as tells (inl is) =
+    subst (λ f. TellsProofReads failed (Err f)) (sym is.1) tells
+flush_tells seen mid new failed fault told_as tells (inr is) = elim is.1.tells [
+  | inl f ↦ subst (λ f. TellsProofReads failed (Err f)) (sym f.0) tells
+  | inr f ↦ subst (λ f. TellsProofReads failed (Err f)) (sym f.0) (λ e. absurd (other e), λ f. inr refl)
+]
+  where
+    other : Write ≡ Read → ⊥
+    other e = cc

@@ -1,0 +1,75 @@
+use Rattle.std.proofs.Common.{◌∙◌, arith, option_map, refl, sym}
+use Rattle.std.proofs.lemmas.Result.{err_from_is_err_and}
+use Rattle.std.specs.Option.{option_copied}
+use Rattle.prolly_root.specs.Reader.{way_of}
+use Rattle.prolly_tool.specs.RootScans.{RefusesNoneOf}
+use Rattle.prolly_tool.proofs.KeySteps.{asking_begins, asking_cut_off, asking_fails, asks_on}
+use Rattle.prolly_tool.proofs.KeySteps.{way_found}
+use Rattle.prolly_tool.proofs.answers.root_get_keys.write_each.Goals as goal
+
+pub loop-key-init : goal.loop-key-init
+loop-key-init g c = record {
+  version = refl;
+  root = refl;
+  asking = asking_begins g.W.Sink.seen c.args.reader.version c.args.reader.root c.args.notation
+      (λ k. k.items) c.args.keys.now c.args.sink.now;
+  reads = refl;
+  keeps = λ content has. has;
+  opened = λ content has opened. opened;
+}
+
+pub returns-in_err-value-clause-found : goal.returns-in_err-value-clause-found
+returns-in_err-value-clause-found g c =
+    let inv = c.loop-key.invariant in
+    let p = err_from_is_err_and c.from_residual.result c.from_residual.ensures.1 in
+    rw (p.1, p.2) (asking_fails g.W.Sink.seen c.args.reader.version c.args.reader.root
+    c.args.notation (λ k. k.items) c.args.keys.now
+    (RefusesNoneOf g.S.ChunkSource.is_place (g.S.ChunkSource.has c.args.source.now) c.args.reader)
+    c.loop-key.key-index c.args.sink.now c.loop-key.sink inv.asking c.in_err-value.field-0.0
+    (λ content has opened. c.in_err-value.ensures.lawful content (inv.keeps content has)
+    (inv.opened content has opened)))
+
+pub returns-in_err-write_found-clause-found : goal.returns-in_err-write_found-clause-found
+returns-in_err-write_found-clause-found g c =
+    let inv = c.loop-key.invariant in
+    let p = err_from_is_err_and c.from_residual-in_err-write_found.result
+    c.from_residual-in_err-write_found.ensures.1 in
+    let one = way_found c.loop-key.reader.version c.args.reader.version c.loop-key.reader.root
+    c.args.reader.root c.deref.result.now c.deref-in-loop-key.result.now (way_of c.get.new.self)
+    (option_map (λ v. v.items) c.in_ok-value.value) (option_copied c.as_deref.result) inv.version
+    inv.root (c.deref.ensures.value ∙ sym c.deref-in-loop-key.ensures.value)
+    (sym c.as_deref.ensures.value)
+    c.in_ok-value.ensures.found in
+    rw (p.1, p.2) (asking_cut_off g.W.Sink.seen c.args.reader.version c.args.reader.root
+    c.args.notation (λ k. k.items) c.args.keys.now
+    (RefusesNoneOf g.S.ChunkSource.is_place (g.S.ChunkSource.has c.args.source.now) c.args.reader)
+    c.loop-key.key-index c.args.sink.now c.loop-key.sink inv.asking c.key-item.result (omega arith)
+    c.key-item.is c.deref-in-loop-key.result.now c.deref-in-loop-key.ensures.value
+    (option_copied c.as_deref.result) (way_of c.get.new.self) one c.write_found.new.sink
+    c.in_err-write_found.field-0.0 c.in_err-write_found.ensures.err)
+
+pub loop-key-preserved : goal.loop-key-preserved
+loop-key-preserved g c =
+    let inv = c.loop-key.invariant in
+    let one = way_found c.loop-key.reader.version c.args.reader.version c.loop-key.reader.root
+    c.args.reader.root c.deref.result.now c.deref-in-loop-key.result.now (way_of c.get.new.self)
+    (option_map (λ v. v.items) c.in_ok-value.value) (option_copied c.as_deref.result) inv.version
+    inv.root (c.deref.ensures.value ∙ sym c.deref-in-loop-key.ensures.value)
+    (sym c.as_deref.ensures.value)
+    c.in_ok-value.ensures.found in
+    record {
+      version = c.in_ok-value.ensures.of.0 ∙ inv.version;
+      root = c.in_ok-value.ensures.of.1 ∙ inv.root;
+      asking = asks_on g.W.Sink.seen c.args.reader.version c.args.reader.root c.args.notation
+          (λ k. k.items) c.args.keys.now
+          (RefusesNoneOf g.S.ChunkSource.is_place (g.S.ChunkSource.has c.args.source.now) c.args.reader)
+          c.loop-key.key-index c.args.sink.now c.loop-key.sink inv.asking c.key-item.result
+          (omega arith) c.key-item.is c.deref-in-loop-key.result.now
+          c.deref-in-loop-key.ensures.value (option_copied c.as_deref.result)
+          (way_of c.get.new.self) one c.write_found.new.sink c.in_ok-write_found.ensures.ok
+          c.write_found.ensures.keeping;
+      reads = c.in_ok-value.ensures.reads ∙ inv.reads;
+      keeps = λ content has. c.in_ok-value.ensures.keeps content (inv.keeps content has);
+      opened = λ content has opened. c.in_ok-value.ensures.kept content (inv.keeps content has)
+          (inv.opened content has opened);
+    }

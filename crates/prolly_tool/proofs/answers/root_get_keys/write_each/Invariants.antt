@@ -1,0 +1,19 @@
+use Rattle.std.proofs.Common.{◌≡◌}
+use Rattle.prolly_check.specs.Content.{Content}
+use Rattle.prolly_root.specs.Reader.{IsReaderOf}
+use Rattle.prolly_tool.proofs.KeySteps.{IsAsking}
+use Rattle.prolly_tool.proofs.answers.root_get_keys.write_each.Given as goal
+
+abbrev pub invariant-loop-key : goal.invariant-loop-key
+invariant-loop-key g l = record {
+  version : l.reader.version ≡ l.fn.reader.version;
+  root : l.reader.root ≡ l.fn.reader.root;
+  asking : IsAsking g.W.Sink.seen l.fn.reader.version l.fn.reader.root l.notation (λ k. k.items)
+      l.keys l.key-index l.initial.sink l.sink;
+  reads : g.S.ChunkSource.failures l.source ≡ g.S.ChunkSource.failures l.initial.source;
+  keeps : (content : Content) → g.S.ChunkSource.has l.initial.source content →
+      g.S.ChunkSource.has l.source content;
+  opened : (content : Content) → g.S.ChunkSource.has l.initial.source content →
+      IsReaderOf g.S.ChunkSource.is_place content l.fn.reader →
+      IsReaderOf g.S.ChunkSource.is_place content l.reader;
+}

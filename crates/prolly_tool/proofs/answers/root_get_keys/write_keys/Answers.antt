@@ -1,0 +1,27 @@
+use Rattle.std.proofs.Common.{inr, map}
+use Rattle.std.proofs.lemmas.Result.{err_from_is_err_and}
+use Rattle.prolly_tool.specs.RootScans.{RefusesNone, RefusesNoneOf}
+use Rattle.prolly_tool.proofs.KeySteps.{keys_refused, keys_told}
+use Rattle.prolly_tool.proofs.answers.root_get_keys.write_keys.Goals as goal
+
+pub returns-in_err-reader-clause-found : goal.returns-in_err-reader-clause-found
+returns-in_err-reader-clause-found g c =
+    let p = err_from_is_err_and c.from_residual.result c.from_residual.ensures.1 in
+    rw (p.1, p.2) (keys_refused g.W.Sink.seen c.args.version c.args.root.now.0 c.args.notation
+    (map (λ k. k.items) c.args.keys.now)
+    (RefusesNone (g.S.ChunkSource.has c.args.source.now) c.args.version c.args.root.now.0)
+    c.in_err-reader.field-0.0 c.args.sink.now
+    (λ content has same root. inr (c.in_err-reader.ensures.lawful content has same root)))
+
+pub returns-clause-found : goal.returns-clause-found
+returns-clause-found g c =
+    let reader = c.in_ok-reader.reader in
+    keys_told g.W.Sink.seen c.args.version c.args.root.now.0 c.args.notation
+    (map (λ k. k.items) c.args.keys.now)
+    (RefusesNone (g.S.ChunkSource.has c.args.source.now) c.args.version c.args.root.now.0)
+    (RefusesNoneOf g.S.ChunkSource.is_place (g.S.ChunkSource.has c.open.new.source) reader)
+    reader.version reader.root c.args.sink.now c.write_each-outcome.new.sink c.settled.new.sink
+    c.write_each-outcome.result c.settled.result c.write_each-outcome.ensures.found
+    c.in_ok-reader.ensures.of c.write_each-outcome.ensures.keeping c.settled.ensures
+    (λ fault only content has same root. only content (c.in_ok-reader.ensures.keeps content has)
+    (c.in_ok-reader.ensures.kept content has same root))

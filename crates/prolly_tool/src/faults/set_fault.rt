@@ -1,0 +1,35 @@
+//! What commands tell of the faults of a proof of a set of keys.
+ghost use Rattle.std.specs.Prelude.{◌≡◌};
+
+use crate::faults::fault::Fault;
+use prolly_range::{ProveFault, SetFault};
+use prolly_root::ProofFault;
+
+impl From<SetFault> for Fault {
+    ghost use Rattle.prolly_tool.specs.SetProofs.{told_set};
+
+    ghost from_gives = { λ set fault. fault ≡ told_set set };
+
+    fn from(fault: SetFault) -> Self {
+        match fault {
+            SetFault::Memory => Fault::Memory,
+            SetFault::Read => Fault::Read,
+            SetFault::Proof(fault) => Fault::Proof(fault),
+            // No command goes on behind a fault. It would be a proof of which the rest is missing.
+            SetFault::Stopped => Fault::Proof(ProofFault::Truncated),
+        }
+    }
+}
+
+impl From<ProveFault> for Fault {
+    ghost use Rattle.prolly_tool.specs.SetProofs.{told_prove};
+
+    ghost from_gives = { λ prove fault. fault ≡ told_prove prove };
+
+    fn from(fault: ProveFault) -> Self {
+        match fault {
+            ProveFault::Chunks(fault) => Fault::Root(fault),
+            ProveFault::Write => Fault::Write,
+        }
+    }
+}
