@@ -1,0 +1,34 @@
+//! The index of a chunk file.
+ghost use Rattle.std.specs.Prelude.{◌≡◌, ◌⊎◌, ◌≤◌, ◌<◌, length, take};
+ghost use Rattle.prolly_check.specs.Content.{Content};
+ghost use Rattle.prolly_check.specs.Verdict.{IsFileOf};
+ghost use Rattle.prolly_c.specs.Runs.{IsIndexOf};
+
+use crate::run::Run;
+use crate::status::{DONE, NO_FILE, NO_ROOM};
+use crate::writer::write_index;
+
+/// Writes the index of a chunk file that was checked, and tells how many runs it has. Where there
+/// is room for fewer, the status is `NO_ROOM`, and what stands in `index` means nothing.
+///
+/// Takes no memory and no hash, and goes over the pairs once. Nothing is believed of the bytes, and
+/// nothing but what they are for is promised of an index of bytes that are no chunk file.
+#[unsafe(no_mangle)]
+pub extern "C" fn prolly_index(bytes: &[u8], index: &mut [Run], count: &mut usize) -> u32
+    ensures index { result ≡ 0 → (content : Content) → IsFileOf bytes.now content →
+        IsIndexOf bytes.now content (take count.new index.new) }
+    ensures within { result ≡ 0 → count.new ≤ length index.new }
+    ensures room { result ≡ 3 → length index.new < count.new }
+    ensures files { (content : Content) → IsFileOf bytes.now content →
+        (result ≡ 0) ⊎ (result ≡ 3) }
+    ensures status { (result ≡ 0) ⊎ ((result ≡ 3) ⊎ (result ≡ 5)) }
+{
+    let Some(runs) = write_index(bytes, index) else {
+        return NO_FILE;
+    };
+    *count = runs;
+    if runs > index.len() {
+        return NO_ROOM;
+    }
+    DONE
+}

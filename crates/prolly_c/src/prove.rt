@@ -1,0 +1,62 @@
+//! Proofs of what a chunk file has at a key.
+ghost use Rattle.std.specs.Prelude.{◌≡◌, ◌⊎◌, ◌<◌, ◌≤◌, length, take};
+ghost use Rattle.prolly_entry.specs.Cut.{sha512_cut};
+ghost use Rattle.prolly_entry.specs.Version.{version_byte};
+ghost use Rattle.prolly_tree.specs.File.{root_reference};
+ghost use Rattle.prolly_check.specs.Content.{Content};
+ghost use Rattle.prolly_check.specs.Verdict.{IsFileOf};
+ghost use Rattle.prolly_c.specs.Proofs.{ProvesSome};
+
+use crate::prover::proof_in;
+use crate::put::put_bytes;
+use crate::status::{DONE, NO_ROOM, USAGE, root_status};
+use prolly_entry::{Ref, Version};
+use std::alloc::Global;
+
+/// The proof of what the tree of version 1 or 2 with this root has at a key, out of its chunk file.
+/// It is written to the start of `out`, and `count` is its length. Nothing of the file is believed,
+/// so it need not be checked: where the status is `DONE`, the bytes are a proof for this root.
+///
+/// Where there is less room, `count` is the length that is needed, and nothing else is written.
+/// Else the status is the first fault that is met, and `chunk` the chunk that this names.
+///
+/// Takes memory for the chunks of the proof. Goes over the frames of the file, and hashes the chunks
+/// of the proof.
+#[unsafe(no_mangle)]
+pub extern "C" fn prolly_prove(
+    alloc: Global,
+    bytes: &[u8],
+    version: u8,
+    root: &[u8; 20],
+    key: &[u8],
+    out: &mut [u8],
+    count: &mut usize,
+    chunk: &mut u64,
+) -> u32
+    ensures proves { result ≡ 0 → ProvesSome version root.now key.now (take count.new out.new) }
+    ensures within { result ≡ 0 → count.new ≤ length out.new }
+    ensures room { result ≡ 3 → length out.new < count.new }
+    ensures lawful { (content : Content) → IsFileOf bytes.now content →
+        version_byte content.version ≡ version →
+        root.now ≡ root_reference (sha512_cut content.bits) content.version content.pairs →
+        (result ≡ 0) ⊎ ((result ≡ 2) ⊎ ((result ≡ 3) ⊎ (result ≡ 25))) }
+{
+    let Some(format) = Version::of(version) else {
+        return USAGE;
+    };
+    match proof_in(alloc, bytes, format, &Ref(*root), key) {
+        Ok(proof) => {
+            *count = proof.len();
+            if proof.len() > out.len() {
+                return NO_ROOM;
+            }
+            put_bytes(&proof, out, 0);
+            DONE
+        }
+        Err(fault) => {
+            let (status, number) = root_status(fault);
+            *chunk = number;
+            status
+        }
+    }
+}

@@ -1,0 +1,117 @@
+"""Prolly trees: sorted maps of byte strings in a file, whose root is a hash of all they hold.
+
+>>> import prolly
+>>> root = prolly.build("days.prl", [(b"mon", b"1"), (b"tue", b"2")])
+>>> with prolly.open("days.prl") as tree:
+...     tree[b"mon"], tree.root == root
+(b'1', True)
+"""
+
+import builtins
+import mmap
+import os
+from contextlib import suppress
+
+from prolly._prolly import Tree
+from prolly._prolly import chunk_file as _chunk_file
+from prolly._prolly import diff as _diff
+from prolly._prolly import prove as _prove
+from prolly._prolly import verify as _verify
+from prolly.faults import ProllyError
+
+__all__ = ["ProllyError", "RootTree", "Tree", "build", "check", "diff", "open", "verify"]
+
+
+def open(path, check=True, root=None, version=2):
+    """The tree of a chunk file, which is mapped and checked once. A file that is none raises ProllyError.
+
+    With check=False nothing is read yet, and each look-up verifies what it finds by the root: see RootTree. The root, and the
+    version of the tree, have to come from who is trusted.
+
+    The file may not change while the tree is open. A with statement closes it.
+    """
+    if check == (root is not None):
+        raise ValueError("a root is given where a file is not checked")
+    with builtins.open(path, "rb") as file:
+        is_empty = os.fstat(file.fileno()).st_size == 0
+        data = b"" if is_empty else mmap.mmap(file.fileno(), 0, access=mmap.ACCESS_READ)
+    return Tree(data) if check else RootTree(data, root, version)
+
+
+class RootTree:
+    """Look-ups in a chunk file of which the root alone is trusted.
+
+    Each goes by a proof out of the file, which is verified: the chunks on its way are hashed, and the frames of the file are
+    gone over. So it takes longer than one in a tree that was checked, and opening takes no time.
+    """
+
+    def __init__(self, data, root, version=2):
+        self._data, self.root, self.version = data, bytes(root), version
+
+    def prove(self, key):
+        """The proof of what the tree has at a key, for who knows the root alone."""
+        if self._data is None:
+            raise ValueError("the tree is closed")
+        return _prove(self._data, self.root, key, self.version)
+
+    def get(self, key, default=None):
+        """The value of a key, or the other one where it has none."""
+        value = _verify(self.root, key, self.prove(key), self.version)
+        return default if value is None else value
+
+    def __getitem__(self, key):
+        value = self.get(key)
+        if value is None:
+            raise KeyError(key)
+        return value
+
+    def __contains__(self, key):
+        return self.get(key) is not None
+
+    def close(self):
+        """Lets the bytes go."""
+        self._data = None
+
+    def __enter__(self):
+        return self
+
+    def __exit__(self, *_):
+        self.close()
+
+
+def check(data):
+    """The tree of a chunk file in memory, as of bytes. It is checked, and not copied."""
+    return Tree(data)
+
+
+def build(path, pairs, bits=6, version=2):
+    """Writes the chunk file of pairs whose keys rise, and returns its root.
+
+    `bits` says how large chunks are: they have some 2^bits pairs. The file is written beside the path first and then
+    renamed, so what was there stays until the new file is whole.
+    """
+    content, root = _chunk_file(pairs, bits, version)
+    beside = f"{os.fspath(path)}.{os.getpid()}.tmp"
+    try:
+        with builtins.open(beside, "xb") as file:
+            file.write(content)
+        os.replace(beside, path)
+    except BaseException:
+        with suppress(FileNotFoundError):
+            os.unlink(beside)
+        raise
+    return root
+
+
+def verify(root, key, proof, version=2):
+    """The value that a proof shows for a key in the tree with this root, or None where it shows that it has none.
+
+    The root and the version have to come from who is trusted. A proof that proves nothing raises ProllyError.
+    """
+    return _verify(root, key, proof, version)
+
+
+def diff(old, new):
+    """What turns one tree into another: for each key in which they differ the key, what the old tree has and what the new one
+    has, where None is nothing. They are told one after another, in the order of their keys."""
+    return _diff(old, new)

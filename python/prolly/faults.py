@@ -1,0 +1,17 @@
+"""What goes wrong."""
+
+
+class ProllyError(ValueError):
+    """Bytes are no chunk file, no record file or no proof, or an index is not that of its bytes."""
+
+    def __init__(self, fault, status, place):
+        super().__init__(fault, status, place)
+        self.fault = fault
+        """What is wrong, in words."""
+        self.status = status
+        """Its number in prolly.h."""
+        self.place = place
+        """The chunk, or the record, that it names, counted from 0; else 0."""
+
+    def __str__(self):
+        return f"{self.fault} ({self.place})" if self.place else self.fault
