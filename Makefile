@@ -1,15 +1,20 @@
-.PHONY: test test-part growths check edits prolly demo install uninstall dist bench
+.PHONY: test test-part growths check edits prolly lib demo install install-lib uninstall dist bench
 
 PREFIX ?= /usr/local
 PROGRAM = crates/prolly/out/prolly
 TESTS = $(foreach name,format worker build command,crates/prolly_$(name)_tests/out/prolly_$(name)_tests_tests)
 MADE = $(dir $(PROGRAM))share
 SHARE = $(DESTDIR)$(PREFIX)/share
+LIBRARY = library/out
+LIB = $(DESTDIR)$(PREFIX)/lib
 
-# The gate: every proof from nothing, the must-fail edits, the tests of the crates, the programs, and then refused memory, and
-# the program as a user runs it.
+# The gate: every proof from nothing, the wrong bodies that tell most, the tests of the crates, the programs, and then refused
+# memory, and the program as a user runs it.
 test:
 	rt ci
+	tools/mark_built.py
+	tools/edits.py --gate
+	$(MAKE) lib
 	tests/growths_of_calls.py $(TESTS)
 	tests/run.py $(PROGRAM)
 
@@ -36,6 +41,11 @@ edits:
 prolly:
 	tools/prove.py $(JOBS)
 
+# The library for C, proved and built: libprolly.a and libprolly.so, which have all that they need but the C library.
+lib:
+	cd crates/prolly_c && rt lib
+	library/make.sh crates/prolly_c/out/libprolly_c.a $(LIBRARY)
+
 # From a text to a root.
 demo: prolly
 	demo/run $(PROGRAM)
@@ -44,7 +54,8 @@ demo: prolly
 $(PROGRAM):
 	tools/prove.py $(JOBS)
 
-# The program, its manual page, and what bash, zsh and fish complete its words by. These are made from its helps.
+# The program, its manual page, and what bash, zsh and fish complete its words by. These are made from its helps. The library
+# is there where `make lib` has made it.
 install: $(PROGRAM)
 	install -D -m 755 $(PROGRAM) $(DESTDIR)$(PREFIX)/bin/prolly
 	share/words.py $(PROGRAM) $(MADE)
@@ -52,6 +63,15 @@ install: $(PROGRAM)
 	install -D -m 644 $(MADE)/prolly.bash $(SHARE)/bash-completion/completions/prolly
 	install -D -m 644 $(MADE)/_prolly $(SHARE)/zsh/site-functions/_prolly
 	install -D -m 644 $(MADE)/prolly.fish $(SHARE)/fish/vendor_completions.d/prolly.fish
+	if [ -e $(LIBRARY)/libprolly.a ]; then $(MAKE) -s install-lib; fi
+
+# The library, its header, and what pkg-config tells of it.
+install-lib:
+	install -D -m 644 $(LIBRARY)/libprolly.a $(LIB)/libprolly.a
+	install -D -m 644 $(LIBRARY)/libprolly.so.0 $(LIB)/libprolly.so.0
+	ln -sf libprolly.so.0 $(LIB)/libprolly.so
+	install -D -m 644 include/prolly.h $(DESTDIR)$(PREFIX)/include/prolly.h
+	install -D -m 644 library/prolly.pc $(LIB)/pkgconfig/prolly.pc
 
 uninstall:
 	rm -f $(DESTDIR)$(PREFIX)/bin/prolly
@@ -59,12 +79,15 @@ uninstall:
 	rm -f $(SHARE)/bash-completion/completions/prolly
 	rm -f $(SHARE)/zsh/site-functions/_prolly
 	rm -f $(SHARE)/fish/vendor_completions.d/prolly.fish
+	rm -f $(LIB)/libprolly.a $(LIB)/libprolly.so $(LIB)/libprolly.so.0 $(LIB)/pkgconfig/prolly.pc
+	rm -f $(DESTDIR)$(PREFIX)/include/prolly.h
 
 # An archive for machines without the kit, made from what `make install` puts there and the documents.
 dist: $(PROGRAM)
 	share/dist.py $(PROGRAM)
 
 # How long the program and its parts take.
-bench: prolly
+bench: prolly lib
 	cd crates/prolly_bench && rt run
 	bench/run.py $(PROGRAM) crates/prolly_bench/out/prolly_bench
+	bench/library.py

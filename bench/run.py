@@ -45,6 +45,12 @@ COMPARED_TREES = ((RECORDS, 12), (RECORDS, 6), (MORE_RECORDS, 12), (MORE_RECORDS
 COMPARED_FILES = 8
 """Of how many record files they are built."""
 
+APPLIED = ((MORE_RECORDS, 12, CHANGES), (MORE_RECORDS, 6, CHANGES), (MORE_RECORDS, 6, MORE_RECORDS // 100), (RECORDS, 6, RECORDS // 10))
+"""How many pairs trees have, by which cuts they are made, and how many changes are applied to them."""
+
+APPLIED_TURNS = 3
+"""How often that is done, and the tree built from all records."""
+
 ROOTED_TURNS = 9
 """How often a command is run whose time is some milliseconds."""
 
@@ -93,6 +99,7 @@ def main():
         show_checks(program, parts, turns)
         show_diff(program, parts, turns)
         show_diffs_by_root(program)
+        show_applies(program)
         show_bits(program)
         show_proofs(program)
         show_rooted(program)
@@ -320,6 +327,29 @@ def show_diffs_by_root(program):
             f" --stat {spread(seconds_of(counting))}: {counting[0].out.decode().strip()}"
         )
         remove(["old", "new"])
+
+
+def show_applies(program):
+    """The next tree from the last one, beside a build from all records, in turn."""
+    for count, bits, changes in APPLIED:
+        write_records("records", range(count))
+        write_records("changes", range(0, count, count // changes), CHANGED_VALUE)
+        root = Command([*build(program, ["records"], "old"), "--bits", str(bits)]).run().out.decode().split()[0]
+        building = Command([*build(program, ["records", "changes"], "built"), "--bits", str(bits)], makes="built")
+        applying = Command([program, "apply", "--root", root, "old", "applied", "changes"], makes="applied")
+        built, applied = [], []
+        for _ in range(APPLIED_TURNS):
+            built.append(building.run())
+            applied.append(applying.run())
+        if built[0].out != applied[0].out:
+            sys.exit(f"apply of {changes} changes made another tree")
+        print(
+            f"apply of {changes} changes to {count} pairs, --bits {bits}: {spread(seconds_of(applied))},"
+            f" {ratio(seconds_of(applied), seconds_of(built))} of a build from all records,"
+            f" {ratio([done.busy for done in applied], [done.busy for done in built])} of its processor time,"
+            f" peak {max(done.peak for done in applied) / 1e6:.0f} MB"
+        )
+        remove(["records", "changes", "old", "built", "applied"])
 
 
 def many_runs(words, found=1):

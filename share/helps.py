@@ -47,7 +47,8 @@ class Help:
 
     about: list = field(default_factory=list)
     """The paragraphs before the usage."""
-    usage: str = ""
+    usages: list = field(default_factory=list)
+    """The ways in which it is used, a line each."""
     terms: dict = field(default_factory=dict)
     """The terms under each title."""
     rest: list = field(default_factory=list)
@@ -75,9 +76,10 @@ def help_of(program, *words):
     """The help of the program, or of one of its commands."""
     before, behind = printed(program, *words, "--help").split("\nUsage: ", 1)
     found = Help(about=before.strip().split("\n\n"))
-    found.usage, *lines = behind.splitlines()
+    usages, behind = behind.split("\n\n", 1)
+    found.usages = [line.strip() for line in usages.splitlines()]
     title, block = None, []
-    for line in [*lines, "end"]:
+    for line in [*behind.splitlines(), "end"]:
         if line and not line.startswith(" "):
             close(found, title, block)
             title, block = (line, []) if line in TITLES else (None, [line])

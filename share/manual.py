@@ -37,12 +37,12 @@ def manual(version, top, commands):
     """The whole page."""
     lines = [f'.TH PROLLY 1 {day()} "{version.split(",")[0]}" "User Commands"']
     lines += [".SH NAME", f"prolly \\- {escaped(top.about[0]).rstrip('.').lower()}"]
-    lines += [".SH SYNOPSIS", *(line for help_ in commands.values() for line in synopsis(help_.usage))]
+    lines += [".SH SYNOPSIS", *(line for help_ in commands.values() for line in synopsis(help_.usages))]
     lines += [".SH DESCRIPTION", *paragraphs(top.about, names_of(top))]
     lines += [".SH OPTIONS", *tagged(top.options, top)]
     lines += [".SH COMMANDS", *tagged(top.terms["Commands:"], top)]
     for name, help_ in commands.items():
-        lines += [f".SS prolly {name}", *synopsis(help_.usage), *paragraphs(help_.about, names_of(help_))]
+        lines += [f".SS prolly {name}", *synopsis(help_.usages), *paragraphs(help_.about, names_of(help_))]
         lines += [*tagged(help_.arguments, help_), *tagged(help_.options, help_), *examples(help_.rest, help_)]
     lines += [".SH EXIT STATUS"]
     lines += [line for number, text in STATUSES.items() for line in entry(bold(str(number)), running(text, set()))]
@@ -72,15 +72,18 @@ def without_empty(lines):
 # ---- parts of a section
 
 
-def synopsis(usage):
-    """A usage: the command in bold, what stands for a word of the user in italics."""
-    program, name, *words = usage.split()
-    return [f'.SY "{program} {name}"', *map(argument, words), ".YS"]
+def synopsis(usages):
+    """Usages: the command in bold, what stands for a word of the user in italics."""
+    lines = []
+    for usage in usages:
+        program, name, *words = usage.split()
+        lines += [f'.SY "{program} {name}"', *map(argument, words), ".YS"]
+    return lines
 
 
 def argument(word):
     """What stands for a word of the user, in italics."""
-    return re.sub(r"[A-Z]+", lambda found: italic(found[0]), word.strip("<>")).replace("...", "\\|.\\|.\\|.")
+    return re.sub(r"[A-Z]+", lambda found: italic(found[0]), re.sub("[<>]", "", word)).replace("...", "\\|.\\|.\\|.")
 
 
 def paragraphs(texts, names):

@@ -20,6 +20,7 @@ from functools import partial
 from pathlib import Path
 
 from cases import (
+    applies,
     as_text,
     build,
     by_root,
@@ -36,6 +37,7 @@ from cases import (
     growths,
     installed,
     kept,
+    library,
     links,
     look_ups,
     misuse,
@@ -43,7 +45,9 @@ from cases import (
     pack,
     progress,
     proofs,
+    python_package,
     random_runs,
+    range_proofs,
     readers,
     scale,
     scratch,
@@ -62,10 +66,10 @@ KNOWN_SIZES = [(0, 1, 45), (1, 1, 53), (2, 1, 127), (3, 1, 234), (1, 2, 53), (2,
 """Numbers of pairs, versions and sizes of chunk files, as docs/format.md gives them."""
 
 
-WITH_RUNS = (by_root, diffs_by_root, growths, kept, files, links, as_text, dumps, diffs, proofs, readers, progress, examples, installed, streams, scale, demo, misuse, checked_by_root, named_root)
+WITH_RUNS = (by_root, diffs_by_root, applies, growths, kept, files, links, as_text, dumps, diffs, proofs, range_proofs, readers, progress, examples, installed, streams, scale, library, python_package, demo, misuse, checked_by_root, named_root)
 """The parts that have runs of their own, those first that take long."""
 
-WITH_CASES = (damaged, build, random_runs, as_text, diffs, diffs_by_root, scratch, pack, command_line, look_ups, dumps, proofs, by_root_words, surveys, checked_by_root, named_root)
+WITH_CASES = (damaged, applies, build, random_runs, as_text, diffs, diffs_by_root, scratch, pack, command_line, look_ups, dumps, proofs, range_proofs, by_root_words, surveys, checked_by_root, named_root)
 """The parts that have cases."""
 
 PARTS = [(name_of(part), "all_runs") for part in WITH_RUNS] + [(name_of(part), "cases") for part in WITH_CASES]

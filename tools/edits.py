@@ -1,9 +1,9 @@
 #!/usr/bin/env python3
 """Tries the wrong bodies of crates, many in one copy, and says of each whether the prover refuses it:
-`tools/edits.py [--jobs N] [CRATE..]`, by default those of all crates.
+`tools/edits.py [--gate] [--jobs N] [CRATE..]`, by default those of all crates.
 
-A wrong body is a file NAME.edit in a crate's must-fail/ or more-edits/: a line `file: PATH`, and pairs of lines `old: TEXT`
-and `new: TEXT`. Each `old:` text stands once in the file, as the pairs before left it.
+A wrong body is a file NAME.edit in a crate's must-fail/, gate-edits/ or more-edits/: a line `file: PATH`, and pairs of lines
+`old: TEXT` and `new: TEXT`. Each `old:` text stands once in the file, as the pairs before left it.
 
 A round is one check of a copy of the crate with many edits in it, no two of them in one function. An edit is refused there
 if the prover holds a reason of its own against the function, as a goal that it did not prove; that another function is not
@@ -12,11 +12,16 @@ the others are. A round that gives no verdict, or that blames a function which w
 edit for whose function no such reason is told, or that lies in no function's body, is tried alone, and is refused if the prover
 then ends with the verdict that the crate is not proved.
 
+With --gate only the edits in gate-edits/ are tried, behind a run that has proved all crates and built the libraries. So the
+crate is not checked as it stands, and a round checks no more than the edited functions and those that they call. An edit of
+which that says nothing is tried alone, as above.
+
 N crates are tried side by side, by default as many as processors, and fewer where memory is short. The status is 0 if all
 edits are refused.
 """
 
 import argparse
+import os
 import re
 import shutil
 import signal
@@ -29,11 +34,14 @@ from concurrent.futures import ThreadPoolExecutor
 from dataclasses import dataclass
 from pathlib import Path
 
-from prove import TOP, most_jobs
+from prove import TOP, crates_below, most_jobs
 
 CRATES = TOP / "crates"
 
-FOLDERS = ("must-fail", "more-edits")
+GATE = "gate-edits"
+"""Where those stand that the gate tries by this tool. Those in must-fail/ it tries without it."""
+
+FOLDERS = ("must-fail", GATE, "more-edits")
 """Where the edits of a crate stand."""
 
 REFUSED, MISSED, BAD = "refused", "NOT REFUSED", "BAD EDIT"
@@ -42,7 +50,7 @@ REFUSED, MISSED, BAD = "refused", "NOT REFUSED", "BAD EDIT"
 REASON_LENGTH = 100
 """How much of a reason is shown."""
 
-HEAD = re.compile(r"( *)(?:pub(?:\([a-z]+\))? )?(const )?(?:unsafe )?fn (\w+)")
+HEAD = re.compile(r'( *)(?:pub(?:\([a-z]+\))? )?(const )?(?:unsafe )?(?:extern "C" )?fn (\w+)')
 """How a function begins."""
 
 UNREAD = r"is not in scope|has no field|is no name|operand is missing|expected the end|cannot continue"
@@ -97,44 +105,66 @@ def main():
     """Tries the edits of crates, and says how many came to what."""
     parser = argparse.ArgumentParser(description=__doc__, formatter_class=argparse.RawDescriptionHelpFormatter)
     parser.add_argument("--jobs", type=int, default=most_jobs(), metavar="N", help="how many crates are tried side by side")
+    parser.add_argument("--gate", action="store_true", help="try those in gate-edits/ alone, of crates that are proved")
     parser.add_argument("crates", nargs="*", metavar="CRATE")
     given = parser.parse_args()
-    having = {folder.name: len(files_of(folder)) for folder in CRATES.iterdir() if files_of(folder)}
+    folders = (GATE,) if given.gate else FOLDERS
+    having = {folder.name: len(files_of(folder, folders)) for folder in CRATES.iterdir() if files_of(folder, folders)}
     lacking = sorted(set(given.crates) - having.keys())
     if lacking:
         sys.exit(f"there are no edits of {', '.join(lacking)}")
     longest_first = sorted(set(given.crates) or having, key=having.get, reverse=True)
     with ThreadPoolExecutor(max(1, given.jobs)) as pool:
-        found = sum(pool.map(tried, longest_first), Counter())
+        trials = [GateTrial if given.gate else Trial] * len(longest_first)
+        found = sum(pool.map(tried, trials, longest_first), Counter())
     print(f"{found[REFUSED]} refused, {found[MISSED]} not refused, {found[BAD]} bad")
     sys.exit(0 if found.total() == found[REFUSED] else 1)
 
 
-def files_of(folder):
-    """The files of a crate's edits, with whatever else stands beside them but notes."""
-    return [file for name in FOLDERS for file in sorted((folder / name).glob("*")) if file.suffix != ".md"]
+def files_of(folder, folders):
+    """The files of a crate's edits in these folders, with whatever else stands beside them but notes."""
+    return [file for name in folders for file in sorted((folder / name).glob("*")) if file.suffix != ".md"]
 
 
-def tried(crate):
-    """Tries all edits of a crate, and gives how many came to what."""
+def tried(kind, crate):
+    """Tries edits of a crate, and gives how many came to what."""
     with tempfile.TemporaryDirectory(prefix="edits-") as room:
-        trial = Trial(crate, Path(room))
+        trial = kind(crate, Path(room))
         trial.run()
     return trial.found
+
+
+def linked(source, target):
+    """Links a file, or copies it where that can't be."""
+    try:
+        os.link(source, target)
+    except OSError:
+        shutil.copy2(source, target)
 
 
 class Trial:
     """The edits of one crate, tried in a copy of it among copies of the crates that it stands on."""
 
+    folders = FOLDERS
+
     def __init__(self, crate, room):
         self.crate, self.room, self.found = crate, room, Counter()
         self.copy, self.kept = room / "crates" / crate, room / "kept"
 
-    def run(self):
-        """Tries those that lie in no body, and then the others, many together."""
-        shutil.copytree(CRATES, self.room / "crates", ignore=shutil.ignore_patterns("out", *FOLDERS))
+    def lay_out(self):
+        """Copies the crates. Of those below this one what was built serves where it is up to date."""
+        below = crates_below(self.crate)
+        for name in [folder.name for folder in CRATES.iterdir()]:
+            shutil.copytree(CRATES / name, self.room / "crates" / name, ignore=shutil.ignore_patterns("out", *FOLDERS))
+        for built in [CRATES / name / "out" / "rlib" for name in below]:
+            if built.is_dir():
+                shutil.copytree(built, self.room / built.relative_to(TOP), copy_function=linked)
         for name in ("crates.txt", "HANDLES"):
             shutil.copy(TOP / name, self.room)
+
+    def run(self):
+        """Tries those that lie in no body, and then the others, many together."""
+        self.lay_out()
         edits = self.readable()
         if not self.is_proved():
             for edit in edits:
@@ -150,7 +180,7 @@ class Trial:
     def readable(self):
         """The edits that can be applied. Says which can't."""
         edits = []
-        for file in files_of(CRATES / self.crate):
+        for file in files_of(CRATES / self.crate, self.folders):
             try:
                 edits.append(edit_of(file, self.copy))
             except (BadEdit, OSError, UnicodeDecodeError) as why:
@@ -158,7 +188,11 @@ class Trial:
         return edits
 
     def is_proved(self):
-        """Whether the crate is proved as it stands. Sets the copy aside with what its check left, where the edits begin."""
+        """Whether the crate is proved as it stands, over what earlier checks of it kept. Sets the copy aside with what the
+        check left, where the edits begin."""
+        kept = CRATES / self.crate / "out" / "incremental"
+        if kept.is_dir():
+            shutil.copytree(kept, self.copy / "out" / "incremental")
         said = self.check()
         self.say("as it stands", said)
         self.copy.rename(self.kept)
@@ -170,7 +204,7 @@ class Trial:
             self.try_alone(edits[0])
             return
         texts = texts_with(edits, self.kept)
-        said = self.check_with(texts, "--allow-holes")
+        said = self.check_with(texts, "--allow-holes", *self.scope(edits))
         self.say(f"{label}, {len(edits)} edits", said)
         reasons = own_reasons(self.crate, said.lines)
         edited = {name for edit in edits for name in edit.functions}
@@ -185,6 +219,10 @@ class Trial:
                 self.tell(edit.name, REFUSED, f"{held[0]}: {reasons[held[0]][:REASON_LENGTH]}")
             else:
                 self.try_alone(edit)
+
+    def scope(self, _):
+        """The flags that say what a round checks: all of the crate."""
+        return ()
 
     def try_alone(self, edit):
         """Tries an edit without others, and judges it by the verdict on the crate."""
@@ -219,6 +257,38 @@ class Trial:
     def say(self, what, said):
         """Says what a check came to."""
         print(f"{self.crate}: {what}: {said.seconds:.0f} s, {said.last()[:60]}", flush=True)
+
+
+class GateTrial(Trial):
+    """The edits of one crate that the gate tries, where it has proved the crate as it stands."""
+
+    folders = (GATE,)
+
+    def is_proved(self):
+        """It was proved before. Sets the copy aside."""
+        self.copy.rename(self.kept)
+        return True
+
+    def scope(self, edits):
+        """The edited functions, and with them those that they call."""
+        functions = sorted({name for edit in edits for name in edit.functions})
+        return [word for name in functions for word in ("--only", name)]
+
+    def try_round(self, label, edits):
+        """Tries edits together. One of which that says nothing is tried once more by itself, and then judged by the verdict on
+        the crate."""
+        texts = texts_with(edits, self.kept)
+        said = self.check_with(texts, "--allow-holes", *self.scope(edits))
+        self.say(f"{label}, {len(edits)} edits", said)
+        reasons = own_reasons(self.crate, said.lines) if is_telling(said, texts) else {}
+        for edit in edits:
+            held = sorted(edit.functions & reasons.keys())
+            if held:
+                self.tell(edit.name, REFUSED, f"{held[0]}: {reasons[held[0]][:REASON_LENGTH]}")
+            elif len(edits) > 1:
+                self.try_round(f"{edit.name} alone", [edit])
+            else:
+                self.try_alone(edit)
 
 
 def edit_of(file, folder):
@@ -331,7 +401,7 @@ def owner_above(lines, head):
 
 def is_telling(said, texts):
     """Whether a check with many edits came to its end, and read all."""
-    is_ended = said.status == 1 and said.last().startswith("holes=")
+    is_ended = said.status == 1 and re.match(r"(only=\d+ )?holes=", said.last())
     return is_ended and not unread(said.lines, texts) and not any(STALE in line for line in said.lines)
 
 

@@ -6,6 +6,7 @@
     list(tree.scan(b"m", 3))       # the first three pairs whose keys are not less
     tree.nth(4)                    # the fifth pair, or None; in files of format 2
     verify(root, b"mon", proof)    # what a proof shows to who knows the root alone
+    list(verify_range(root, b"a", b"c", proof))  # all pairs between two keys, by a proof of that
 
 As a program, `prolly_read.py FILE HEXKEY`, it prints the value of a key in hexadecimal.
 
@@ -97,16 +98,22 @@ def entries_of(chunk, version):
             yield Child(key, rest.take(REFERENCE_SIZE), rest.number(8) if version == 2 else None)
 
 
+def linked_entries(chunk, due, above, version):
+    """The entries of a chunk that is to have this reference, below a chunk of this level or, where that is None, at the root."""
+    if reference(chunk) != due:
+        raise Malformed("a chunk is not the one referred to")
+    entries = list(entries_of(chunk, version))
+    if above is not None and chunk[0] != above - 1:
+        raise Malformed("a chunk: wrong level")
+    return entries
+
+
 def look_up(next_chunk, root, key, version):
     """What the tree with this root has at the key, or None. `next_chunk` gives the chunk of a reference."""
     due, above = root, None
     while True:
         chunk = next_chunk(due)
-        if reference(chunk) != due:
-            raise Malformed("a chunk is not the one referred to")
-        entries = list(entries_of(chunk, version))
-        if above is not None and chunk[0] != above - 1:
-            raise Malformed("a chunk: wrong level")
+        entries = linked_entries(chunk, due, above, version)
         if chunk[0] == 0:
             return dict(entries).get(key)
         child = next((child for child in entries if child.key >= key), None)
@@ -124,6 +131,36 @@ def verify(root, key, proof, version=1):
     if not rest.is_at_end():
         raise Malformed("a proof: bytes after the end")
     return value
+
+
+def met(children, first, end):
+    """The children in which keys from `first` on and before `end` may stand."""
+    for child in children:
+        if child.key >= first:
+            yield child
+        if end is not None and child.key >= end:
+            return
+
+
+def verify_range(root, first, end, proof, version=1):
+    """The pairs of the tree with this root whose keys are not less than `first`, and less than `end` if that is not None.
+
+    Each is right once it is given. That they are all, the end of the proof shows: where it is at fault, `Malformed` comes last.
+    """
+    rest = Bytes(proof, "a proof")
+    if rest.take(5) != b"PRLP" + bytes([16 + version]):
+        raise Malformed("a proof: bad header, or wrong version")
+    due = [(root, None)]
+    while due:
+        (wanted, above), *due = due
+        chunk = rest.chunk()
+        entries = linked_entries(chunk, wanted, above, version)
+        if chunk[0] == 0:
+            yield from (pair for pair in entries if first <= pair.key and (end is None or pair.key < end))
+        else:
+            due = [(child.reference, chunk[0]) for child in met(entries, first, end)] + due
+    if not rest.is_at_end():
+        raise Malformed("a proof: bytes after the end")
 
 
 class Tree:

@@ -8,8 +8,17 @@ from support.harness import BAD_KEY, BAD_TEXT_KEY, Case
 TEXTS = Path(__file__).parent.parent / "texts"
 
 COMMANDS = [
-    "pack", "scratch", "build", "explain", "check", "root", "stat", "get", "scan", "nth", "dump", "diff", "prove", "verify",
+    "pack", "scratch", "build", "apply", "explain", "check", "root", "stat", "get", "scan", "nth", "dump", "diff", "prove", "verify",
 ]
+
+
+BESIDE_RANGE = "the argument '--from <KEY>' cannot be used with '<KEY>'"
+
+NO_FROM = "the following required arguments were not provided:\n  --from <KEY>"
+
+PROVE_USAGE = "prove [OPTIONS] <FILE> <KEY> <OUT>\n       prolly prove [OPTIONS] --from <KEY> [--to <KEY>] <FILE> <OUT>"
+
+VERIFY_USAGE = "verify [OPTIONS] <ROOT> <KEY> [PROOF]\n       prolly verify [OPTIONS] --from <KEY> [--to <KEY>] <ROOT> [PROOF]"
 
 
 def helped(words, text):
@@ -145,16 +154,28 @@ def usage_cases():
         wrong(["pack", "--removals", "o", "--removals"], "the argument '--removals' cannot be used multiple times", "pack [OPTIONS] <OUT>"),
         wrong(["get", "--text", "--text", "f", "a"], "the argument '--text' cannot be used multiple times", "get [OPTIONS] <FILE> <KEY>"),
         missing(["get", "--text", "f"], ["KEY"], "get --text <FILE> <KEY>"),
-        missing(["prove"], ["FILE", "KEY", "OUT"], "prove <FILE> <KEY> <OUT>"),
-        missing(["prove", "f", "61"], ["OUT"], "prove <FILE> <KEY> <OUT>"),
-        wrong(["prove", "f", "61", "o", "x"], "unexpected argument 'x' found", "prove [OPTIONS] <FILE> <KEY> <OUT>"),
-        missing(["verify"], ["ROOT", "KEY"], "verify <ROOT> <KEY> [PROOF]"),
-        missing(["verify", "r"], ["KEY"], "verify <ROOT> <KEY> [PROOF]"),
-        wrong(["verify", "r", "61", "p", "x"], "unexpected argument 'x' found", "verify [OPTIONS] <ROOT> <KEY> [PROOF]"),
-        unknown(["verify", "r", "61", "--atomic"], "--atomic", "verify <ROOT> <KEY> [PROOF]"),
+        missing(["prove"], ["FILE"], PROVE_USAGE),
+        missing(["prove", "f"], ["KEY"], PROVE_USAGE),
+        missing(["prove", "f", "61"], ["OUT"], PROVE_USAGE),
+        missing(["prove", "--root", "r", "f", "6"], ["OUT"], PROVE_USAGE),
+        missing(["prove", "--from", "61", "f"], ["OUT"], PROVE_USAGE),
+        wrong(["prove", "f", "61", "o", "x"], "unexpected argument 'x' found", PROVE_USAGE),
+        wrong(["prove", "--from", "61", "f", "61", "o"], BESIDE_RANGE, PROVE_USAGE),
+        wrong(["prove", "f", "61", "o", "--from", "6", "--root", "r"], BESIDE_RANGE, PROVE_USAGE),
+        wrong(["prove", "--to", "61", "f", "o"], NO_FROM, PROVE_USAGE),
+        wrong(["prove", "--to", "61", "f", "61", "o"], NO_FROM, PROVE_USAGE),
+        wrong(["prove", "f", "o", "--from"], "a value is required for '--from <KEY>' but none was supplied"),
+        wrong(["prove", "--from", "61", "--from", "61", "f", "o"], "the argument '--from <KEY>' cannot be used multiple times", PROVE_USAGE),
+        missing(["verify"], ["ROOT"], VERIFY_USAGE),
+        missing(["verify", "r"], ["KEY"], VERIFY_USAGE),
+        wrong(["verify", "r", "61", "p", "x"], "unexpected argument 'x' found", VERIFY_USAGE),
+        wrong(["verify", "--from", "61", "r", "61", "p"], BESIDE_RANGE, VERIFY_USAGE),
+        wrong(["verify", "--to", "61", "r"], NO_FROM, VERIFY_USAGE),
+        wrong(["verify", "--to", "61", "r", "61", "p"], NO_FROM, VERIFY_USAGE),
+        wrong(["verify", "r", "61", "--atomic"], "unexpected argument '--atomic' found\n\n  tip: a similar argument exists: '--to'", VERIFY_USAGE),
         wrong(["check", "f", "--force"], "unexpected argument '--force' found\n\n  tip: a similar argument exists: '--format'", "check --format <V> <FILE>"),
         wrong(["build", "--force", "--force", "o"], "the argument '--force' cannot be used multiple times", "build [OPTIONS] <OUT> [FILES]..."),
-        wrong(["prove", "--force", "f", "61", "o", "x"], "unexpected argument 'x' found", "prove [OPTIONS] <FILE> <KEY> <OUT>"),
+        wrong(["prove", "--force", "f", "61", "o", "x"], "unexpected argument 'x' found", PROVE_USAGE),
         missing(["dump", "--force"], ["FILE"], "dump --force <FILE> [OUT]"),
         wrong(["diff", "f", "g", "--out"], "a value is required for '--out <FILE>' but none was supplied"),
         Case("usage: a word that is no text", [b"check", b"\xff"], status=2, err=b"prolly: a word is not UTF-8\n"),

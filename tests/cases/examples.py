@@ -1,4 +1,4 @@
-"""The examples of the README, and of the page of commands that goes on from there, run in their order in one folder."""
+"""The examples of the README, and of the pages that go on from there, run in their order in one folder."""
 
 import os
 import subprocess
@@ -7,7 +7,7 @@ from pathlib import Path
 
 from support.harness import shown
 
-PAGES = ["README.md", "docs/commands.md"]
+PAGES = ["README.md", "docs/commands.md", "docs/versions.md"]
 
 
 def all_runs(program, _):

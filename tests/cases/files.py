@@ -34,7 +34,8 @@ PROOF = proof_of(tree(ABC, 0, 1), b"b", 1)
 COUNTED_ACROSS = stat_line(OLD, ABC, (0, 1), (0, 2))
 ROOTED = Kind(ABC, 0, 1)
 ROOT = ["--root", reference_text(ROOTED.root)]
-ROOTS = ["--old-root", reference_text(Kind(OLD, 0, 1).root), "--new-root", reference_text(ROOTED.root)]
+OLD_ROOT = reference_text(Kind(OLD, 0, 1).root)
+ROOTS = ["--old-root", OLD_ROOT, "--new-root", reference_text(ROOTED.root)]
 LAST = ROOTED.way(b"c")[-1]
 TURNED = ROOTED.with_byte(LAST, 2, 1)
 NOT_LAST = f"prolly: chunk file: {another(LAST)}\n".encode()
@@ -47,6 +48,7 @@ BEFORE = b"what was there before"
 
 BEFORES = {
     "build": OLD_TREE,
+    "apply": OLD_TREE,
     "scratch": OLD_TREE,
     "pack": B,
     "dump": B,
@@ -61,13 +63,14 @@ BEFORES = {
 }
 """What OUT held before: a file of the kind that each command writes."""
 
-IN_PLACE = ("build", "scratch")
+IN_PLACE = ("build", "apply", "scratch")
 """The commands that write OUT itself where they are not told to write a file beside it."""
 
 TEXT = b"61 31\n62 31\n"
 
 WRITERS = {
     "build": (["build", "--bits", "0", "out", "a.rec", "b.rec"], None, TREE, (0, TOLD, b"")),
+    "apply": (["apply", "--root", OLD_ROOT, "old.prl", "out", "changes.rec"], None, TREE, (0, TOLD, b"")),
     "scratch": (["scratch", "--bits", "0", "--out", "out"], records(ABC), TREE, (0, root_text(ABC, 0), b"")),
     "pack": (["pack", "out"], TEXT, A, (0, b"2\n", b"")),
     "dump": (["dump", "abc.prl", "out"], None, records(ABC), (0, b"", b"")),
@@ -84,6 +87,7 @@ WRITERS = {
 
 FAULTS = {
     "build": (["build", "--bits", "0", "out", "a.rec", "cut.rec"], None, 3, b"prolly: file 1: record 0 is cut\n"),
+    "apply": (["apply", "--root", OLD_ROOT, "old.prl", "out", "changes.rec", "cut.rec"], None, 3, b"prolly: file 1: record 0 is cut\n"),
     "scratch": (["scratch", "--bits", "0", "--out", "out"], b"\0", 3, b"prolly: file 0: record 0 is cut\n"),
     "pack": (["pack", "out"], b"6\n", 3, b"prolly: line 0: not a pair in hexadecimal\n"),
     "dump": (["dump", "cut.prl", "out"], None, 4, b"prolly: chunk file: truncated\n"),
@@ -115,7 +119,7 @@ def refusal(line):
 
 def laid(place):
     """Lays the files that the commands read."""
-    files = {"a_rec": A, "b_rec": B, "cut_rec": b"\0", "abc_prl": TREE, "old_prl": OLD_TREE, "cut_prl": TREE[:-1], "turned_prl": TURNED}
+    files = {"a_rec": A, "b_rec": B, "cut_rec": b"\0", "changes_rec": records(CHANGES), "abc_prl": TREE, "old_prl": OLD_TREE, "cut_prl": TREE[:-1], "turned_prl": TURNED}
     place.lay(**files)
     return files
 

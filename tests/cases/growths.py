@@ -15,7 +15,7 @@ from cases.scratch import ABC
 from cases.surveys import as_json, explained, record_lines, record_numbers, table, tree_json
 from oracle.escapes import escaped, text_lines
 from oracle.proof import WRONG_VERSION, proof_of
-from oracle.trees import END_SIZE, begun_file, chunk_file, overlay, record, records, reference_text, report, root_text, tree
+from oracle.trees import END_SIZE, begun_file, chunk_file, header, overlay, record, records, reference_text, report, root_text, tree
 from support.by_root import ALL, NO_COUNTS, Dump, Get, Nth, Prove, Scan, refusal
 from support.harness import BAD_TEXT_KEY, NO_THREAD, SCARCE, file_differences, hexed, lay_out, shown
 
@@ -88,6 +88,7 @@ def commands():
         built("build of three pairs in format 2", [ABC], version=2),
         built("build of three files", FIVE_IN_THREE),
         kept("atomic build of three files", FIVE_IN_THREE),
+        *applied(),
         stopped(),
         Command("check", ["check", "abc.prl"], out=b"ok " + root_text(ABC, 0).strip() + b" 0 6\n", before=reads),
         Command("check --root", ["check", "--root", reference_text(REFERENCE), "abc.prl"], out=b"ok " + root_text(ABC, 0).strip() + b" 0 6\n", before=reads),
@@ -230,6 +231,17 @@ def kept(name, files):
     command.words[1:1] = ["--atomic", "--sync"]
     command.parts, command.is_made_first = [], False
     return command
+
+
+def applied():
+    """Trees to which changes are applied: whole, with `--atomic`, and of another root."""
+    old, changes = tree(OLD, 0, 1), {"old.prl": chunk_file(OLD, 0), "d.rec": records(CHANGES)}
+    words = ["apply", "--root", reference_text(old.reference), "old.prl", "out.prl", "d.rec"]
+    parts = first_parts(overlay([OLD, CHANGES]), 1)
+    whole = Command("apply", words, out=report(ABC, 0), before=changes, made="out.prl", whole=chunk_file(ABC, 0), parts=parts, is_made_first=True)
+    atomic = Command("atomic apply", ["apply", "--atomic", "--sync", *words[1:]], out=report(ABC, 0), before=changes, made="out.prl", whole=chunk_file(ABC, 0))
+    other = ["apply", "--root", ROOT, "old.prl", "out.prl"]
+    return [whole, atomic, Command("apply of another root", other, status=4, err=b"prolly: old chunk file: chunk 5 is not the one referred to\n", before=changes, made="out.prl", whole=header(0, 1), parts=[header(0, 1)])]
 
 
 def stopped():

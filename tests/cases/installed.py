@@ -1,6 +1,7 @@
 """What `make install` puts on a machine, and takes away again: the program, its manual, and the shells' completions. And
 what the archive for other machines has."""
 
+import os
 import re
 import shutil
 import subprocess
@@ -19,6 +20,9 @@ INSTALLED = [
     "share/man/man1/prolly.1",
     "share/zsh/site-functions/_prolly",
 ]
+
+LIBRARY = ["include/prolly.h", "lib/libprolly.a", "lib/libprolly.so", "lib/libprolly.so.0", "lib/pkgconfig/prolly.pc"]
+"""What else there is once `make lib` has made the library."""
 
 SECTIONS = ["NAME", "SYNOPSIS", "DESCRIPTION", "OPTIONS", "COMMANDS", "EXIT STATUS", "FILES", "EXAMPLES", "SEE ALSO"]
 """The sections of the manual."""
@@ -40,7 +44,9 @@ def all_runs(program, _):
         place = Path(folder) / "usr"
         made = Path(folder) / "made"
         yield "make install", make("install", program, place, made)
-        yield "what is installed", differs(files_below(place), INSTALLED)
+        yield "what is installed", differs(files_below(place), sorted(INSTALLED + library()))
+        if library():
+            yield "a program over the library, as pkg-config finds it", list(linked(place, Path(folder) / "linked"))
         page, told = (place / INSTALLED[3]).read_text(), helps(program)
         yield "the manual has all words of the helps", list(missing(told, page))
         yield "the manual's lists are lists", list(run_together(told, page))
@@ -59,6 +65,24 @@ def all_runs(program, _):
         yield "the archive", list(unpacked(program, Path(folder) / "archive"))
 
 
+def library():
+    """What is installed of the library."""
+    return LIBRARY if (TOP / "library" / "out" / "libprolly.a").exists() else []
+
+
+def linked(place, program):
+    """What goes wrong with a program that is built and run by what pkg-config tells."""
+    if shutil.which("pkg-config") is None:
+        return
+    source = program.with_suffix(".c")
+    source.write_text('#include <prolly.h>\nint main(void) { prolly_report r; return prolly_check((const uint8_t *)"", 0, &r) != 16; }\n')
+    names = {**os.environ, "PKG_CONFIG_PATH": str(place / "lib" / "pkgconfig"), "LD_LIBRARY_PATH": str(place / "lib")}
+    command = 'cc -o "$0" "$1" $(pkg-config --cflags --libs prolly) && "$0"'
+    done = subprocess.run(["sh", "-c", command, program, source], capture_output=True, text=True, check=False, env=names)
+    if (done.returncode, done.stdout, done.stderr) != (0, "", ""):
+        yield f"status {done.returncode}: {(done.stdout + done.stderr)[-300:]!r}"
+
+
 def make(target, program, place, made):
     """Makes a target, with the program that is there."""
     words = [f"PROGRAM={program}", f"PREFIX={place}", f"MADE={made}"]
@@ -73,7 +97,7 @@ def unpacked(program, folder):
     yield from differs(packed(program, folder).read_bytes() == first, True)
     subprocess.run(["tar", "-xzf", archive, "-C", folder], check=True)
     root = Path(str(archive).removesuffix(".tar.gz"))
-    wanted = [*INSTALLED, "README.md", "LICENSE", "docs/commands.md", "docs/format.md", "examples/python/prolly_read.py"]
+    wanted = [*INSTALLED, *library(), "README.md", "LICENSE", "docs/commands.md", "docs/format.md", "examples/python/prolly_read.py"]
     yield from (f"{name} is missing" for name in wanted if not (root / name).is_file())
     yield from differs((root / "bin" / "prolly").read_bytes() == Path(program).read_bytes(), True)
     told = subprocess.run([root / "bin" / "prolly", "--version"], capture_output=True, text=True, check=False).stdout

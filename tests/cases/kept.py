@@ -37,6 +37,7 @@ OLD_FILES = {
 
 KINDS = {
     "build": "chunk file",
+    "apply": "chunk file",
     "scratch": "chunk file",
     "pack": "record file",
     "dump": "record file",
@@ -51,7 +52,7 @@ KINDS = {
 }
 """What each command writes."""
 
-IN_PLACE = ("build", "scratch")
+IN_PLACE = ("build", "apply", "scratch")
 """The commands that write OUT itself where they are not told to write a file beside it."""
 
 CALLS = ("statx", "open", "realpath", "readlink", "pread", "ftruncate", "flock", "fchmod", "fsync", "rename", "unlink")
@@ -121,14 +122,14 @@ def names_all_files(place):
 
 
 def stays_until_written(place, command, before):
-    """After a fault of an input OUT is what it was, and is not there where it was not. A build has begun by then."""
+    """After a fault of an input OUT is what it was, and is not there where it was not. A run by threads has begun by then."""
     words, given, status, line = FAULTS[command]
     files = laid(place)
     if before is not None:
         files["out"] = before
         place.lay(out=before)
     place.answers(place.run(*words, stdin=given or b""), (status, b"", line))
-    if command == "build":
+    if command in ("build", "apply"):
         left = place.path("out").read_bytes()
         if not chunk_file([ABC[0], ABC[1]], 0).startswith(left) or len(left) < 6:
             place.note(f"OUT holds {len(left)} bytes")

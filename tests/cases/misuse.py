@@ -88,7 +88,7 @@ MISUSES = [
 
 def all_runs(_, folder):
     """Puts each misuse into a copy of its library, and gives its name and its differences. The copies of the libraries that
-    it stands on stay, so that they are proved once."""
+    it stands on stay, and what was built of them serves where it is up to date."""
     (folder / "crates").mkdir()
     shutil.copy(PROJECT / "HANDLES", folder)
     for name, library, file, (right, wrong), message in MISUSES:
@@ -96,7 +96,10 @@ def all_runs(_, folder):
         (folder / "crates.txt").write_text("".join(f"{line}\n" for line in lines.values()))
         for crate in lines:
             if not (folder / "crates" / crate).exists():
-                shutil.copytree(PROJECT / "crates" / crate, folder / "crates" / crate, ignore=shutil.ignore_patterns("out", "must-fail"))
+                shutil.copytree(PROJECT / "crates" / crate, folder / "crates" / crate, ignore=shutil.ignore_patterns("out", "*-edits", "must-fail"))
+                built = PROJECT / "crates" / crate / "out" / "rlib"
+                if crate != library and built.is_dir():
+                    shutil.copytree(built, folder / "crates" / crate / "out" / "rlib")
         copy = folder / "crates" / library
         text = (copy / file).read_text()
         assert text.count(right) == 1, f"{file} has changed"

@@ -17,7 +17,8 @@ from oracle.proof import proof_of
 from oracle.readings import merged, packed, read, stop_of
 from oracle.trees import REMOVED, begun_file, chunk_file, overlay, record, records, reference_text, report, root_text, tall_file, tree
 from oracle.walker import Walk
-from support.by_root import ALL, Dump, Get, Nth, Prove, Scan
+from support.applied import applied
+from support.by_root import ALL, Dump, Get, Kind, Nth, Prove, Scan
 from support.harness import Case, hexed
 
 SEED, COUNT = 20_240_601, 800
@@ -35,7 +36,7 @@ def cases(_):
 
 def runs(seed, count):
     """So many runs; a difference is named with the seed that brings it back."""
-    kinds = [build, build, build, scratch, pack, look_up, look_up, dump, diff, diff_by_root, prove, verify, by_root, named_root, in_numbers]
+    kinds = [build, build, build, apply, apply, scratch, pack, look_up, look_up, dump, diff, diff_by_root, prove, verify, by_root, named_root, in_numbers]
     for number in range(count):
         chance = random.Random(f"{seed} {number}")
         case = chance.choice(kinds)(chance)
@@ -156,6 +157,15 @@ def build(chance):
         before=files | before,
         after=after,
     )
+
+
+def apply(chance):
+    """Changes to a tree, by up to 15 files."""
+    kind = Kind(overlay([changes(chance), changes(chance)]), chance.choice([0, 0, 1, 2, 3, 12]), chance.choice([1, 2]))
+    contents = [record_file(chance) for _ in range(chance.choice([0, 1, 1, 2, 3, 7, 15]))]
+    given = [("--bits", kind.bits), ("--format", kind.version), ("--quiet", None), ("--sync", None)]
+    flags = [str(word) for pair in given if chance.random() < 0.2 for word in pair if word is not None]
+    return applied("", kind, contents, *flags)
 
 
 def written(chance, name, left, status, is_begun=False):

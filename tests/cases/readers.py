@@ -11,11 +11,11 @@ EXAMPLE = Path(__file__).parent.parent.parent / "examples" / "python"
 
 sys.path.insert(0, str(EXAMPLE))
 
-from prolly_read import Malformed, Tree, reference_from, verify  # noqa: E402
+from prolly_read import Malformed, Tree, reference_from, verify, verify_range  # noqa: E402
 from cases.scratch import ABC  # noqa: E402
 from oracle.trees import chunk_file, reference_text, tree  # noqa: E402
 
-MOST_LINES = 200
+MOST_LINES = 250
 """The reader is to be one that is read at a sitting."""
 
 
@@ -41,7 +41,7 @@ def all_runs(program, _):
         with tempfile.TemporaryDirectory() as folder:
             path = Path(folder) / "tree"
             path.write_bytes(chunk_file(pairs, bits, version))
-            for test in (look_ups, scans, places, proofs):
+            for test in (look_ups, scans, places, proofs, range_proofs):
                 yield f"the reader: {test.__name__}, {name}", list(test(partial(ask, program, folder), path, pairs, bits, version))
     yield "the reader: files that are none", list(refusals())
 
@@ -125,6 +125,23 @@ def proofs(asked, path, pairs, bits, version):
         for change in (proof[:-1], proof + b"\0", b"p" + proof[1:], proof[:-1] + bytes([proof[-1] ^ 1])):
             if not is_refused(partial(verify, root, key, change, version)):
                 yield f"a changed proof of {key.hex()} is taken"
+
+
+def range_proofs(asked, path, pairs, bits, version):
+    """What proofs of ranges show, and what the reader says of changed ones."""
+    root = tree(pairs, bits, version).reference
+    keys = some_keys(pairs)
+    for first, end in [*zip(keys, keys[2:], strict=False), (keys[-1], keys[0]), (b"", None)]:
+        words = ["--from", first.hex()] + ([] if end is None else ["--to", end.hex()])
+        yield from differs(f"prove {words}", asked("prove", *words, "tree", "proof"), (0, b""))
+        proof = (path.parent / "proof").read_bytes()
+        found = list(verify_range(root, first, end, proof, version))
+        yield from differs(f"the proof of {words}", asked("verify", "--format", str(version), *words, reference_text(root), "proof"), (0, as_lines(found)))
+        there = [pair for pair in pairs if first <= pair[0] and (end is None or pair[0] < end)]
+        yield from differs(f"the map in {words}", [tuple(pair) for pair in found], there)
+        for change in (proof[:-1], proof + b"\0", b"p" + proof[1:], proof[:-1] + bytes([proof[-1] ^ 1])):
+            if not is_refused(lambda: list(verify_range(root, first, end, change, version))):
+                yield f"a changed proof of {words} is taken"
 
 
 def is_refused(read):
