@@ -1,11 +1,13 @@
 //! Loading the leaves of an old tree.
-ghost use Rattle.std.specs.Prelude.{◌≡◌, ◌∷◌, [], ◌++◌, None, Some, IfErr, IfSome, OnErr, OnOk};
+ghost use Rattle.std.specs.Prelude.{◌≡◌, ◌<◌, ◌∷◌, [], ◌++◌, None, Some, IfErr, IfOk, IfSome, OnErr};
+ghost use Rattle.std.specs.Prelude.{OnOk};
 ghost use Rattle.prolly_check.specs.Content.{Content};
 ghost use Rattle.prolly_check.specs.HeldPairs.{pairs_held};
 ghost use Rattle.prolly_entry.specs.Cut.{sha512_cut};
 ghost use Rattle.prolly_root.specs.ChunkSource.{HasAsked};
-ghost use Rattle.prolly_root.specs.RootFault.{MayFail};
-ghost use Rattle.prolly_root_diff.specs.LeafWalk.{IsLeafRead};
+ghost use Rattle.prolly_root.specs.RootFault.{IsOrFails, MayFail};
+ghost use Rattle.prolly_root_diff.specs.LeafWalk.{GivesNext, IsLeafRead, WalksIn, due_of_walk};
+ghost use Rattle.prolly_root_diff.specs.ToGo.{weights};
 ghost use Rattle.prolly_tree.specs.File.{root_reference};
 ghost use Rattle.prolly_apply.specs.OldLoaded.{IsOldLoaded, TellsReadsOf, load_end};
 
@@ -17,7 +19,12 @@ use prolly_root::{ChunkSource, RootFault};
 use prolly_root_diff::laws::leaves_are_right;
 use prolly_root_diff::{LeafRead, RootLeaves};
 use std::alloc::{AllocError, Global};
+use std::num::NonZeroUsize;
 use std::sync::Wait;
+use std::thread::{Threads, available_parallelism};
+
+/// How many bytes of leaves are read ahead, at most one leaf more.
+const AHEAD_BYTES: usize = 4_194_304;
 
 /// What the loader of an old tree gives back.
 #[derive(Drop)]
@@ -39,9 +46,10 @@ pub struct OldLoaded<S, O: Out<OldLeaf>> {
 /// refused, by a send too, the end says so; at any other fault it is a failed read of the file with
 /// the number [`OLD_TREE`].
 ///
-/// Each chunk of the tree is read once, and hashed once. Holds a leaf, and the references of the
-/// children of the nodes above it.
-pub fn load_old<S: ChunkSource, O: Out<OldLeaf>, R: Wait>(
+/// Each chunk of the tree is read once, and hashed once. Leaves are read ahead, 4 MiB of them or one
+/// that is larger, and hashed on all processors. Holds these, and the references of the children of
+/// the nodes above.
+pub fn load_old<S: ChunkSource, O: Out<OldLeaf>, R: Wait + Threads + Sync>(
     rt: &R,
     alloc: Global,
     version: Version,
@@ -81,7 +89,7 @@ fn end_of(fault: Option<RootFault>) -> End
 }
 
 /// Sends the leaves of the tree with this root.
-fn send_leaves<S: ChunkSource, O: Out<OldLeaf>, R: Wait>(
+fn send_leaves<S: ChunkSource, O: Out<OldLeaf>, R: Wait + Threads + Sync>(
     rt: &R,
     alloc: Global,
     version: Version,
@@ -102,10 +110,43 @@ fn send_leaves<S: ChunkSource, O: Out<OldLeaf>, R: Wait>(
     // By these laws what a walk gives are the leaves of any map with this root.
     leaves_are_right();
     let mut leaves = RootLeaves::new(alloc, version, root)?;
-    while let Some(leaf) = leaves.next(alloc, source)? {
+    let threads = processors(rt);
+    while let Some(leaf) = next_leaf(rt, threads, alloc, source, &mut leaves)? {
         send_leaf(rt, alloc, version, out, leaf)?;
     }
     Ok(())
+}
+
+/// How many threads can run at once, or one where the system can't tell.
+fn processors<R: Threads>(rt: &R) -> NonZeroUsize {
+    match available_parallelism(rt) {
+        Ok(count) => count,
+        Err(_) => NonZeroUsize::MIN,
+    }
+}
+
+/// The next leaf, which was read ahead where it could be.
+fn next_leaf<S: ChunkSource, R: Threads + Sync>(
+    rt: &R,
+    threads: NonZeroUsize,
+    alloc: Global,
+    source: &mut S,
+    leaves: &mut RootLeaves<S::Place>,
+) -> Result<Option<LeafRead>, RootFault>
+    requires { leaves.old.fault ≡ None }
+    ensures version { leaves.new.version ≡ leaves.old.version }
+    ensures gives { IfOk result (λ leaf. GivesNext leaves.old.version (due_of_walk leaves.old) leaf
+        (due_of_walk leaves.new)) }
+    ensures nearer { IfOk result (λ leaf. IfSome leaf (λ _.
+        weights (due_of_walk leaves.new) < weights (due_of_walk leaves.old))) }
+    ensures goes_on { OnOk result (leaves.new.fault ≡ None) }
+    ensures lawful { (content : Content) → S.has source.old content →
+        leaves.old.version ≡ content.version → WalksIn S.is_place content leaves.old →
+        IsOrFails (λ _. WalksIn S.is_place content leaves.new) MayFail result }
+    ensures asked { HasAsked S.has S.failures source.old source.new result }
+{
+    leaves.read_ahead(rt, threads, alloc, source, AHEAD_BYTES)?;
+    leaves.next(alloc, source)
 }
 
 /// Sends a leaf that was read. An `Err` has sent nothing.

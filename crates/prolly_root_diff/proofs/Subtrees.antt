@@ -52,7 +52,7 @@ same_level None (Some p) h = absurd h
 same_level (Some p) None h = absurd h
 same_level (Some p) (Some q) h = ap Some h.0
 
-same_bound : {T : Type 0} (old new : Option (Parent T)) → AreOne old new →
+pub same_bound : {T : Type 0} (old new : Option (Parent T)) → AreOne old new →
     bound_of new ≡ bound_of old
 same_bound None None h = refl
 same_bound None (Some p) h = absurd h
@@ -265,11 +265,11 @@ module _ {T : Type 0} (is_place : Content → (level : ℕ) → Tree level → T
   }
   root_found r rs e trees lawful (Err fault) only = only
 
-  abbrev Keeps : Parent T → T → ℕ → Type 0
+  abbrev pub Keeps : Parent T → T → ℕ → Type 0
   Keeps p new l = (ts : List (Tree l)) → is_place content (suc l) ts p.place →
       is_place content (suc l) ts new
 
-  abbrev Finds : Parent T → ℕ → Result T RootFault → ℕ → Type 0
+  abbrev pub Finds : Parent T → ℕ → Result T RootFault → ℕ → Type 0
   Finds p number found l = (ts : List (Tree l)) (t : Tree l) → is_place content (suc l) ts p.place →
       IsChildNumber l ts number t → IsOrFails (is_place content l t) OnlyRead found
 

@@ -14,6 +14,7 @@ use std::alloc::{AllocError, Global};
 use std::process::Abort;
 use std::sync::Wait;
 use std::test::Fail;
+use std::thread::Threads;
 
 const MOST_LEVELS: u8 = 12;
 
@@ -55,7 +56,12 @@ impl Rooted {
     }
 
     /// Loads its leaves from a device whose call of this number fails; 0 for none.
-    fn load<R: Wait>(&self, rt: &R, alloc: Global, fail_at: u64) -> Result<Loaded, AllocError> {
+    fn load<R: Wait + Threads + Sync>(
+        &self,
+        rt: &R,
+        alloc: Global,
+        fail_at: u64,
+    ) -> Result<Loaded, AllocError> {
         let device = ScriptDevice::new(self.file.to_vec(alloc)?, Some(fail_at));
         Ok(load_old(
             rt,
@@ -81,7 +87,7 @@ fn expect_leaves(rt: &impl Abort, leaves: Vec<OldLeaf>, events: Vec<ChunkEvent>,
 }
 
 /// Loads the leaves of a small map, and compares them with those of a stage of leaves.
-fn expect_all<C: Cut, R: Abort + Wait>(
+fn expect_all<C: Cut, R: Abort + Wait + Threads + Sync>(
     rt: &R,
     alloc: Global,
     cut: C,
@@ -257,7 +263,7 @@ fn chunks_that_no_tree_has_are_told(rt: HostRuntime) -> Result<(), Fail> {
 
 /// Loads the leaves of the keys a, b and c, and gives their last keys, one after another, with the
 /// end and the fault.
-pub(crate) fn load_three<R: Wait>(
+pub(crate) fn load_three<R: Wait + Threads + Sync>(
     rt: &R,
     alloc: Global,
 ) -> Result<(Vec<u8>, End, Option<RootFault>), Fail> {

@@ -1,5 +1,6 @@
 //! What a worker does, and what a run asks of the types that it is written over.
 ghost use Rattle.std.specs.Prelude.{◌≡◌, []};
+ghost use Rattle.std.specs.Thread.{IsSync};
 ghost use Rattle.prolly_link.specs.Identity.{LinkId};
 ghost use Rattle.prolly_link.specs.Views.{Whole};
 
@@ -29,7 +30,7 @@ pub(crate) trait Job {
     fn worker(&self) -> Worker;
 
     /// Does it, on the thread that it is called on.
-    fn run<R: Wait, O: Out<Self::Item>>(
+    fn run<R: Wait + Threads + Sync, O: Out<Self::Item>>(
         self,
         rt: &R,
         alloc: Global,
@@ -37,6 +38,7 @@ pub(crate) trait Job {
     ) -> (Self::Done, O::Closed)
         requires ready { IsReady self }
         requires unsent { O.sent out ≡ [] }
+        requires sync { IsSync R.row }
         ensures { Gives self (O.link out) result.0 record {
           link = O.closed_link result.1;
           items = O.all_sent result.1;

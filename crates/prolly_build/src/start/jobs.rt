@@ -10,6 +10,7 @@ use prolly_merge::{Merged, MergedTwo, merge, merge_two};
 use prolly_stage::{Staged, Worker, inner_stage_as, leaf_stage};
 use std::alloc::Global;
 use std::sync::Wait;
+use std::thread::Threads;
 
 /// To load a record file. It gives the source back.
 #[derive(Drop)]
@@ -35,7 +36,12 @@ impl<S: Source> Job for Load<S> {
         Worker::Loader(self.file)
     }
 
-    fn run<R: Wait, O: Out<Record>>(self, rt: &R, alloc: Global, out: O) -> (S, O::Closed) {
+    fn run<R: Wait + Threads + Sync, O: Out<Record>>(
+        self,
+        rt: &R,
+        alloc: Global,
+        out: O,
+    ) -> (S, O::Closed) {
         let Load {
             file,
             limit,
@@ -71,7 +77,7 @@ impl Job for MergeTwo {
         Worker::Merger(self.number)
     }
 
-    fn run<R: Wait, O: Out<Record>>(
+    fn run<R: Wait + Threads + Sync, O: Out<Record>>(
         self,
         rt: &R,
         _alloc: Global,
@@ -116,7 +122,7 @@ impl Job for MergeLast {
         Worker::Merger(self.number)
     }
 
-    fn run<R: Wait, O: Out<Pair>>(
+    fn run<R: Wait + Threads + Sync, O: Out<Pair>>(
         self,
         rt: &R,
         alloc: Global,
@@ -159,7 +165,7 @@ impl Job for CutLeaves {
         Worker::Stage(0)
     }
 
-    fn run<R: Wait, O: Out<ChunkEvent>>(
+    fn run<R: Wait + Threads + Sync, O: Out<ChunkEvent>>(
         self,
         rt: &R,
         alloc: Global,
@@ -200,7 +206,7 @@ impl Job for CutNodes {
         Worker::Stage(u32::from(self.level))
     }
 
-    fn run<R: Wait, O: Out<ChunkEvent>>(
+    fn run<R: Wait + Threads + Sync, O: Out<ChunkEvent>>(
         self,
         rt: &R,
         alloc: Global,

@@ -9,6 +9,7 @@ use prolly_root::{ChunkSource, RootFault};
 use prolly_stage::Worker;
 use std::alloc::Global;
 use std::sync::Wait;
+use std::thread::Threads;
 
 /// To load the leaves of an old tree. It gives back why not all of them were sent, if so.
 #[derive(Drop)]
@@ -35,7 +36,7 @@ impl<D: ChunkSource + Drop> Job for LoadOld<D> {
         Worker::Loader(OLD_TREE)
     }
 
-    fn run<R: Wait, O: Out<OldLeaf>>(
+    fn run<R: Wait + Threads + Sync, O: Out<OldLeaf>>(
         self,
         rt: &R,
         alloc: Global,
@@ -89,7 +90,7 @@ impl Job for ApplyLeaves {
         Worker::Stage(0)
     }
 
-    fn run<R: Wait, O: Out<ChunkEvent>>(
+    fn run<R: Wait + Threads + Sync, O: Out<ChunkEvent>>(
         self,
         rt: &R,
         alloc: Global,

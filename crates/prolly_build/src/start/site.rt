@@ -1,5 +1,6 @@
 //! What the workers of a build share, and how one of them is started.
 ghost use Rattle.std.specs.Prelude.{◌≡◌, [], IfSome};
+ghost use Rattle.std.specs.Thread.{IsSync};
 
 use crate::config::Config;
 use crate::start::job::{Job, Kept};
@@ -9,7 +10,7 @@ use prolly_stage::{Gate, Gated, Worker};
 use std::alloc::Global;
 use std::snapshot::Snapshot;
 use std::sync::Wait;
-use std::thread::{PromisedHandle, Scope};
+use std::thread::{PromisedHandle, Scope, Threads};
 
 /// The scope of the workers' threads, the runtime, the gate that they ask, the permit that the
 /// driver asks, and the settings.
@@ -23,7 +24,7 @@ pub(crate) struct Context<'s, 'p, E, R, G, P> {
     pub config: Config,
 }
 
-impl<'s, E, R: Wait + Sync, G: Gate, P: Permit> Context<'s, '_, E, R, G, P> {
+impl<'s, E, R: Wait + Threads + Sync, G: Gate, P: Permit> Context<'s, '_, E, R, G, P> {
     /// Has a worker do its job, on a thread of its own, behind the gate. `None` where it may not
     /// start, and its output is closed and the job dropped, or where no thread can be had, and both
     /// are dropped.
@@ -37,6 +38,7 @@ impl<'s, E, R: Wait + Sync, G: Gate, P: Permit> Context<'s, '_, E, R, G, P> {
         J::Done: Send + Drop + 's,
         requires ready { J.IsReady job }
         requires unsent { out.items ≡ [] }
+        requires sync { IsSync R.row }
         ensures job { IfSome result (λ handle. handle.promise.job.value ≡ job) }
         ensures out { IfSome result (λ handle. handle.promise.out.value ≡ out) }
     {
@@ -57,6 +59,7 @@ impl<'s, E, R: Wait + Sync, G: Gate, P: Permit> Context<'s, '_, E, R, G, P> {
         J::Done: Send + Drop + 's,
         requires ready { J.IsReady job }
         requires unsent { out.items ≡ [] }
+        requires sync { IsSync R.row }
         ensures job { IfSome result (λ handle. handle.promise.job.value ≡ job) }
         ensures out { IfSome result (λ handle. handle.promise.out.value ≡ out) }
     {
@@ -66,7 +69,7 @@ impl<'s, E, R: Wait + Sync, G: Gate, P: Permit> Context<'s, '_, E, R, G, P> {
             out: Snapshot::of(&out),
         };
         let work = move || -> (J::Done, ClosedBatch<J::Item>)
-            requires { J.IsReady job × (out.items ≡ []) }
+            requires { J.IsReady job × (out.items ≡ []) × IsSync R.row }
             ensures { J.Gives job out.link result.0 result.1 }
         { job.run(rt, alloc, Gated::new(out, worker, gate)) };
         worker_stack()

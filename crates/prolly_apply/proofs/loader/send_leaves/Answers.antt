@@ -30,20 +30,20 @@ pub loop-leaves-preserved : goal.loop-leaves-preserved
 loop-leaves-preserved g c =
     let before = c.loop-leaves.invariant in
     let next = c.in_ok-leaf.ensures in
-    let asked = next.asked before.goes in
+    let asked = next.asked in
     record {
       version = next.version ∙ before.version;
       goes = next.goes_on;
       loading = one_sent c.args.version c.args.root.now.0 (g.O.Out.sent c.args.out.now)
           c.loop-leaves.leaves.version before.version (g.O.Out.sent c.loop-leaves.out)
           (g.O.Out.sent c.send_leaf.new.out) (due_of_walk c.loop-leaves.leaves)
-          (due_of_walk c.next.new.self) c.in_ok-leaf.field-0 c.in-Some.leaf c.in-Some.is
+          (due_of_walk c.next_leaf.new.leaves) c.in_ok-leaf.field-0 c.in-Some.leaf c.in-Some.is
           before.loading next.gives c.in_ok-send_leaf.ensures.ok;
       link = c.in_ok-send_leaf.ensures.link ∙ before.link;
       keeps = λ content has. asked.0 content (before.keeps content has);
       failures = asked.1 ∙ before.failures;
       lawful = λ content has same is. next.lawful content (before.keeps content has)
-          (before.version ∙ same) before.goes (before.lawful content has same is);
+          (before.version ∙ same) (before.lawful content has same is);
     }
 
 pub returns-clause-ok : goal.returns-clause-ok
@@ -52,5 +52,5 @@ returns-clause-ok g c =
     all_loaded c.args.version c.args.root.now.0 (g.O.Out.sent c.args.out.now)
     c.leaves_are_right.ensures.all c.loop-leaves.leaves.version before.version
     (g.O.Out.sent c.loop-leaves.out) (due_of_walk c.loop-leaves.leaves)
-    (due_of_walk c.next.new.self) c.in_ok-leaf.field-0 c.in_default.is before.loading
+    (due_of_walk c.next_leaf.new.leaves) c.in_ok-leaf.field-0 c.in_default.is before.loading
     c.in_ok-leaf.ensures.gives
