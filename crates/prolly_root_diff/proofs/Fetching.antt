@@ -3,16 +3,13 @@ use Rattle.std.proofs.Common.{◌≡◌, ℕ, zero, suc, ◌+◌, ◌-◌, ◌<�
 use Rattle.std.proofs.Common.{Option, Some, None, Result, Ok, Err, refl, sym, ap, ◌∙◌, subst, arith}
 use Rattle.std.proofs.Common.{append_assoc}
 use Rattle.std.proofs.lemmas.List.{length-append, length-map}
-use Rattle.std.specs.List.{AllByRecursion}
 use Rattle.prolly_check.specs.Content.{Content}
 use Rattle.prolly_entry.specs.Reference.{reference_of}
-use Rattle.prolly_entry.specs.declared.reference.Ref.{Ref}
-use Rattle.prolly_entry.specs.declared.version.Version.{Version}
 use Rattle.prolly_root.specs.ChunkSource.{IsChildNumber}
 use Rattle.prolly_root.specs.RootFault.{IsOrFails, OnlyRead}
 use Rattle.prolly_root.specs.declared.root_fault.RootFault.{RootFault}
 use Rattle.prolly_tree.specs.Tree.{Tree, bytes_of}
-use Rattle.prolly_root_diff.specs.Sides.{AreLastChildren, AreOne, HaveSame, due_at, dues}
+use Rattle.prolly_root_diff.specs.Sides.{AreLastBelow, AreLastChildren, AreOne, AreSiblingsOf, HaveSame, dues}
 use Rattle.prolly_root_diff.specs.declared.siblings.Parent.{Parent}
 use Rattle.prolly_root_diff.specs.declared.siblings.Siblings.{Siblings}
 use Rattle.prolly_root_diff.proofs.Subtrees.{Finds, Keeps, same_bound}
@@ -94,7 +91,7 @@ module _ {T : Type 0} (is_place : Content → (level : ℕ) → Tree level → T
   lands level t (Err fault) only = only
 
   -- the child of a number is found, and the others stand where they stood
-  pub ahead_found : (p : Parent T) (references : List (List ℕ)) →
+  ahead_found : (p : Parent T) (references : List (List ℕ)) →
       AreLastChildren is_place content references p → (l number ahead : ℕ) → l ≡ p.level - 1 →
       number ≡ p.count - length references + ahead → ahead < length references → (new : T)
       (found : Result T RootFault) → Keeps is_place content p new l →
@@ -133,7 +130,7 @@ module _ {T : Type 0} (is_place : Content → (level : ℕ) → Tree level → T
           )
 
   -- no more of them are left than the node has
-  pub few_left : (p : Parent T) (references : List (List ℕ)) →
+  few_left : (p : Parent T) (references : List (List ℕ)) →
       AreLastChildren is_place content references p → length references ≤ p.count
   few_left p references a = omega (
     arith,
@@ -142,6 +139,22 @@ module _ {T : Type 0} (is_place : Content → (level : ℕ) → Tree level → T
     a.count,
     length-append a.front a.after,
   )
+
+  abbrev references_of : Siblings T → List (List ℕ)
+  references_of siblings = siblings.next.0 ∷ map (λ r. r.0) siblings.behind.items
+
+  -- the one of a number, counted from the next one, is found
+  pub one_found : (siblings : Siblings T) (p : Parent T) → siblings.parent ≡ Some p →
+      AreSiblingsOf is_place content siblings → (l number ahead : ℕ) → l ≡ p.level - 1 →
+      (length (references_of siblings) ≤ p.count →
+      number ≡ p.count - length (references_of siblings) + ahead) →
+      ahead < length (references_of siblings) → (new : T) (found : Result T RootFault) →
+      Keeps is_place content p new l → Finds is_place content p number found l →
+      Placed (references_of siblings) p new found
+  one_found siblings p above are l number ahead lower is few new found keeps finds =
+      let last = subst (AreLastBelow is_place content (references_of siblings)) above are in
+      ahead_found p (references_of siblings) last l number ahead lower
+      (is (few_left p (references_of siblings) last)) few new found keeps finds
 
 -- whatever is given
 pub any : {A : Type 0} (is : A → Type 0) (may : RootFault → Type 0) (result : Result A RootFault) →
