@@ -91,9 +91,9 @@ pub(crate) fn take_first<S: ChunkSource>(
     let Some(siblings) = due.pop_front() else {
         return Ok(None);
     };
-    let reference = siblings.next;
+    let read = (siblings.next, leaf);
     put_others(due, siblings)?;
-    Ok(Some((reference, leaf)))
+    Ok(Some(read))
 }
 
 /// Reads the chunks of the leaves that are due first, until they have so many bytes, where they are
