@@ -24,6 +24,7 @@
 #ifndef PROLLY_H
 #define PROLLY_H
 
+#include <stdbool.h>
 #include <stddef.h>
 #include <stdint.h>
 
@@ -222,7 +223,7 @@ uint32_t prolly_seek(const uint8_t *bytes, size_t len, const prolly_run *index, 
  * With the index of these bytes, as prolly_get says, and a cursor that is all zeros, or that
  * prolly_seek or prolly_next has put over the same bytes: PROLLY_DONE, and the key and the value are
  * those of the next pair in the order of the keys; or PROLLY_NONE, no pair is left, and the cursor
- * stays. Else as prolly_get.
+ * stays. Else as prolly_get. So it goes over the pairs of a proof, too: see prolly_verify_range.
  *
  * Cost: the same for each pair. Takes no memory. */
 uint32_t prolly_next(const uint8_t *bytes, size_t len, const prolly_run *index, size_t runs,
@@ -297,6 +298,37 @@ uint32_t prolly_verify(uint8_t version, const uint8_t root[20], const uint8_t *k
 uint32_t prolly_prove(const uint8_t *bytes, size_t len, uint8_t version, const uint8_t root[20],
                       const uint8_t *key, size_t key_len, uint8_t *out, size_t room, size_t *count,
                       uint64_t *chunk);
+
+/* ---- Proofs of ranges: of the keys that are not less than `from`, and, where the range is
+ * `bounded`, less than `to`. Where it is not, `to` is not looked at, and may be of length 0. */
+
+/* What a proof shows of a range, in the tree of version 1 or 2 that has this root. Root and version
+ * have to come from who is trusted, and not from who made the proof. It writes the index of the pairs
+ * that are shown, over the bytes of the proof, into room for `room` runs, and tells in `*count` how
+ * many it has.
+ *
+ * PROLLY_DONE: `index[0 .. *count]` is the index. With it, and the bytes of the proof, prolly_next
+ * goes over the pairs of the range, from a cursor that is all zeros on: over those that each map with
+ * this root has there, and no other, unless two different chunks have one reference. PROLLY_NO_ROOM:
+ * `*count` is the number of runs that it needs, and what was written means nothing. PROLLY_USAGE: no
+ * such version. PROLLY_MEMORY: memory was refused. Else the bytes prove nothing: the status is their
+ * first fault, and `*chunk` the chunk that it names. A proof is never refused so.
+ *
+ * Cost: hashes the proof once, also where there is no room. A run is of 16 pairs as a rule, and a
+ * proof of n bytes never needs more than n / 6 runs. Takes memory for one chunk, and for references. */
+uint32_t prolly_verify_range(uint8_t version, const uint8_t root[20], const uint8_t *from, size_t from_len,
+                             const uint8_t *to, size_t to_len, bool bounded, const uint8_t *proof,
+                             size_t proof_len, prolly_run *index, size_t room, size_t *count,
+                             uint64_t *chunk);
+
+/* The proof of what the tree of version 1 or 2 with this root has in a range, out of its chunk file,
+ * which need not be checked. Else as prolly_prove; prolly_verify_range takes what is written.
+ *
+ * Cost: goes over the frames of the file, and hashes the chunks of the proof. Takes memory for the
+ * proof. */
+uint32_t prolly_prove_range(const uint8_t *bytes, size_t len, uint8_t version, const uint8_t root[20],
+                            const uint8_t *from, size_t from_len, const uint8_t *to, size_t to_len,
+                            bool bounded, uint8_t *out, size_t room, size_t *count, uint64_t *chunk);
 
 #ifdef __cplusplus
 }

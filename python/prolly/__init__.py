@@ -16,10 +16,12 @@ from prolly._prolly import Tree
 from prolly._prolly import chunk_file as _chunk_file
 from prolly._prolly import diff as _diff
 from prolly._prolly import prove as _prove
+from prolly._prolly import prove_range as _prove_range
 from prolly._prolly import verify as _verify
+from prolly._prolly import verify_range as _verify_range
 from prolly.faults import ProllyError
 
-__all__ = ["ProllyError", "RootTree", "Tree", "build", "check", "diff", "open", "verify"]
+__all__ = ["ProllyError", "RootTree", "Tree", "build", "check", "diff", "open", "verify", "verify_range"]
 
 
 def open(path, check=True, root=None, version=2):
@@ -53,6 +55,17 @@ class RootTree:
         if self._data is None:
             raise ValueError("the tree is closed")
         return _prove(self._data, self.root, key, self.version)
+
+    def prove_range(self, start=None, stop=None):
+        """The proof of all pairs from start on and before stop, for who knows the root alone."""
+        if self._data is None:
+            raise ValueError("the tree is closed")
+        return _prove_range(self._data, self.root, start, stop, self.version)
+
+    def items(self, start=None, stop=None):
+        """The pairs in the order of their keys, from start on and before stop. They are verified before the first one is
+        given, and so are in memory, as a proof."""
+        return _verify_range(self.root, start, stop, self.prove_range(start, stop), self.version)
 
     def get(self, key, default=None):
         """The value of a key, or the other one where it has none."""
@@ -109,6 +122,16 @@ def verify(root, key, proof, version=2):
     The root and the version have to come from who is trusted. A proof that proves nothing raises ProllyError.
     """
     return _verify(root, key, proof, version)
+
+
+def verify_range(root, start, stop, proof, version=2):
+    """The pairs that a proof shows, in the order of their keys: all that the tree with this root has from start on and before
+    stop, and no other. None as start or as stop is no end.
+
+    The whole proof is verified before the first pair is given. The root and the version have to come from who is trusted. A
+    proof that proves nothing raises ProllyError.
+    """
+    return _verify_range(root, start, stop, proof, version)
 
 
 def diff(old, new):

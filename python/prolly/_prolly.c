@@ -53,6 +53,49 @@ static prolly_slice lent(const Py_buffer *view) {
   return slice;
 }
 
+/* A key, of an object that lends bytes. Into `bytes` itself it is looked without borrowing, which would take longer
+ * than the look-up. */
+typedef struct Key {
+  prolly_slice bytes;
+  Py_buffer view;
+  int is_lent;
+} Key;
+
+static inline int take_key(Key *key, PyObject *object) {
+  key->is_lent = !PyBytes_CheckExact(object);
+  if (!key->is_lent) {
+    key->bytes = (prolly_slice){(const uint8_t *)PyBytes_AS_STRING(object), (size_t)PyBytes_GET_SIZE(object)};
+    return 1;
+  }
+  if (PyObject_GetBuffer(object, &key->view, PyBUF_SIMPLE) < 0) return 0;
+  key->bytes = lent(&key->view);
+  return 1;
+}
+
+static inline void let_key(Key *key) {
+  if (key->is_lent) PyBuffer_Release(&key->view);
+}
+
+/* A range of keys, from one on and before another, where None is no key. */
+typedef struct Range {
+  Key from, to;
+  bool bounded;
+} Range;
+
+static int take_range(Range *range, PyObject *start, PyObject *stop) {
+  range->bounded = stop != Py_None;
+  range->from = range->to = (Key){.bytes = NO_BYTES};
+  if (start != Py_None && !take_key(&range->from, start)) return 0;
+  if (stop == Py_None || take_key(&range->to, stop)) return 1;
+  let_key(&range->from);
+  return 0;
+}
+
+static void let_range(Range *range) {
+  let_key(&range->from);
+  let_key(&range->to);
+}
+
 /* ---- Trees */
 
 typedef struct Tree {
@@ -135,14 +178,19 @@ static PyObject *tree_enter(PyObject *self, PyObject *unused) {
 static PyObject *tree_exit(PyObject *self, PyObject *unused) { return tree_close(self, unused); }
 
 /* The value of a key: 1, 0 where there is none, and -1 with an error. */
-static int found(Tree *tree, PyObject *key, prolly_slice *value) {
-  Py_buffer view;
-  if (!is_open(tree) || PyObject_GetBuffer(key, &view, PyBUF_SIMPLE) < 0) return -1;
-  prolly_slice sought = lent(&view);
-  uint32_t status = prolly_get(tree->bytes.ptr, tree->bytes.len, tree->index, tree->runs, sought.ptr, sought.len, value);
-  PyBuffer_Release(&view);
-  if (status > PROLLY_NONE) refused(status, 0);
-  return status == PROLLY_DONE ? 1 : status == PROLLY_NONE ? 0 : -1;
+static inline int found(Tree *tree, PyObject *object, prolly_slice *value) {
+  Key key;
+  if (!take_key(&key, object)) return -1;
+  /* To borrow a key may run code that closes the tree. */
+  int answer = -1;
+  if (is_open(tree)) {
+    uint32_t status = prolly_get(tree->bytes.ptr, tree->bytes.len, tree->index, tree->runs, key.bytes.ptr,
+                                 key.bytes.len, value);
+    if (status > PROLLY_NONE) refused(status, 0);
+    else answer = status == PROLLY_DONE;
+  }
+  let_key(&key);
+  return answer;
 }
 
 static PyObject *tree_getitem(PyObject *self, PyObject *key) {
@@ -152,15 +200,16 @@ static PyObject *tree_getitem(PyObject *self, PyObject *key) {
   return is == 1 ? bytes_of(value) : NULL;
 }
 
-static PyObject *tree_get(PyObject *self, PyObject *args) {
-  PyObject *key, *otherwise = Py_None;
+static PyObject *tree_get(PyObject *self, PyObject *const *args, Py_ssize_t count) {
   prolly_slice value = NO_BYTES;
-  if (!PyArg_ParseTuple(args, "O|O", &key, &otherwise)) return NULL;
-  int is = found((Tree *)self, key, &value);
+  if (count < 1 || count > 2) {
+    PyErr_Format(PyExc_TypeError, "get takes a key, and what to give where there is none (%zd given)", count);
+    return NULL;
+  }
+  int is = found((Tree *)self, args[0], &value);
   if (is < 0) return NULL;
   if (is == 1) return bytes_of(value);
-  Py_INCREF(otherwise);
-  return otherwise;
+  return Py_NewRef(count == 2 ? args[1] : Py_None);
 }
 
 static int tree_contains(PyObject *self, PyObject *key) {
@@ -229,14 +278,13 @@ static PyObject *go_over(Tree *tree, PyObject *start, PyObject *stop, int only_k
   pairs->stop = stop == Py_None ? NULL : PyBytes_FromObject(stop);
   pairs->only_keys = only_keys;
   int is_right = stop == Py_None || pairs->stop != NULL;
-  Py_buffer view;
+  Key from;
   if (is_right && start != Py_None) {
-    is_right = PyObject_GetBuffer(start, &view, PyBUF_SIMPLE) == 0;
+    is_right = take_key(&from, start) && is_open(tree);
     if (is_right) {
-      prolly_slice from = lent(&view);
-      uint32_t status = prolly_seek(tree->bytes.ptr, tree->bytes.len, tree->index, tree->runs, from.ptr, from.len,
-                                    &pairs->cursor);
-      PyBuffer_Release(&view);
+      uint32_t status = prolly_seek(tree->bytes.ptr, tree->bytes.len, tree->index, tree->runs, from.bytes.ptr,
+                                    from.bytes.len, &pairs->cursor);
+      let_key(&from);
       if (status != PROLLY_DONE) refused(status, 0);
       is_right = status == PROLLY_DONE;
     }
@@ -255,11 +303,24 @@ static PyObject *tree_items(PyObject *self, PyObject *args, PyObject *words) {
   return go_over((Tree *)self, start, stop, 0);
 }
 
-/* The proof of a key, out of the bytes of a tree of which the root is known. */
-static PyObject *proof_in(prolly_slice bytes, uint8_t version, const uint8_t *root, PyObject *key) {
-  Py_buffer view;
-  if (PyObject_GetBuffer(key, &view, PyBUF_SIMPLE) < 0) return NULL;
-  prolly_slice sought = lent(&view);
+/* What a proof is made out of: the bytes of a tree of which the root is known. */
+typedef struct Proved {
+  prolly_slice bytes;
+  uint8_t version;
+  const uint8_t *root;
+} Proved;
+
+/* The proof of a range, or of the key that it is from, into room for so many bytes. */
+static uint32_t prove_into(const Proved *of, const Range *range, int is_range, uint8_t *out, size_t room, size_t *count,
+                           uint64_t *chunk) {
+  prolly_slice from = range->from.bytes, to = range->to.bytes;
+  if (is_range)
+    return prolly_prove_range(of->bytes.ptr, of->bytes.len, of->version, of->root, from.ptr, from.len, to.ptr, to.len,
+                              range->bounded, out, room, count, chunk);
+  return prolly_prove(of->bytes.ptr, of->bytes.len, of->version, of->root, from.ptr, from.len, out, room, count, chunk);
+}
+
+static PyObject *proof_in(Proved of, const Range *range, int is_range) {
   uint8_t *proof = NULL, *wider;
   size_t count = 4096;
   uint64_t chunk = 0;
@@ -268,11 +329,8 @@ static PyObject *proof_in(prolly_slice bytes, uint8_t version, const uint8_t *ro
     size_t room = count;
     wider = PyMem_RawRealloc(proof, room);
     if (wider != NULL) proof = wider;
-    status = wider == NULL ? PROLLY_MEMORY
-                           : prolly_prove(bytes.ptr, bytes.len, version, root, sought.ptr, sought.len, proof, room,
-                                          &count, &chunk);
+    status = wider == NULL ? PROLLY_MEMORY : prove_into(&of, range, is_range, proof, room, &count, &chunk);
   }
-  PyBuffer_Release(&view);
   PyObject *answer = NULL;
   if (status == PROLLY_DONE) answer = PyBytes_FromStringAndSize((char *)proof, (Py_ssize_t)count);
   else refused(status, chunk);
@@ -280,9 +338,25 @@ static PyObject *proof_in(prolly_slice bytes, uint8_t version, const uint8_t *ro
   return answer;
 }
 
+static Proved proved_by(Tree *tree) { return (Proved){tree->bytes, tree->report.version, tree->report.root}; }
+
 static PyObject *tree_prove(PyObject *self, PyObject *key) {
-  Tree *tree = (Tree *)self;
-  return is_open(tree) ? proof_in(tree->bytes, tree->report.version, tree->report.root, key) : NULL;
+  Range range = {.bounded = false};
+  if (!take_key(&range.from, key)) return NULL;
+  PyObject *answer = is_open((Tree *)self) ? proof_in(proved_by((Tree *)self), &range, 0) : NULL;
+  let_key(&range.from);
+  return answer;
+}
+
+static PyObject *tree_prove_range(PyObject *self, PyObject *args, PyObject *words) {
+  static char *names[] = {"start", "stop", NULL};
+  PyObject *start = Py_None, *stop = Py_None;
+  Range range;
+  if (!PyArg_ParseTupleAndKeywords(args, words, "|OO", names, &start, &stop)) return NULL;
+  if (!take_range(&range, start, stop)) return NULL;
+  PyObject *answer = is_open((Tree *)self) ? proof_in(proved_by((Tree *)self), &range, 1) : NULL;
+  let_range(&range);
+  return answer;
 }
 
 static PyObject *tree_root(PyObject *self, void *unused) {
@@ -301,11 +375,13 @@ static PyObject *tree_version(PyObject *self, void *unused) {
 }
 
 static PyMethodDef tree_methods[] = {
-    {"get", tree_get, METH_VARARGS, "get(key, default=None): the value of a key, or the other one where it has none."},
+    {"get", (PyCFunction)(void (*)(void))tree_get, METH_FASTCALL, "get(key, default=None): the value of a key, or the other one where it has none."},
     {"nth", tree_nth, METH_O, "nth(n): the pair of this number, counted from 0. IndexError where there is none."},
     {"items", (PyCFunction)(void (*)(void))tree_items, METH_VARARGS | METH_KEYWORDS,
      "items(start=None, stop=None): the pairs in the order of their keys, from start on and before stop."},
     {"prove", tree_prove, METH_O, "prove(key): the proof of what the tree has at a key, for who knows the root alone."},
+    {"prove_range", (PyCFunction)(void (*)(void))tree_prove_range, METH_VARARGS | METH_KEYWORDS,
+     "prove_range(start=None, stop=None): the proof of all pairs from start on and before stop."},
     {"close", tree_close, METH_NOARGS, "close(): lets the bytes go. The tree can't be asked any more."},
     {"__enter__", tree_enter, METH_NOARGS, NULL},
     {"__exit__", tree_exit, METH_VARARGS, NULL},
@@ -480,6 +556,12 @@ static PyObject *chunk_file(PyObject *module, PyObject *args) {
   return answer;
 }
 
+/* Whether a root has the length of one. */
+static int is_root(const Py_buffer *root) {
+  if (root->len != 20) PyErr_SetString(PyExc_ValueError, "a root has 20 bytes");
+  return root->len == 20;
+}
+
 /* prove(data, root, key, version) -> bytes */
 static PyObject *prove(PyObject *module, PyObject *args) {
   (void)module;
@@ -487,8 +569,28 @@ static PyObject *prove(PyObject *module, PyObject *args) {
   PyObject *key, *answer = NULL;
   unsigned char version;
   if (!PyArg_ParseTuple(args, "y*y*Ob", &data, &root, &key, &version)) return NULL;
-  if (root.len == 20) answer = proof_in(lent(&data), version, root.buf, key);
-  else PyErr_SetString(PyExc_ValueError, "a root has 20 bytes");
+  Range range = {.bounded = false};
+  if (is_root(&root) && take_key(&range.from, key)) {
+    answer = proof_in((Proved){lent(&data), version, root.buf}, &range, 0);
+    let_key(&range.from);
+  }
+  PyBuffer_Release(&data);
+  PyBuffer_Release(&root);
+  return answer;
+}
+
+/* prove_range(data, root, start, stop, version) -> bytes */
+static PyObject *prove_range(PyObject *module, PyObject *args) {
+  (void)module;
+  Py_buffer data, root;
+  PyObject *start, *stop, *answer = NULL;
+  unsigned char version;
+  if (!PyArg_ParseTuple(args, "y*y*OOb", &data, &root, &start, &stop, &version)) return NULL;
+  Range range;
+  if (is_root(&root) && take_range(&range, start, stop)) {
+    answer = proof_in((Proved){lent(&data), version, root.buf}, &range, 1);
+    let_range(&range);
+  }
   PyBuffer_Release(&data);
   PyBuffer_Release(&root);
   return answer;
@@ -503,9 +605,7 @@ static PyObject *verify(PyObject *module, PyObject *args) {
   PyObject *answer = NULL;
   prolly_slice k = lent(&key), p = lent(&proof), value = NO_BYTES;
   uint64_t chunk = 0;
-  if (root.len != 20) {
-    PyErr_SetString(PyExc_ValueError, "a root has 20 bytes");
-  } else {
+  if (is_root(&root)) {
     uint32_t status = prolly_verify(version, root.buf, k.ptr, k.len, p.ptr, p.len, &value, &chunk);
     if (status == PROLLY_DONE) answer = bytes_of(value);
     else if (status == PROLLY_NONE) answer = Py_NewRef(Py_None);
@@ -517,11 +617,58 @@ static PyObject *verify(PyObject *module, PyObject *args) {
   return answer;
 }
 
+/* Verifies a proof of a range, and makes the index of what it shows. */
+static uint32_t index_shown(Tree *shown, uint8_t version, const uint8_t *root, const Range *range, uint64_t *chunk) {
+  prolly_slice from = range->from.bytes, to = range->to.bytes, proof = shown->bytes;
+  size_t count = proof.len / 256 + 1;
+  uint32_t status = PROLLY_NO_ROOM;
+  for (int i = 0; i < 2 && status == PROLLY_NO_ROOM; i++) {
+    size_t room = count;
+    PyMem_RawFree(shown->index);
+    shown->index = PyMem_RawMalloc(room * sizeof *shown->index);
+    if (shown->index == NULL) return PROLLY_MEMORY;
+    status = prolly_verify_range(version, root, from.ptr, from.len, to.ptr, to.len, range->bounded, proof.ptr, proof.len,
+                                 shown->index, room, &count, chunk);
+  }
+  shown->runs = count;
+  return status;
+}
+
+/* verify_range(root, start, stop, proof, version) -> Pairs */
+static PyObject *verify_range(PyObject *module, PyObject *args) {
+  (void)module;
+  Py_buffer root;
+  PyObject *start, *stop, *proof, *answer = NULL;
+  unsigned char version;
+  Range range;
+  if (!PyArg_ParseTuple(args, "y*OOOb", &root, &start, &stop, &proof, &version)) return NULL;
+  /* The pairs are gone over as those of a tree, whose bytes are the proof. */
+  Tree *shown = is_root(&root) ? (Tree *)TreeType.tp_alloc(&TreeType, 0) : NULL;
+  if (shown != NULL && PyObject_GetBuffer(proof, &shown->view, PyBUF_SIMPLE) == 0) {
+    shown->is_open = 1;
+    shown->bytes = lent(&shown->view);
+    if (take_range(&range, start, stop)) {
+      uint32_t status;
+      uint64_t chunk = 0;
+      Py_BEGIN_ALLOW_THREADS
+      status = index_shown(shown, version, root.buf, &range, &chunk);
+      Py_END_ALLOW_THREADS
+      let_range(&range);
+      answer = status == PROLLY_DONE ? go_over(shown, Py_None, Py_None, 0) : refused(status, chunk);
+    }
+  }
+  Py_XDECREF(shown);
+  PyBuffer_Release(&root);
+  return answer;
+}
+
 static PyMethodDef functions[] = {
     {"chunk_file", chunk_file, METH_VARARGS, "chunk_file(pairs, bits, version): the bytes of the chunk file, and its root."},
     {"diff", diff, METH_VARARGS, "diff(old, new): the changes, each a key, the old value and the new one, or None for none."},
     {"prove", prove, METH_VARARGS, "prove(data, root, key, version): a proof, out of a chunk file that nobody checked."},
     {"verify", verify, METH_VARARGS, "verify(root, key, proof, version): the value that a proof shows, or None."},
+    {"prove_range", prove_range, METH_VARARGS, "prove_range(data, root, start, stop, version): that of a range."},
+    {"verify_range", verify_range, METH_VARARGS, "verify_range(root, start, stop, proof, version): the pairs that a proof shows."},
     {NULL, NULL, 0, NULL}};
 
 static struct PyModuleDef module = {PyModuleDef_HEAD_INIT, "prolly._prolly", NULL, -1, functions, NULL, NULL, NULL, NULL};

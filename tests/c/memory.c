@@ -24,7 +24,7 @@ static const uint8_t *bytes, *records, *key;
 static size_t len, records_len, key_len;
 static prolly_report report;
 static uint8_t *out, root[20];
-static size_t room, count;
+static size_t room, count, proof_len;
 
 static uint32_t check(void) { return prolly_check(bytes, len, &report); }
 
@@ -36,6 +36,20 @@ static uint32_t scratch(void) {
 static uint32_t prove(void) {
   uint64_t chunk = 0;
   return prolly_prove(bytes, len, report.version, report.root, key, key_len, out, room, &count, &chunk);
+}
+
+static uint32_t prove_range(void) {
+  uint64_t chunk = 0;
+  return prolly_prove_range(bytes, len, report.version, report.root, key, key_len, key, 0, false, out, room, &count,
+                            &chunk);
+}
+
+/* Of the proof that the call before has made. */
+static uint32_t verify_range(void) {
+  static prolly_run index[1000];
+  uint64_t chunk = 0;
+  return prolly_verify_range(report.version, report.root, key, key_len, key, 0, false, out, proof_len, index, 1000,
+                             &count, &chunk);
 }
 
 /* How many growths a call needs: with each lesser number memory is refused, and nothing is answered. */
@@ -68,6 +82,9 @@ int main(int argc, char **argv) {
   WANT(growths_of(scratch) > 2);
   WANT(count == len && memcmp(out, bytes, len) == 0 && memcmp(root, report.root, 20) == 0);
   WANT(growths_of(prove) > 2);
+  WANT(growths_of(prove_range) > 2);
+  proof_len = count;
+  WANT(growths_of(verify_range) > 2);
   free(out);
   free(pairs);
   free(file);

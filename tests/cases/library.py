@@ -9,6 +9,7 @@ from pathlib import Path
 
 from cases.scratch import ABC
 from oracle.proof import proof_of
+from oracle.range_proof import range_proof_of, within
 from oracle.trees import chunk_file, record, tree
 from support.harness import hexed
 
@@ -49,7 +50,7 @@ def all_runs(_, folder):
     if not (LIBRARY / "libprolly.a").exists():
         print("SKIPPED the library: `make lib` makes it")
         return
-    programs = {name: folder / name for name in ("look_ups", "damaged", "threads", "building", "proofs", "diffs", "memory")}
+    programs = {name: folder / name for name in ("look_ups", "damaged", "threads", "building", "proofs", "ranges", "diffs", "memory")}
     programs["shared"] = folder / "shared"
     for name, program in programs.items():
         kind = ("look_ups", "libprolly.so") if name == "shared" else (name, "libprolly.a")
@@ -58,13 +59,15 @@ def all_runs(_, folder):
         return
     yield "the header, as C++ reads it", as_cpp()
     yield "the names that are seen", names_seen()
-    yield "the example of docs/c.md", example_compiles(folder)
+    yield "the examples of docs/c.md", examples_compile(folder)
     for number, (name, pairs, bits, version) in enumerate(TREES):
         chunks, records = laid_out(folder, str(number), pairs, bits, version)
         yield f"look-ups, {name}", looked_up([programs["look_ups"]], chunks, records, pairs, bits, version)
         yield f"building, {name}", builds([programs["building"]], chunks, records, pairs, bits, version)
     for name, key, version, proof, told in some_proofs():
         yield f"the proof of {name}", proves([programs["proofs"]], folder, key, version, proof, told)
+    for name, first, end, version, proof, told in some_range_proofs():
+        yield f"the proof of {name}", proves_range([programs["ranges"]], folder, first, end, version, proof, told)
     for name, old, new in DIFFERING:
         yield f"the difference of {name}", differs([programs["diffs"]], folder, old, new)
     chunks, records = laid_out(folder, "some", some_pairs(2, 300), 3, 2)
@@ -81,6 +84,9 @@ def all_runs(_, folder):
     yield "look-ups beneath valgrind", looked_up([*VALGRIND, programs["look_ups"]], chunks, records, pairs, 3, 2)
     tiny, _ = laid_out(folder, "tiny", ABC, 0, 2)
     yield "damaged files beneath valgrind", silent([*VALGRIND, programs["damaged"], tiny])
+    for name, first, end, version, proof, told in list(some_range_proofs())[:: 9]:
+        words = [*VALGRIND, programs["ranges"]]
+        yield f"the proof of {name}, beneath valgrind", proves_range(words, folder, first, end, version, proof, told)
 
 
 PROVED = some_pairs(4, 60, 3)
@@ -102,6 +108,23 @@ def some_proofs():
         yield f"another key, format {version}", keys[3], version, proof, None
         yield f"the other version, format {version}", keys[0], version, proof_of(top, keys[0], 3 - version), b"49 0 "
         yield f"a byte more, format {version}", keys[0], version, proof + b"C", b"56 0 "
+
+
+def some_range_proofs():
+    """Ranges, versions, proofs of them, and what they show: a status, a chunk and lines of pairs; any fault where that is None."""
+    keys = [b"", *(key for key, _ in PROVED[7::17]), PROVED[5][0] + b"\0", b"\xff\xff\xff\xff"]
+    for version in (1, 2):
+        top = tree(PROVED, PROVED_BITS, version)
+        for first, end in [(first, end) for first in keys for end in [None, *keys]]:
+            lines = [b"%s %s\n" % (hexed(key), hexed(value)) for key, value in within(PROVED, first, end)]
+            proof = range_proof_of(top, first, end, version)
+            yield f"{first} to {end}, format {version}", first, end, version, proof, b"0 0\n" + b"".join(lines)
+        first, end = keys[1:3]
+        proof = range_proof_of(top, first, end, version)
+        yield f"a narrower range, format {version}", first, None, version, proof, None
+        yield f"a range of the other version, format {version}", first, end, version, range_proof_of(top, first, end, 3 - version), b"49 0\n"
+        yield f"a range and a byte more, format {version}", first, end, version, proof + b"C", b"56 0\n"
+        yield f"a key and no range, format {version}", first, end, version, proof_of(top, first, version), b"48 0\n"
 
 
 DIFFERING = [
@@ -159,6 +182,19 @@ def proves(words, folder, key, version, proof, told):
     return [f"status {done.returncode}, {done.stdout!r}, wanted {told!r}, {done.stderr[-400:]!r}"]
 
 
+def proves_range(words, folder, first, end, version, proof, told):
+    """What differs between what the library says of a proof of a range and what is right."""
+    chunks, _ = laid_out(folder, "proved", PROVED, PROVED_BITS, version)
+    (folder / "proof").write_bytes(proof)
+    root = tree(PROVED, PROVED_BITS, version).reference.hex()
+    asked = [chunks, root, str(version), first.hex(), "-" if end is None else end.hex(), folder / "proof"]
+    done = subprocess.run([*words, *asked], capture_output=True, check=False)
+    is_right = done.stdout == told if told is not None else int(done.stdout.split()[0]) >= 48
+    if is_right and (done.returncode, done.stderr) == (0, b""):
+        return []
+    return [f"status {done.returncode}, {done.stdout[:300]!r}, wanted {told and told[:300]!r}, {done.stderr[-400:]!r}"]
+
+
 def laid_out(folder, name, pairs, bits, version):
     """The chunk file and the record file of pairs."""
     chunks, records = folder / f"{name}.prl", folder / f"{name}.rec"
@@ -181,12 +217,16 @@ def as_cpp():
     return silent(words)
 
 
-def example_compiles(folder):
-    """What the compiler says of the example, which has the bytes of a file, put into a function."""
-    example = (TOP / "docs" / "c.md").read_text().split("```c\n")[1].split("```")[0]
-    place = folder / "example.c"
-    headers = "".join(f"#include <{name}>\n" for name in ("stdio.h", "stdlib.h", "prolly.h"))
-    place.write_text(f"{headers}int example(const uint8_t *bytes, size_t len);\nint example(const uint8_t *bytes, size_t len) {{\n{example}return 0;\n}}\n")
+def examples_compile(folder):
+    """What the compiler says of the examples, which have the bytes of a file or of a proof, each put into a function."""
+    parts = (TOP / "docs" / "c.md").read_text().split("```c\n")[1:]
+    lines = [f"#include <{name}>" for name in ("stdio.h", "stdlib.h", "prolly.h")]
+    for number, part in enumerate(parts):
+        bytes_name = "proof" if "proof, len" in part else "bytes"
+        head = f"int example{number}(const uint8_t *{bytes_name}, size_t len, const uint8_t *root)"
+        lines += [f"{head};", f"{head} {{", "(void)root;", part.split("```")[0], "return 0;", "}"]
+    place = folder / "examples.c"
+    place.write_text("\n".join(lines) + "\n")
     return silent(["cc", *STRICT, "-fsyntax-only", "-I", TOP / "include", place])
 
 

@@ -6,6 +6,7 @@ import threading
 
 import prolly
 from oracle.proof import proof_of
+from oracle.range_proof import range_proof_of
 from oracle.trees import chunk_file, tree
 
 
@@ -51,7 +52,13 @@ def compare(pairs, bits, version, numbers):
             proof = some.prove(start)
             assert proof == proof_of(top, start, version)
             assert prolly.verify(root, start, proof, version) == held.get(start)
+            for first, end in ((start, stop), (start, None), (None, stop), (stop, start)):
+                range_proof = some.prove_range(first, end)
+                assert range_proof == range_proof_of(top, first or b"", end, version)
+                held_there = list(some.items(first, end))
+                assert list(prolly.verify_range(root, first, end, range_proof, version)) == held_there
             with prolly.open("some.prl", check=False, root=root, version=version) as rooted:
+                assert list(rooted.items(start, stop)) == list(some.items(start, stop))
                 assert rooted.get(start, 7) == held.get(start, 7)
                 assert (start in rooted) == (start in held)
         raised(IndexError, some.nth, len(pairs))
@@ -83,6 +90,14 @@ def refusals():
         assert list(kept.items()) == [(b"a", b"b")]
         raised(TypeError, kept.get, "a")
         raised(ValueError, prolly.verify, b"short", b"a", b"")
+        raised(ValueError, prolly.verify_range, b"short", b"a", None, b"")
+        raised(TypeError, prolly.verify_range, kept.root, "a", None, b"")
+        raised(TypeError, prolly.verify_range, kept.root, b"a", 3, b"")
+        raised(TypeError, kept.prove_range, b"a", "b")
+        for proof in damaged(kept.prove_range()):
+            raised(prolly.ProllyError, prolly.verify_range, kept.root, None, None, proof)
+        for proof in damaged(kept.prove(b"a")):
+            raised(prolly.ProllyError, prolly.verify, kept.root, b"a", proof)
     content = chunk_file([(b"a", b"b")], 6, 2)
     for place in range(len(content)):
         raised(prolly.ProllyError, prolly.check, content[:place])
@@ -95,6 +110,15 @@ def refusals():
     raised(ValueError, prolly.open, "kept.prl", root=bytes(20))
     raised(prolly.ProllyError, prolly.open("kept.prl", check=False, root=bytes(20)).get, b"a")
     gc.collect()
+
+
+def damaged(proof):
+    """Each prefix of a proof, the proof with each bit flipped, and with a byte more."""
+    for place in range(len(proof)):
+        yield proof[:place]
+        for bit in range(8):
+            yield proof[:place] + bytes([proof[place] ^ 1 << bit]) + proof[place + 1 :]
+    yield proof + b"C"
 
 
 def by_threads():

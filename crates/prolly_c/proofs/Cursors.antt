@@ -21,7 +21,8 @@ use Rattle.prolly_c.specs.declared.run.Run.{Run}
 
 -- ---- parts of the bytes
 
-drop_front : (xs ys : List ℕ) → drop (length xs) (xs ++ ys) ≡ ys
+-- What is behind the first bytes.
+pub drop_front : (xs ys : List ℕ) → drop (length xs) (xs ++ ys) ≡ ys
 drop_front [] ys = refl
 drop_front (x ∷ xs) ys = drop_front xs ys
 

@@ -10,3 +10,15 @@ pub mod Cursors
 pub mod FileFrames
 -- Two cursors side by side: what is taken of the least key, and what is left.
 pub mod Sides
+-- What is left of the proof of a set of keys.
+pub mod ProofRests
+-- Verifying a proof, chunk by chunk.
+pub mod Verifying
+-- The pairs that the entries of a leaf are read as.
+pub mod LeafPairs
+-- The pairs of a range among those of a leaf.
+pub mod RangeParts
+-- The pairs of a range that the chunks of its proof show.
+pub mod ShownPairs
+-- What the index of a range's proof has, for who knows the root of a map.
+pub mod RangeRight

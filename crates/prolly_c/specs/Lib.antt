@@ -10,5 +10,7 @@ pub mod Report
 pub mod Built
 -- What a proof says, and why bytes are none.
 pub mod Proofs
+-- Proofs of ranges, and the runs that hold what they show.
+pub mod RangeProofs
 -- Two cursors side by side, and what is between two chunk files.
 pub mod Changes

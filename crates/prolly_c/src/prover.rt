@@ -1,4 +1,4 @@
-//! Making the proof of a key out of a chunk file in memory.
+//! Making proofs out of a chunk file in memory.
 ghost use Rattle.std.specs.Prelude.{◌≡◌, IfErr, IfOk};
 ghost use Rattle.prolly_entry.specs.Cut.{sha512_cut};
 ghost use Rattle.prolly_tree.specs.File.{root_reference};
@@ -6,9 +6,13 @@ ghost use Rattle.prolly_check.specs.Content.{Content};
 ghost use Rattle.prolly_check.specs.Verdict.{IsFileOf};
 ghost use Rattle.prolly_root.specs.ProofFile.{IsSomeProof};
 ghost use Rattle.prolly_root.specs.RootFault.{MayFail};
+ghost use Rattle.prolly_range.specs.KeySet.{set_of};
+ghost use Rattle.prolly_c.specs.RangeProofs.{IsSomeRangeProof};
 
+use crate::gathered::Gathered;
 use prolly_entry::{Ref, Version};
 use prolly_file::FromSeek;
+use prolly_range::{KeySet, ProveFault, prove_set};
 use prolly_root::{FileChunks, Reader, RootFault};
 use std::alloc::Global;
 use std::io::Cursor;
@@ -33,5 +37,31 @@ pub(crate) fn proof_in(
     match Reader::open(alloc, &mut chunks, version, root) {
         Ok(mut reader) => reader.prove(alloc, &mut chunks, key),
         Err(fault) => Err(fault),
+    }
+}
+
+/// The proof of what the tree of this version and root has at the keys of the set. Else as
+/// [`proof_in`].
+pub(crate) fn range_proof_in(
+    alloc: Global,
+    bytes: &[u8],
+    version: Version,
+    root: &Ref,
+    set: KeySet<'_>,
+) -> Result<Vec<u8>, RootFault>
+    ensures proves { IfOk result (λ proof.
+        IsSomeRangeProof version root.now.0 (set_of set.entry) proof.items) }
+    ensures lawful { (content : Content) → IsFileOf bytes.now content →
+        content.version ≡ version →
+        root.now.0 ≡ root_reference (sha512_cut content.bits) content.version content.pairs →
+        IfErr result MayFail }
+{
+    let mut chunks = FileChunks::new(FromSeek::new(Cursor::new(bytes)));
+    let mut sink = Gathered::new(alloc);
+    match prove_set(alloc, &mut chunks, version, root, set, &mut sink) {
+        Ok(()) => Ok(sink.into_bytes()),
+        Err(ProveFault::Chunks(fault)) => Err(fault),
+        // No write fails but where memory is refused.
+        Err(ProveFault::Write) => Err(RootFault::Memory),
     }
 }

@@ -2,10 +2,12 @@
 ghost use Rattle.std.specs.Prelude.{◌≡◌};
 ghost use Rattle.prolly_c.specs.Built.{status_of_records};
 ghost use Rattle.prolly_c.specs.Proofs.{status_of_proof, status_of_root};
+ghost use Rattle.prolly_c.specs.RangeProofs.{status_of_set};
 ghost use Rattle.prolly_c.specs.Report.{status_of_check};
 
 use prolly_check::CheckFault;
 use prolly_entry::RecordFault;
+use prolly_range::SetFault;
 use prolly_root::{ProofFault, RootFault};
 
 /// The call is done; a look-up found a value.
@@ -81,6 +83,18 @@ pub(crate) fn proof_status(fault: ProofFault) -> (u32, u64)
         ProofFault::KeysOutOfOrder { chunk } => (54, chunk as u64),
         ProofFault::Level { chunk } => (55, chunk as u64),
         ProofFault::Trailing => (56, 0),
+    }
+}
+
+/// The status of why bytes are no proof of a range, and the chunk that it names.
+pub(crate) fn set_status(fault: SetFault) -> (u32, u64)
+    ensures { result ≡ status_of_set fault }
+{
+    match fault {
+        SetFault::Memory => (MEMORY, 0),
+        SetFault::Proof(fault) => proof_status(fault),
+        // No read of memory fails, and after a fault nothing is asked.
+        SetFault::Read | SetFault::Stopped => (25, 0),
     }
 }
 

@@ -19,7 +19,7 @@ use prolly_file::{FRAME_FRONT, HEADER_SIZE, front_frame};
 const RUN_PAIRS: u64 = 16;
 
 /// The level of a leaf.
-const LEAF: u8 = 0;
+pub(crate) const LEAF: u8 = 0;
 
 /// How many runs there are so far, and how many pairs they hold.
 #[derive(Clone, Copy)]
@@ -78,7 +78,7 @@ fn add_chunk(
 }
 
 /// Adds the runs of a leaf: `entries` begins with its entries, and has so many bytes behind them.
-fn add_leaf(
+pub(crate) fn add_leaf(
     bytes: &[u8],
     entries: &[u8],
     behind: usize,
