@@ -1,8 +1,8 @@
 #!/usr/bin/env python3
-"""How long look-ups take from Python and from C, beside those of sqlite3 and, where they are there, of LMDB: `bench/library.py [PAIRS]`.
+"""How long a load, a get and a scan of all take from Python and from C, beside those of sqlite3 and LMDB: `bench/library.py [PAIRS]`.
 
-The library has to be there (`make lib`). Times are of the processor; what is shown of each are medians of some turns, so that what
-is compared runs in turn.
+The library has to be there (`make lib`). LMDB is that of the Python which runs this, and of the compiler; where it is not installed
+that is said. Times are of the processor. Stores are asked in turn, and what is shown of gets and scans are medians of some turns.
 """
 
 import os
@@ -24,7 +24,7 @@ PAIRS = int(sys.argv[1]) if len(sys.argv) > 1 else 1_000_000
 PROBES = 100_000
 """How many keys are looked up at a time."""
 
-TURNS = 3
+TURNS = 5
 
 MEGABYTES = 1 << 30
 """How much of a file sqlite3 and LMDB may map."""
@@ -39,15 +39,22 @@ def main():
         keys = sorted({numbers.randbytes(16) for _ in range(PAIRS)})
         pairs = [(key, numbers.randbytes(16)) for key in keys]
         probes = numbers.sample(keys, min(PROBES, len(keys)))
-        stores = [prolly_store(6), prolly_store(12), sqlite_store(), *lmdb_store()]
-        print(f"{len(pairs)} pairs, from Python: a load, a check; a get; a scan of all")
-        for name, load, opened in stores:
-            loading = timed(lambda: load(pairs))
-            opening, (get, scan) = timed_with(opened)
-            gets = median(timed(lambda: [get(key) for key in probes]) / len(probes) for _ in range(TURNS))
-            scans = median(timed(lambda: sum(1 for _ in scan())) for _ in range(TURNS))
-            print(f"{name:18} {loading:6.2f} s {opening:6.2f} s {gets * 1e6:6.2f} us {scans:6.2f} s", flush=True)
+        print(f"{len(pairs)} pairs: a load; a check, or an opening; a get; a scan of all")
+        in_python([prolly_store(6), prolly_store(12), sqlite_store(), *lmdb_store()], pairs, probes)
         in_c(Path(folder))
+
+
+def in_python(stores, pairs, probes):
+    """The times of Python. The stores are asked in turn."""
+    loads = [timed(lambda load=load: load(pairs)) for _, load, _ in stores]
+    opened = [timed_with(opening) for _, _, opening in stores]
+    gets, scans = [[] for _ in stores], [[] for _ in stores]
+    for _ in range(TURNS):
+        for (_, (get, scan)), some_gets, some_scans in zip(opened, gets, scans, strict=True):
+            some_gets.append(timed(lambda get=get: [get(key) for key in probes]) / len(probes))
+            some_scans.append(timed(lambda scan=scan: sum(1 for _ in scan())))
+    for (name, _, _), load, (opening, _), get, scan in zip(stores, loads, opened, gets, scans, strict=True):
+        print(f"{name:26} {load:6.2f} s {opening:6.2f} s {median(get) * 1e6:6.2f} us {median(scan):7.3f} s", flush=True)
 
 
 def built(folder):
@@ -66,7 +73,7 @@ def prolly_store(bits):
         tree = prolly.open(f"{bits}.prl")
         return tree.__getitem__, tree.items
 
-    return f"prolly, {bits} bits", lambda pairs: prolly.build(f"{bits}.prl", pairs, bits=bits), opened
+    return f"from Python, prolly, {bits} bits", lambda pairs: prolly.build(f"{bits}.prl", pairs, bits=bits), opened
 
 
 def sqlite_store():
@@ -88,7 +95,7 @@ def sqlite_store():
             lambda: base.execute("select key, value from pairs order by key"),
         )
 
-    return "sqlite3", load, opened
+    return "from Python, sqlite3", load, opened
 
 
 def lmdb_store():
@@ -96,6 +103,7 @@ def lmdb_store():
     try:
         import lmdb
     except ImportError:
+        print("from Python, lmdb: not installed")
         return
 
     def load(pairs):
@@ -106,7 +114,7 @@ def lmdb_store():
         view = lmdb.open("pairs.lmdb", map_size=MEGABYTES, readonly=True).begin()
         return view.get, view.cursor
 
-    yield "lmdb", load, opened
+    yield "from Python, lmdb", load, opened
 
 
 def timed(act):
@@ -122,15 +130,15 @@ def timed_with(act):
 
 
 def in_c(folder):
-    """The times of C, beside those of SQLite where its header is there."""
+    """The times of C, beside those of what else is installed."""
     program = folder / "library"
-    source = TOP / "bench" / "library.c"
-    words = ["cc", "-O2", "-I", TOP / "include", "-o", program, source, LIBRARY / "libprolly.a"]
-    with_sqlite = [*words, "-DWITH_SQLITE", "-lsqlite3"]
-    if subprocess.run(with_sqlite, check=False, stderr=subprocess.DEVNULL).returncode != 0:
-        subprocess.run(words, check=True)
-    for bits in (6, 12):
-        subprocess.run([program, f"{bits}.prl", str(PROBES), "pairs.db"], check=True)
+    words = ["cc", "-O2", "-I", TOP / "include", "-o", program, TOP / "bench" / "library.c", LIBRARY / "libprolly.a"]
+    for more in (["-DWITH_SQLITE", "-lsqlite3"], ["-DWITH_LMDB", "-llmdb"]):
+        if subprocess.run([*words, *more], check=False, stderr=subprocess.DEVNULL).returncode == 0:
+            words += more
+    subprocess.run(words, check=True)
+    subprocess.run([program, "6.prl", str(PROBES), folder], check=True)
+    subprocess.run([program, "12.prl", str(PROBES)], check=True)
 
 
 if __name__ == "__main__":
