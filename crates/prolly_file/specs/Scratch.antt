@@ -1,6 +1,6 @@
 -- What the plain builder answers.
 use Rattle.std.specs.Prelude.{◌≡◌, ℕ, ◌+◌, ◌<◌, ◌≤◌, List, ◌++◌, length, take, map, Result, IfOk}
-use Rattle.std.specs.Prelude.{IfErr, OnErr}
+use Rattle.std.specs.Prelude.{IfErr, OnErr, MatchResult}
 use Rattle.prolly_entry.specs.declared.version.Version.{Version}
 use Rattle.prolly_entry.specs.Keys.{Rising}
 use Rattle.prolly_entry.specs.Pair.{Pair}
@@ -38,11 +38,17 @@ pub record IsTallerTree (cut : Cut) (version : Version) (pairs : List Pair) (max
   pub rising : Rising (keys_in pairs)
   pub tall : max_levels < level_count cut version pairs
 
--- What is wrong with the pairs; want of memory may come over any.
+-- What is wrong with the pairs; want of memory may come over a tree that is too tall.
 abbrev pub IsScratchFault : Cut → Version → List Pair → ℕ → ScratchFault → Type 0
 IsScratchFault cut version pairs max_levels Memory = Unit {0}
 IsScratchFault cut version pairs max_levels (OutOfOrder pair) = FallsAt pairs pair
 IsScratchFault cut version pairs max_levels TooTall = IsTallerTree cut version pairs max_levels
+
+-- The fault is that of a pair out of order.
+abbrev pub IsOrderFault : ScratchFault → Type 0
+IsOrderFault Memory = ⊥
+IsOrderFault (OutOfOrder pair) = Unit {0}
+IsOrderFault TooTall = ⊥
 
 -- What the plain builder answers, over a vector that held `old` before and holds `new` after.
 pub record IsScratched (cut : Cut) (version : Version) (pairs : List Pair) (max_levels : ℕ)
@@ -51,5 +57,7 @@ pub record IsScratched (cut : Cut) (version : Version) (pairs : List Pair) (max_
   -- an answer is the root of the file that was appended
   pub ok : IfOk result (λ root. Builds cut version pairs max_levels old new root.0)
   pub err : IfErr result (λ fault. IsScratchFault cut version pairs max_levels fault)
+  -- where there is a pair out of order, that is the fault, before want of memory and all else
+  pub order : (Rising (keys_in pairs) → ⊥) → MatchResult result (λ root. ⊥) IsOrderFault
   -- a fault leaves the vector as it was
   pub unchanged : OnErr result (new ≡ old)

@@ -83,9 +83,9 @@ pub fn scratch<C: Cut>(
     scratch_as(alloc, cut, Version::One, pairs, max_levels, out)
 }
 
-/// Appends the chunk file of the map that the pairs are, and answers the reference of its root. A
-/// pair out of order is told before a tree that has more than `max_levels` levels. After an `Err`
-/// the vector is as it was.
+/// Appends the chunk file of the map that the pairs are, and answers the reference of its root.
+/// Where a pair is out of order, the first one is told, before want of memory and a tree that has
+/// more than `max_levels` levels. After an `Err` the vector is as it was.
 ///
 /// Hashes each entry and each chunk once. Beside the file it holds the chunks once more.
 pub fn scratch_as<C: Cut>(

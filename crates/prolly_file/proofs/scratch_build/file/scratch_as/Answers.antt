@@ -12,7 +12,12 @@ returns g c =
     c.in_ok-chunks.ensures.ok
     c.bits.ensures c.deref-2.ensures.value c.in_ok-append_file.ensures.ok
     (λ before last e. c.root_of-root.ensures before last (c.deref.ensures.value ∙ e)) in
-    record { ok = ok; err = tt; unchanged = tt }
+    record {
+      ok = ok;
+      err = tt;
+      order = λ falls. absurd (falls c.in_default.ensures.none);
+      unchanged = tt;
+    }
 
 pub root_of-root-requires : goal.root_of-root-requires
 root_of-root-requires g c = grind (arith, common_steps) steps 2000000
