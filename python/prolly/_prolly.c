@@ -53,26 +53,20 @@ static prolly_slice lent(const Py_buffer *view) {
   return slice;
 }
 
-/* A key, of an object that lends bytes. Into `bytes` itself it is looked without borrowing, which would take longer
- * than the look-up. */
+/* A key that an object lends, or none. */
 typedef struct Key {
   prolly_slice bytes;
   Py_buffer view;
   int is_lent;
 } Key;
 
-static inline int take_key(Key *key, PyObject *object) {
-  key->is_lent = !PyBytes_CheckExact(object);
-  if (!key->is_lent) {
-    key->bytes = (prolly_slice){(const uint8_t *)PyBytes_AS_STRING(object), (size_t)PyBytes_GET_SIZE(object)};
-    return 1;
-  }
-  if (PyObject_GetBuffer(object, &key->view, PyBUF_SIMPLE) < 0) return 0;
-  key->bytes = lent(&key->view);
-  return 1;
+static int take_key(Key *key, PyObject *object) {
+  key->is_lent = PyObject_GetBuffer(object, &key->view, PyBUF_SIMPLE) == 0;
+  if (key->is_lent) key->bytes = lent(&key->view);
+  return key->is_lent;
 }
 
-static inline void let_key(Key *key) {
+static void let_key(Key *key) {
   if (key->is_lent) PyBuffer_Release(&key->view);
 }
 
@@ -178,7 +172,7 @@ static PyObject *tree_enter(PyObject *self, PyObject *unused) {
 static PyObject *tree_exit(PyObject *self, PyObject *unused) { return tree_close(self, unused); }
 
 /* The value of a key: 1, 0 where there is none, and -1 with an error. */
-static inline int found(Tree *tree, PyObject *object, prolly_slice *value) {
+static int found(Tree *tree, PyObject *object, prolly_slice *value) {
   Key key;
   if (!take_key(&key, object)) return -1;
   /* To borrow a key may run code that closes the tree. */
