@@ -1,0 +1,14 @@
+-- Records that come one after another, and what they come to.
+mod Coming
+-- A record more behind those that came, and the last one of each key.
+mod Keeping
+-- The last place of each key, and places whose keys rise, as a loop finds them.
+mod Lasting
+-- Places in the order of their keys.
+mod Sorting
+-- The numbers of places, and places with one key.
+mod Numbering
+-- Where records lie among bytes.
+mod Lying
+-- A record file that is written record by record.
+mod Writing

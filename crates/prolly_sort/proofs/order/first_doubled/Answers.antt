@@ -1,0 +1,19 @@
+use Rattle.std.proofs.Common.{◌∙◌, ◌-◌, [], arith, sym}
+use Rattle.prolly_sort.proofs.Lasting.{neighbours, rising_more, same_there}
+use Rattle.prolly_sort.proofs.order.first_doubled.Goals as goal
+
+pub returns-then-not-is_below-clause-some : goal.returns-then-not-is_below-clause-some
+returns-then-not-is_below-clause-some c =
+    let places = c.args.places.now in
+    let at = c.loop-behind.behind in
+    neighbours c.args.bytes.now places at [] _ _ (omega arith) (omega arith)
+    (λ d. same_there places at d _ (omega arith)) (λ d. same_there places (at - 1) d _ (omega arith))
+    c.requires (sym c.is_below.ensures ∙ c.if-not-is_below.true)
+
+pub loop-behind-preserved : goal.loop-behind-preserved
+loop-behind-preserved c =
+    let places = c.args.places.now in
+    let at = c.loop-behind.behind in
+    rising_more c.args.bytes.now places at [] _ _ (omega arith) (omega arith)
+    (λ d. same_there places at d _ (omega arith)) (λ d. same_there places (at - 1) d _ (omega arith))
+    (sym c.is_below.ensures ∙ c.if-not-is_below.false) c.loop-behind.invariant

@@ -1,0 +1,51 @@
+use Rattle.std.proofs.Common.{◌∙◌, ap, length, sym, subst}
+use Rattle.std.proofs.lemmas.List.{length-map}
+use Rattle.std.proofs.lemmas.List.Sorted.{All-permutation, length_permutation}
+use Rattle.prolly_sort.specs.Overlaid.{overlaid}
+use Rattle.prolly_sort.specs.Place.{StandsIn, record_in, records_in}
+use Rattle.prolly_sort.specs.Run.{AreDoubled, Held}
+use Rattle.prolly_sort.proofs.Coming.{rising_stay}
+use Rattle.prolly_sort.proofs.Numbering.{doubled_by, doubled_told}
+use Rattle.prolly_sort.proofs.Sorting.{sorted_come}
+use Rattle.prolly_sort.proofs.run.Run.sort_unique.Goals as goal
+
+pub returns-then-is_rising-clause-records : goal.returns-then-is_rising-clause-records
+returns-then-is_rising-clause-records c =
+    let s = c.self.inside in
+    sym (rising_stay (records_in s.bytes.items s.places.items)
+    (c.self.invariant.rising c.if-is_rising.true)) ∙
+    ap (λ (h : Held). overlaid h.records) c.self.view_is
+
+pub invariant_of-result-in-None : goal.invariant_of-result-in-None
+invariant_of-result-in-None c = All-permutation (StandsIn c.self.inside.bytes.items) _ _
+    c.sort_places.ensures.same c.self.invariant.stand
+
+pub returns-in-None-clause-records : goal.returns-in-None-clause-records
+returns-in-None-clause-records c =
+    let s = c.self.inside in
+    let ys = c.sort_places.new.places.items in
+    sym (rising_stay (records_in s.bytes.items ys)
+    (rw (c.deref-2.ensures.value, c.deref-3.ensures.value) at c.in-None.ensures.none)) ∙
+    sorted_come s.bytes.items s.places.items ys c.sort_places.ensures.same
+    (rw c.deref.ensures.value at c.sort_places.ensures.stable) ∙
+    ap (λ (h : Held). overlaid h.records) c.self.view_is
+
+pub returns-in-None-clause-all : goal.returns-in-None-clause-all
+returns-in-None-clause-all c =
+    let s = c.self.inside in
+    let ys = c.sort_places.new.places.items in
+    length-map ys (record_in s.bytes.items) ∙
+    length_permutation s.places.items ys c.sort_places.ensures.same ∙
+    sym (length-map s.places.items (record_in s.bytes.items)) ∙
+    ap (λ (h : Held). length h.records) c.self.view_is
+
+pub returns-in-Some-clause-doubled : goal.returns-in-Some-clause-doubled
+returns-in-Some-clause-doubled c = λ first second told.
+    let s = c.self.inside in
+    doubled_told c.in-Some.one.number c.in-Some.next.number first second told c.args.self.records
+    (subst (λ (h : Held). AreDoubled h.records c.in-Some.one.number c.in-Some.next.number)
+    c.self.view_is
+    (doubled_by s.bytes.items s.places.items c.sort_places.new.places.items c.in-Some.one c.in-Some.next
+    c.self.invariant.numbered c.sort_places.ensures.same
+    (rw c.deref.ensures.value at c.sort_places.ensures.stable)
+    (rw (c.deref-2.ensures.value, c.deref-3.ensures.value) at c.in-Some.ensures.some)))

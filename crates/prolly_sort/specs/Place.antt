@@ -1,0 +1,55 @@
+-- Where a record lies among the bytes of a run.
+use Rattle.std.specs.Prelude.{◌≡◌, ℕ, ◌+◌, ◌≤◌, nat_lt, Bool, List, [], ◌∷◌, ◌++◌, length, map, Option, Some}
+use Rattle.std.specs.Prelude.{None, is_some, slice_range, if◌then◌else◌}
+use Rattle.std.specs.Ordering.{is_lt}
+use Rattle.prolly_entry.specs.Keys.{key_order}
+use Rattle.prolly_entry.specs.Record.{Record, IsRecord}
+use Rattle.prolly_entry.specs.Spelling.{record_spelling}
+use Rattle.prolly_sort.specs.declared.place.Place.{Place}
+
+-- The bytes from one place up to another, or none where the bytes end before.
+abbrev pub part_in : List ℕ → ℕ → ℕ → List ℕ
+part_in bytes from to = if nat_lt (length bytes) to then [] else slice_range bytes from to
+
+-- The key that stands behind its length.
+abbrev pub key_in : List ℕ → Place → List ℕ
+key_in bytes p = part_in bytes (p.start + 2) (p.start + 2 + p.key_len)
+
+-- The value that stands behind the key and the value's length; none where the key is removed.
+abbrev pub value_in : List ℕ → Place → Option (List ℕ)
+value_in bytes p =
+    if p.is_put then Some (slice_range bytes (p.start + 6 + p.key_len) p.end) else None
+
+-- The record that lies there.
+abbrev pub record_in : List ℕ → Place → Record
+record_in bytes p = record { key = key_in bytes p; value = value_in bytes p }
+
+-- The records that lie in these places, in the order of the places.
+abbrev pub records_in : List ℕ → List Place → List Record
+records_in bytes places = map (record_in bytes) places
+
+-- A lawful record lies there, from the place's start up to its end.
+pub record StandsIn (bytes : List ℕ) (p : Place) : Type 0 where
+  pub ordered : p.start + 6 + p.key_len ≤ p.end
+  pub within : p.end ≤ length bytes
+  pub spelled : slice_range bytes p.start p.end ≡ record_spelling (record_in bytes p)
+  pub lawful : IsRecord (record_in bytes p)
+
+-- The one place's key is less than the other's.
+abbrev pub is_below : List ℕ → Place → Place → Bool
+is_below bytes p q = is_lt (key_order (key_in bytes p) (key_in bytes q))
+
+-- The place of a record of this number, whose spelling lies from `start` up to `stop`.
+abbrev pub place_of : ℕ → ℕ → ℕ → Record → Place
+place_of number start stop r = record {
+  number = number;
+  start = start;
+  end = stop;
+  key_len = length r.key;
+  is_put = is_some r.value;
+}
+
+-- A place is kept behind others where the next one's key is greater.
+abbrev pub kept_before : List ℕ → List Place → Place → Place → List Place
+kept_before bytes kept place next =
+    if is_below bytes place next then kept ++ place ∷ [] else kept

@@ -1,0 +1,80 @@
+//! Why a run does not take a record, and why it is not put in order.
+
+use std::alloc::AllocError;
+use std::error::Error;
+use std::fmt;
+use std::fmt::{Display, Formatter};
+
+/// Why a run does not take a record.
+#[derive(Clone, Copy, Debug, PartialEq, Eq)]
+pub enum PushFault {
+    /// The record would take more of the budget than is left.
+    Full,
+    /// Memory was refused.
+    Memory,
+}
+
+impl Display for PushFault {
+    ghost use Rattle.std.specs.Prelude.{Some};
+    ghost use Rattle.prolly_sort.specs.FaultTexts.{push_text};
+
+    ghost output = { λ fault. Some (push_text fault) };
+
+    fn fmt<W: fmt::Write>(&self, f: &mut Formatter<W>) -> fmt::Result {
+        match self {
+            PushFault::Full => f.write_str("run is full"),
+            PushFault::Memory => f.write_str("out of memory"),
+        }
+    }
+}
+
+impl Error for PushFault {}
+
+impl From<AllocError> for PushFault {
+    ghost use Rattle.std.specs.Prelude.{◌≡◌};
+    ghost use Rattle.prolly_sort.specs.declared.fault.PushFault.TheVariants.{Memory};
+
+    ghost from_gives = { λ _ fault. fault ≡ Memory };
+
+    fn from(_: AllocError) -> Self {
+        PushFault::Memory
+    }
+}
+
+/// Why records are not put in order where each key is to stand once.
+#[derive(Clone, Copy, Debug, PartialEq, Eq)]
+pub enum SortFault {
+    /// Memory was refused.
+    Memory,
+    /// The records of these two numbers have one key. The first that came has number 0.
+    Doubled { first: u32, second: u32 },
+}
+
+impl Display for SortFault {
+    ghost use Rattle.std.specs.Prelude.{Some};
+    ghost use Rattle.prolly_sort.specs.FaultTexts.{sort_text};
+
+    ghost output = { λ fault. Some (sort_text fault) };
+
+    fn fmt<W: fmt::Write>(&self, f: &mut Formatter<W>) -> fmt::Result {
+        match self {
+            SortFault::Memory => write!(f, "out of memory"),
+            SortFault::Doubled { first, second } => {
+                write!(f, "records {first} and {second} have one key")
+            }
+        }
+    }
+}
+
+impl Error for SortFault {}
+
+impl From<AllocError> for SortFault {
+    ghost use Rattle.std.specs.Prelude.{◌≡◌};
+    ghost use Rattle.prolly_sort.specs.declared.fault.SortFault.TheVariants.{Memory};
+
+    ghost from_gives = { λ _ fault. fault ≡ Memory };
+
+    fn from(_: AllocError) -> Self {
+        SortFault::Memory
+    }
+}
