@@ -1,0 +1,74 @@
+//! Calls that are refused memory: they say so, and a run that does not take a record is as it was.
+//!
+//! `tests/growths_of_calls.py` refuses these tests each growth in turn. Where it is one for a
+//! test's own values, the test ends in want of memory; where it is one of the calls that are
+//! tested, the test goes on.
+use crate::expect::{expect_bytes, expect_eq};
+use crate::runs::{AMPLE, record_of};
+use prolly_entry::Record;
+use prolly_sort::{PushFault, Run, SortFault};
+use std::alloc::Global;
+use std::process::Abort;
+use std::test::Fail;
+
+/// Takes a record, at a second try where memory was refused.
+fn push(rt: &impl Abort, run: &mut Run, record: &Record) {
+    if let Err(fault) = run.push(record) {
+        expect_eq(rt, &fault, &PushFault::Memory);
+        expect_eq(rt, &run.push(record), &Ok(()));
+    }
+}
+
+/// A run of 40 keys of one byte, the greatest first, and their values.
+fn falling(rt: &impl Abort, alloc: Global) -> Result<Run, Fail> {
+    let mut run = Run::new(alloc, AMPLE);
+    for number in 0..40u8 {
+        push(
+            rt,
+            &mut run,
+            &record_of(alloc, &[99 - number], Some(number))?,
+        );
+    }
+    push(rt, &mut run, &record_of(alloc, &[80], None)?);
+    expect_eq(rt, &run.len(), &41);
+    Ok(run)
+}
+
+#[test]
+fn a_run_is_put_in_order_or_wants_memory(rt: HostRuntime) -> Result<(), Fail> {
+    if let Ok(sorted) = falling(&rt, rt.alloc())?.sort(rt.alloc()) {
+        expect_eq(&rt, &sorted.len(), &40);
+        expect_eq(&rt, &sorted.get(0), &Some((&[60], Some(&[39]))));
+        expect_eq(&rt, &sorted.get(20), &Some((&[80], None)));
+    }
+    Ok(())
+}
+
+#[test]
+fn a_key_that_came_twice_is_told_or_memory_is_wanted(rt: HostRuntime) -> Result<(), Fail> {
+    match falling(&rt, rt.alloc())?.sort_unique() {
+        Ok(_) => return Err(Fail::from("no key came twice")),
+        Err(SortFault::Memory) => {}
+        Err(fault) => {
+            expect_eq(
+                &rt,
+                &fault,
+                &SortFault::Doubled {
+                    first: 19,
+                    second: 40,
+                },
+            );
+        }
+    }
+    Ok(())
+}
+
+#[test]
+fn keys_that_rise_take_no_memory_to_sort(rt: HostRuntime) -> Result<(), Fail> {
+    let mut run = Run::new(rt.alloc(), AMPLE);
+    for number in 0..40u8 {
+        push(&rt, &mut run, &record_of(rt.alloc(), &[number], Some(1))?);
+    }
+    expect_eq(&rt, &run.sort(rt.alloc()).is_ok(), &true);
+    Ok(())
+}

@@ -1,0 +1,12 @@
+//! What no contract says of runs: that their calls succeed where memory is at hand, and what they
+//! give for records whose order was worked out elsewhere.
+#![tactic(auto)]
+
+#[cfg(test)]
+mod drawn;
+#[cfg(test)]
+mod expect;
+#[cfg(test)]
+mod growths;
+#[cfg(test)]
+mod runs;
