@@ -122,3 +122,25 @@ rises_behind m s r h k =
     let rising : IsRising (m ++ s ∷ []) = is_rising (m ++ s ∷ []) h in
     rising_is ((m ++ s ∷ []) ++ r ∷ []) (rises_above (m ++ s ∷ []) r rising
     (all_below r.key m s below (below_more s.key r.key m below (below_last m s rising))))
+
+rising_front : (m : List Record) (r : Record) → IsRising (m ++ r ∷ []) → IsRising m
+rising_front [] r h = tt
+rising_front (t ∷ m) r h = (above_front t.key m r h.0, rising_front m r h.1)
+  where
+    above_front : (x : List ℕ) (rs : List Record) (q : Record) → AllAbove x (rs ++ q ∷ []) → AllAbove x rs
+    above_front x [] q a = tt
+    above_front x (u ∷ rs) q a = (a.0, above_front x rs q a.1)
+
+-- Where records rise with one more behind them, they rise.
+pub rise_before : (m : List Record) (r : Record) → Rising (keys_of (m ++ r ∷ [])) → Rising (keys_of m)
+rise_before m r h = rising_is m (rising_front m r (is_rising (m ++ r ∷ []) h))
+
+last_below : (x : List ℕ) (m : List Record) (s : Record) → AllBelow x (m ++ s ∷ []) → KeyBelow s.key x
+last_below x [] s h = h.0
+last_below x (t ∷ m) s h = last_below x m s h.1
+
+-- And the last key is less than its key.
+pub last_less : (m : List Record) (s r : Record) → Rising (keys_of ((m ++ s ∷ []) ++ r ∷ [])) →
+    is_lt (key_order s.key r.key) ≡ true
+last_less m s r h = ap is_lt (last_below r.key m s
+    (below_last (m ++ s ∷ []) r (is_rising ((m ++ s ∷ []) ++ r ∷ []) h)))

@@ -12,7 +12,7 @@ use Rattle.prolly_sort.specs.Overlaid.{overlaid}
 use Rattle.prolly_sort.specs.Place.{StandsIn, is_below, kept_before, key_in, record_in, records_in}
 use Rattle.prolly_sort.specs.Run.{AreNeighbours}
 use Rattle.prolly_sort.proofs.Coming.{come_to}
-use Rattle.prolly_sort.proofs.Keeping.{equal_from, kept_in_its_place, kept_with_next, rises_behind}
+use Rattle.prolly_sort.proofs.Keeping.{equal_from, kept_in_its_place, kept_with_next, last_less, rises_behind}
 
 -- The place of a number is the same, whatever stands for one behind the end.
 pub same_there : (places : List Place) (n : ℕ) (d e : Place) → n < length places →
@@ -179,16 +179,37 @@ last_ends [] p e = absurd (none_some e)
     none_some f = cc
 last_ends (x ∷ places) p e = ends (x ∷ places) (length (x ∷ places) - 1) p (omega arith) e
 
--- A record rises behind those of the places, where its key is greater than the last one's.
-pub rises_with : (bytes : List ℕ) (places : List Place) (last : Place) (r : Record) →
-    slice_get places (length places - 1) ≡ Some last →
-    Rising (keys_of (records_in bytes places)) →
-    is_lt (key_order (key_in bytes last) r.key) ≡ true →
+-- A record rises behind those of the places where they rise and its key is greater than the last
+-- one's, and only there.
+module _ (bytes : List ℕ) (places : List Place) (last : Place) (r : Record)
+    (e : slice_get places (length places - 1) ≡ Some last) where
+  abbrev front : List Place
+  front = (last_ends places last e).front
+
+  all : records_in bytes places ≡ records_in bytes front ++ record_in bytes last ∷ []
+  all = ap (records_in bytes) (last_ends places last e).is ∙
+      map_push (record_in bytes) front last
+
+  pub rises_with : Rising (keys_of (records_in bytes places)) →
+      is_lt (key_order (key_in bytes last) r.key) ≡ true →
+      Rising (keys_of (records_in bytes places ++ r ∷ []))
+  rises_with rising below = subst (λ rs. Rising (keys_of (rs ++ r ∷ []))) (sym all)
+      (rises_behind (records_in bytes front) (record_in bytes last) r
+      (subst (λ rs. Rising (keys_of rs)) all rising) below)
+
+  pub less_with : Rising (keys_of (records_in bytes places ++ r ∷ [])) →
+      is_lt (key_order (key_in bytes last) r.key) ≡ true
+  less_with rising = last_less (records_in bytes front) (record_in bytes last) r
+      (subst (λ rs. Rising (keys_of (rs ++ r ∷ []))) all rising)
+
+-- Where no place is the last one, one record more rises.
+pub alone : (bytes : List ℕ) (places : List Place) (r : Record) →
+    slice_get places (length places - 1) ≡ None →
     Rising (keys_of (records_in bytes places ++ r ∷ []))
-rises_with bytes places last r e rising below =
-    let end = last_ends places last e in
-    let all : records_in bytes places ≡ records_in bytes end.front ++ record_in bytes last ∷ [] =
-    ap (records_in bytes) end.is ∙ map_push (record_in bytes) end.front last in
-    subst (λ rs. Rising (keys_of (rs ++ r ∷ []))) (sym all)
-    (rises_behind (records_in bytes end.front) (record_in bytes last) r
-    (subst (λ rs. Rising (keys_of rs)) all rising) below)
+alone bytes [] r e = tt
+alone bytes (p ∷ places) r e = absurd (some_there (p ∷ places) (length (p ∷ places) - 1) (omega arith) e)
+  where
+    some_there : (ps : List Place) (k : ℕ) → k < length ps → slice_get ps k ≡ None → ⊥
+    some_there [] k l f = omega (arith, l)
+    some_there (q ∷ ps) zero l f = cc
+    some_there (q ∷ ps) (suc k) l f = some_there ps k (omega (arith, l)) f

@@ -1,5 +1,5 @@
 -- Where records lie among bytes.
-use Rattle.std.proofs.Common.{◌≡◌, ℕ, ◌+◌, ◌-◌, ◌*◌, ◌≤◌, Bool, true, cond, List, [], ◌∷◌}
+use Rattle.std.proofs.Common.{◌↔◌, ◌≡◌, ℕ, ◌+◌, ◌-◌, ◌*◌, ◌≤◌, Bool, true, cond, List, [], ◌∷◌}
 use Rattle.std.proofs.Common.{◌++◌, length, take, drop, slice_range, Option, Some, None, is_some}
 use Rattle.std.proofs.Common.{refl, sym, ap, ◌∙◌, subst, arith, All, length-append, length-drop}
 use Rattle.std.proofs.Common.{append-nil, if◌then◌else◌}
@@ -169,7 +169,7 @@ records_with bytes places number r h =
 pub held_more : (bytes : List ℕ) (places : List Place) (is_rising rises : Bool) (budget : ℕ)
     (r : Record) → IsHeld bytes places is_rising budget → IsRecord r →
     length bytes + 32 * length places + (32 + length (record_spelling r)) ≤ budget →
-    (rises ≡ true → Rising (keys_of (records_in bytes places ++ r ∷ []))) →
+    ((rises ≡ true) ↔ Rising (keys_of (records_in bytes places ++ r ∷ []))) →
     IsHeld (bytes ++ record_spelling r)
     (places ++ place_of (length places) (length bytes) (length (bytes ++ record_spelling r)) r ∷ [])
     rises budget
@@ -184,7 +184,7 @@ held_more bytes places is_rising rises budget r h lawful room rising =
       spelled = ap (λ xs. xs ++ record_spelling r) h.spelled ∙
           sym (written_more (records_in bytes places) r) ∙ ap written (sym records);
       numbered = numbered_more 0 places place h.numbered (omega arith);
-      rising = λ e. subst (λ rs. Rising (keys_of rs)) (sym records) (rising e);
+      rising = subst (λ rs. (rises ≡ true) ↔ Rising (keys_of rs)) (sym records) rising;
       within = omega (
         arith,
         room,
@@ -221,7 +221,7 @@ module _ (bytes all : List ℕ) (places more : List Place) (place : Place) (numb
 
   pub held_pushed : (is_rising rises : Bool) (budget : ℕ) → IsHeld bytes places is_rising budget →
       IsRecord r → length bytes + 32 * length places + (32 + length (record_spelling r)) ≤ budget →
-      (rises ≡ true → Rising (keys_of (records_in bytes places ++ r ∷ []))) →
+      ((rises ≡ true) ↔ Rising (keys_of (records_in bytes places ++ r ∷ []))) →
       IsHeld all more rises budget
   held_pushed is_rising rises budget h lawful room rising =
       subst (λ xs. IsHeld xs more rises budget) (sym appended)

@@ -1,5 +1,5 @@
 -- What a run holds, and what it tells of it.
-use Rattle.std.specs.Prelude.{◌≡◌, ℕ, zero, suc, ◌+◌, ◌*◌, ◌<◌, ◌≤◌, Bool, true, List, [], ◌∷◌, ◌++◌}
+use Rattle.std.specs.Prelude.{◌≡◌, ◌↔◌, ℕ, zero, suc, ◌+◌, ◌*◌, ◌<◌, ◌≤◌, Bool, true, List, [], ◌∷◌, ◌++◌}
 use Rattle.std.specs.Prelude.{All, length, slice_index_or}
 use Rattle.prolly_entry.specs.Keys.{Rising}
 use Rattle.prolly_entry.specs.Record.{Record, keys_of}
@@ -34,13 +34,13 @@ NumberedFrom n [] = Unit {0}
 NumberedFrom n (p ∷ places) = (p.number ≡ n) × NumberedFrom (suc n) places
 
 -- The bytes are the record file of the records that lie in these places, whose numbers go up from
--- 0. All of it is within the budget, and where it says so, the keys rise.
+-- 0. All of it is within the budget, and the keys rise where it says so, and only there.
 pub record IsHeld (bytes : List ℕ) (places : List Place) (is_rising : Bool) (budget : ℕ) : Type 0
   where
     pub stand : All (StandsIn bytes) places
     pub spelled : bytes ≡ written (records_in bytes places)
     pub numbered : NumberedFrom zero places
-    pub rising : is_rising ≡ true → Rising (keys_of (records_in bytes places))
+    pub rising : (is_rising ≡ true) ↔ Rising (keys_of (records_in bytes places))
     pub within : length bytes + 32 * length places ≤ budget
     pub limit : budget ≤ 0xFFFF_FFFF
 

@@ -1,5 +1,5 @@
 //! A run: records in memory, in the order in which they came.
-ghost use Rattle.std.specs.Prelude.{◌≡◌, ◌∷◌, ◌++◌, ◌+◌, ◌<◌, ◌≤◌, ◌^◌, [], true, length};
+ghost use Rattle.std.specs.Prelude.{◌≡◌, ◌∷◌, ◌++◌, ◌+◌, ◌<◌, ◌≤◌, ◌^◌, ◌↔◌, [], true, length};
 ghost use Rattle.prolly_entry.specs.Keys.{Rising};
 ghost use Rattle.prolly_entry.specs.Record.{IsRecord, Record as RecordValue, keys_of};
 ghost use Rattle.prolly_entry.specs.Spelling.{record_spelling};
@@ -28,7 +28,7 @@ pub struct Run {
     /// The spellings of the records, one after another.
     bytes: Vec<u8>,
     places: Vec<Place>,
-    /// Whether the keys rise. It may be false where they do.
+    /// Whether the keys rise.
     is_rising: bool,
     budget: usize,
 }
@@ -44,7 +44,7 @@ impl Model for Run {
 }
 
 impl Run {
-    ghost use Rattle.std.specs.Prelude.{◌↔◌, ℕ, Err, IfOk, OnErr, OnOk};
+    ghost use Rattle.std.specs.Prelude.{ℕ, Err, IfOk, OnErr, OnOk};
     ghost use Rattle.prolly_sort.specs.Overlaid.{overlaid};
     ghost use Rattle.prolly_sort.specs.Run.{AreDoubled, cost_of, new_run, with_more};
 
@@ -65,6 +65,13 @@ impl Run {
         ensures { result ≡ length self.now.records }
     {
         self.places.len()
+    }
+
+    /// Whether each key is greater than the one before it, so that there is nothing to put in order.
+    pub fn is_rising(&self) -> bool
+        ensures { (result ≡ true) ↔ Rising (keys_of self.now.records) }
+    {
+        self.is_rising
     }
 
     /// Takes a copy of a record behind those that came. An `Err` leaves the run as it was. It is
@@ -96,7 +103,7 @@ impl Run {
     /// Puts the records in the order of their keys, each key once: of records with one key the last
     /// one counts.
     ///
-    /// Where keys rose as the records came, this takes neither time nor memory. Else it takes O(n
+    /// Where the keys rise ([`Run::is_rising`]) this takes neither time nor memory. Else it takes O(n
     /// log n) comparisons of keys, and memory for two tables of places, one after the other.
     pub fn sort(self, alloc: Global) -> Result<SortedRun, AllocError>
         ensures records { IfOk result (λ sorted. sorted ≡ overlaid self.records) }
@@ -166,9 +173,9 @@ fn cost(record: &Record) -> usize
 
 /// Whether keys that rose so far rise with this one behind them.
 fn rises(is_rising: bool, bytes: &[u8], places: &[Place], key: &[u8]) -> bool
-    requires { is_rising ≡ true → Rising (keys_of (records_in bytes.now places.now)) }
-    ensures { (r : RecordValue) → r.key ≡ key.now → result ≡ true →
-        Rising (keys_of (records_in bytes.now places.now ++ r ∷ [])) }
+    requires { (is_rising ≡ true) ↔ Rising (keys_of (records_in bytes.now places.now)) }
+    ensures { (r : RecordValue) → r.key ≡ key.now →
+        ((result ≡ true) ↔ Rising (keys_of (records_in bytes.now places.now ++ r ∷ []))) }
 {
     if !is_rising {
         return false;

@@ -77,6 +77,21 @@ fn records_are_given_by_their_numbers(rt: HostRuntime) -> Result<(), Fail> {
     Ok(())
 }
 
+#[test]
+fn a_run_tells_whether_its_keys_rise(rt: HostRuntime) -> Result<(), Fail> {
+    for (records, rises) in [
+        ([].as_slice(), true),
+        (&[(b'b', b'1')], true),
+        (ORDERS[0], true),
+        (ORDERS[1], false),
+        (&[(b'a', b'1'), (b'a', b'1')], false),
+        (&[(b'b', b'1'), (b'a', b'1'), (b'c', b'1')], false),
+    ] {
+        expect_eq(&rt, &run_of(rt.alloc(), records)?.is_rising(), &rises);
+    }
+    Ok(())
+}
+
 /// Fails unless the records of these numbers are told as those of one key.
 fn expect_doubled(
     rt: &impl Abort,

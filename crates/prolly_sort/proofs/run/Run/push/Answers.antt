@@ -21,8 +21,8 @@ invariant_of-self-2 c =
       s.bytes.ok.0,
       s.places.ok.0,
     ))
-    (λ e. (rw (c.deref.ensures.value, c.deref-2.ensures.value) at c.rises-is_rising.ensures)
-    c.args.record.now (sym c.key.ensures.key) e)
+    ((rw (c.deref.ensures.value, c.deref-2.ensures.value) at c.rises-is_rising.ensures)
+    c.args.record.now (sym c.key.ensures.key))
 
 pub returns-clause-ok : goal.returns-clause-ok
 returns-clause-ok c =

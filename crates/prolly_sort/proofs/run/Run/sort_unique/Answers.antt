@@ -13,7 +13,7 @@ pub returns-then-is_rising-clause-records : goal.returns-then-is_rising-clause-r
 returns-then-is_rising-clause-records c =
     let s = c.self.inside in
     sym (rising_stay (records_in s.bytes.items s.places.items)
-    (c.self.invariant.rising c.if-is_rising.true)) ∙
+    (c.self.invariant.rising.0 c.if-is_rising.true)) ∙
     ap (λ (h : Held). overlaid h.records) c.self.view_is
 
 pub invariant_of-result-in-None : goal.invariant_of-result-in-None
