@@ -8,6 +8,8 @@ mod Lasting
 mod Sorting
 -- The numbers of places, and places with one key.
 mod Numbering
+-- Records of which no two have one key.
+mod Apart
 -- Where records lie among bytes.
 mod Lying
 -- A record file that is written record by record.

@@ -78,7 +78,8 @@ those_stay bytes key xs ys same stable = go (some_or_none (is_of bytes key) xs)
         (All-permutation P xs ys same (All-from_recursion P xs none))) ∙
         sym (none_kept (is_of bytes key) xs none)
 
-those_of_records : (bytes key : List ℕ) (places : List Place) →
+-- The records of a key lie in the places of the key.
+pub those_of_records : (bytes key : List ℕ) (places : List Place) →
     filter (has key) (records_in bytes places) ≡ records_in bytes (filter (is_of bytes key) places)
 those_of_records bytes key [] = refl
 those_of_records bytes key (p ∷ places) = go (is_of bytes key p) (those_of_records bytes key places)

@@ -135,6 +135,8 @@ impl Run {
         ensures records { IfOk result (λ sorted. sorted ≡ overlaid self.records) }
         ensures rising { IfOk result (λ sorted. Rising (keys_of sorted)) }
         ensures all { IfOk result (λ sorted. length sorted ≡ length self.records) }
+        ensures apart { IfOk result (λ _. (first second : ℕ) →
+            AreDoubled self.records first second → ⊥) }
         ensures doubled { (first second : ℕ) → result ≡ Err (SortFault.Doubled first second) →
             AreDoubled self.records first second }
     {

@@ -4,6 +4,7 @@ use Rattle.std.proofs.lemmas.List.Sorted.{All-permutation, length_permutation}
 use Rattle.prolly_sort.specs.Overlaid.{overlaid}
 use Rattle.prolly_sort.specs.Place.{StandsIn, record_in, records_in}
 use Rattle.prolly_sort.specs.Run.{AreDoubled, Held}
+use Rattle.prolly_sort.proofs.Apart.{rising_apart, sorted_apart}
 use Rattle.prolly_sort.proofs.Coming.{rising_stay}
 use Rattle.prolly_sort.proofs.Numbering.{doubled_by, doubled_told}
 use Rattle.prolly_sort.proofs.Sorting.{sorted_come}
@@ -49,3 +50,18 @@ returns-in-Some-clause-doubled c = λ first second told.
     c.self.invariant.numbered c.sort_places.ensures.same
     (rw c.deref.ensures.value at c.sort_places.ensures.stable)
     (rw (c.deref-2.ensures.value, c.deref-3.ensures.value) at c.in-Some.ensures.some)))
+
+pub returns-then-is_rising-clause-apart : goal.returns-then-is_rising-clause-apart
+returns-then-is_rising-clause-apart c = λ first second two.
+    let s = c.self.inside in
+    rising_apart (records_in s.bytes.items s.places.items) first second
+    (c.self.invariant.rising.0 c.if-is_rising.true)
+    (subst (λ (h : Held). AreDoubled h.records first second) (sym c.self.view_is) two)
+
+pub returns-in-None-clause-apart : goal.returns-in-None-clause-apart
+returns-in-None-clause-apart c = λ first second two.
+    let s = c.self.inside in
+    sorted_apart s.bytes.items s.places.items c.sort_places.new.places.items first second
+    c.sort_places.ensures.same (rw c.deref.ensures.value at c.sort_places.ensures.stable)
+    (rw (c.deref-2.ensures.value, c.deref-3.ensures.value) at c.in-None.ensures.none)
+    (subst (λ (h : Held). AreDoubled h.records first second) (sym c.self.view_is) two)
