@@ -97,7 +97,7 @@ int main(int argc, char **argv) {
     WANT((status == PROLLY_DONE) == (runs == 0));
     shown(&of, proof, len, runs);
     proved_again(&of, file, file_len, proof, len);
-    if (len < 400) damaged(&of, proof, len);
+    if (len < 700) damaged(&of, proof, len);
   }
   range other = of;
   other.version = 3;

@@ -49,7 +49,8 @@ pub extern "C" fn prolly_verify_range(
         ScansOrClash format bits m (range_of from.now to.now bounded) proof.now
         (take count.new index.new) }
     ensures within { result ≡ 0 → count.new ≤ length index.new }
-    ensures room { result ≡ 3 → length index.new < count.new }
+    ensures room { result ≡ 3 → (length index.new < count.new) ×
+        ProvesRange version root.now (range_of from.now to.now bounded) proof.now }
     ensures proofs { ProvesRange version root.now (range_of from.now to.now bounded) proof.now →
         (result ≡ 0) ⊎ ((result ≡ 2) ⊎ (result ≡ 3)) }
     ensures refused { (result ≡ 0) ⊎ ((result ≡ 2) ⊎ ((result ≡ 3) ⊎ ((result ≡ 6) ⊎
