@@ -14,6 +14,7 @@ use Rattle.prolly_tree.specs.Tree.{pair_is_boundary}
 use Rattle.prolly_chunk.specs.LeafLevel.{is_whole_leaf}
 use Rattle.prolly_apply.specs.Cutting.{Admits, AreCut, EndsAtBoundary, IsAdmitted}
 use Rattle.prolly_apply.specs.Cutting.{NoneInside, RestAreCut, Seen}
+use Rattle.prolly_apply.specs.Taking.{IsCutAs}
 use Rattle.prolly_apply.specs.lemmas.OldLeaves.{not_and, whole_inside}
 use Rattle.prolly_apply.specs.declared.cutting.Cutting.{Cutting}
 
@@ -103,7 +104,7 @@ module _ (cut : Cut) where
   one_inside leaf left (q ∷ left') p s e n b h = false≢true (sym (but_at NotOne s.front p q left'
       (subst (NoneInside cut) (s.whole ∙ ap (λ ps. s.front ++ ps) e) h)) ∙ b)
 
-  last_at : (front : List Pair) (p : Pair) →
+  pub last_at : (front : List Pair) (p : Pair) →
       last_passes (pair_is_boundary cut) (front ++ p ∷ []) ≡ pair_is_boundary cut p
   last_at [] p = refl
   last_at (q ∷ []) p = refl
@@ -138,7 +139,7 @@ module _ (cut : Cut) where
   none_left leaf left s e = sym (ap (last_passes (pair_is_boundary cut))
       (s.whole ∙ ap (λ ps. ps ++ left) (s.none e) ∙ e))
 
-  whole_is : (leaf : List Pair) → NoneInside cut leaf → EndsAtBoundary cut leaf →
+  pub whole_is : (leaf : List Pair) → NoneInside cut leaf → EndsAtBoundary cut leaf →
       is_whole_leaf cut leaf ≡ true
   whole_is [] h e = e
   whole_is (p ∷ []) h e = e
@@ -235,12 +236,14 @@ module _ (cut : Cut) where
       most one (inl h) = let m = s.most in let n = (a.inside h).1 in omega arith
       most one (inr h) = let m = s.most in let n = a.beyond h in omega arith
 
-  -- A leaf that ends with a boundary is whole, where those that are not tested are cut so.
-  pub leaf_is_whole : (leaves : List (List Pair)) (leaf : List Pair) (old new : Cutting)
+  -- A leaf is cut so, where those that are not tested are.
+  pub leaf_is_cut : (leaves : List (List Pair)) (leaf : List Pair) (old new : Cutting)
       (ends : Bool) → Seen cut leaves old → IsAdmitted cut leaf old new → ends ≡ new.ended →
-      RestAreCut cut (leaves ++ leaf ∷ []) → ends ≡ true → is_whole_leaf cut leaf ≡ true
-  leaf_is_whole leaves leaf old new ends s a same rest e =
-      whole_is leaf (inside (less_or old.tested 40)) (sym a.ended ∙ sym same ∙ e)
+      RestAreCut cut (leaves ++ leaf ∷ []) → IsCutAs ends leaf cut
+  leaf_is_cut leaves leaf old new ends s a same rest = record {
+    inside = inside (less_or old.tested 40);
+    last = sym a.ended ∙ sym same;
+  }
     where
       inside : (old.tested < 40) ⊎ (40 ≤ old.tested) → NoneInside cut leaf
       inside (inl h) = (a.inside h).0

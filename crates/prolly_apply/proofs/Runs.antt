@@ -26,13 +26,13 @@ use Rattle.prolly_merge.specs.declared.heads.Head.TheVariants.{Ended}
 use Rattle.prolly_chunk.specs.LeafLevel.{LeafBegins, LeafEnds, LeafState}
 use Rattle.prolly_apply.specs.Applied.{EndsClean, MayBe, RefusesAt, StopsAt}
 use Rattle.prolly_apply.specs.Cutting.{Admits, AreCut, AreSeen, IsAdmitted, RestAreCut, Seen}
-use Rattle.prolly_apply.specs.Taking.{Any, May, Over, SentFirst, StopsBy, StopsInFront}
-use Rattle.prolly_apply.specs.Taking.{StopsInRest, TakesFront, TakesRest, Took, WholeIf, at, both}
+use Rattle.prolly_apply.specs.Taking.{Any, IsCutAs, May, Over, SentFirst, StopsBy, StopsInFront}
+use Rattle.prolly_apply.specs.Taking.{StopsInRest, TakesFront, TakesRest, Took, at, both}
 use Rattle.prolly_apply.specs.Taking.{pairs_of, whole}
 use Rattle.prolly_apply.specs.declared.cutting.Cutting.{Cutting}
 use Rattle.prolly_apply.specs.declared.stop.Stop.{Stop}
 use Rattle.prolly_apply.specs.declared.stop.Stop.TheVariants as stops
-use Rattle.prolly_apply.proofs.Cuttings.{leaf_is_whole, refused_is_wrong, rest_front}
+use Rattle.prolly_apply.proofs.Cuttings.{leaf_is_cut, refused_is_wrong, rest_front}
 use Rattle.prolly_apply.proofs.Steps.{both_ended, changes_stay, gives_up, old_failed, old_goes}
 use Rattle.prolly_apply.proofs.Steps.{old_stays, stops_by}
 
@@ -130,7 +130,7 @@ module _ {C : Type 0} (cut_of : C → Cut) where
     fewer rest = rest_front (cut_of cut) leaves (leaf ∷ []) (subst (RestAreCut (cut_of cut)) are rest)
 
     pub run_more : (ends : Bool) → IsAdmitted (cut_of cut) leaf old new → ends ≡ new.ended →
-        TakesFront cut_of (WholeIf ends leaf) leaf level level' sent sent' place.head got
+        TakesFront cut_of (IsCutAs ends leaf) leaf level level' sent sent' place.head got
         place'.head → RestAreCut (cut_of cut) leaves' →
         Took cut_of cut before (pairs_of leaves') place' Any level' sent'
     run_more ends a same takes rest =
@@ -138,12 +138,12 @@ module _ {C : Type 0} (cut_of : C → Cut) where
         (subst (λ g. Took cut_of cut before g (at (place.received ++ got) place'.head) Any level'
         sent') gone_is
         (takes cut before (pairs_of leaves) place.received
-        (leaf_is_whole (cut_of cut) leaves leaf old new ends seen a same
+        (leaf_is_cut (cut_of cut) leaves leaf old new ends seen a same
         (subst (RestAreCut (cut_of cut)) are rest)) (took (fewer rest))))
 
     pub run_stops : (ends : Bool) (progress : Progress) (stop : Stop) →
         IsAdmitted (cut_of cut) leaf old new → ends ≡ new.ended →
-        StopsInFront cut_of (WholeIf ends leaf) leaf level sent stop sent' place.head got
+        StopsInFront cut_of (IsCutAs ends leaf) leaf level sent stop sent' place.head got
         place'.head → RestAreCut (cut_of cut) leaves' →
         StopsBy (cut_of cut) before (pairs_of leaves') place' (MayBe progress) stop sent'
     run_stops ends progress stop a same takes rest =
@@ -153,7 +153,7 @@ module _ {C : Type 0} (cut_of : C → Cut) where
         (subst (λ g. StopsBy (cut_of cut) before g (at (place.received ++ got) place'.head) Any stop
         sent') gone_is
         (takes cut before (pairs_of leaves) place.received
-        (leaf_is_whole (cut_of cut) leaves leaf old new ends seen a same
+        (leaf_is_cut (cut_of cut) leaves leaf old new ends seen a same
         (subst (RestAreCut (cut_of cut)) are rest)) (took (fewer rest)))))
 
     -- The leaf is refused.

@@ -26,7 +26,7 @@ use Rattle.prolly_tree.specs.Events.{faulty, leaf_events}
 use Rattle.prolly_tree.specs.Merge.{Input, merged_part, stop, stop_fault}
 use Rattle.prolly_tree.specs.MergeSteps.{SaysOn, rests}
 use Rattle.prolly_tree.specs.Passing.{AllBehind, map_input}
-use Rattle.prolly_tree.specs.Tree.{last_key}
+use Rattle.prolly_tree.specs.Tree.{last_key, pair_is_boundary}
 use Rattle.prolly_tree.specs.lemmas.Maps.{map_behind}
 use Rattle.prolly_laws.specs.Merging.{merged_step}
 use Rattle.prolly_laws.specs.Passing.{front_stays_merged}
@@ -44,10 +44,12 @@ use Rattle.prolly_merge.specs.declared.heads.Head.{Head}
 use Rattle.prolly_merge.specs.declared.heads.Head.TheVariants.{Ready, Ended}
 use Rattle.prolly_chunk.specs.LeafLevel.{LeafPasses, LeafState, is_whole_leaf, leaf_level}
 use Rattle.prolly_stage.specs.StageStep.{SendsLeaf}
-use Rattle.prolly_apply.specs.Taking.{Any, AnyCut, From, IsBehind, IsChange, May, Merges, Over}
+use Rattle.prolly_apply.specs.Taking.{Any, IsCutAs, IsDecided, From, IsBehind, IsChange, May, Merges, Over}
 use Rattle.prolly_apply.specs.Taking.{SentAll, SentFirst, Stands, StopsInFront, TakesChange}
-use Rattle.prolly_apply.specs.Taking.{StopsBy, StopsInRest, TakesFront, TakesRest, WholeIf}
-use Rattle.prolly_apply.specs.Taking.{Stopped, TakesPairs, Took, at, both, left, whole}
+use Rattle.prolly_apply.specs.Taking.{StopsBy, StopsInRest, TakesFront, TakesRest}
+use Rattle.prolly_apply.specs.Taking.{Stopped, TakesPairs, Took, closes_leaf, at, both, left, whole}
+use Rattle.prolly_apply.specs.Cutting.{NoneInside}
+use Rattle.prolly_apply.proofs.Cuttings.{last_at, whole_is}
 use Rattle.prolly_apply.specs.declared.old_pairs.Standing.{Standing}
 use Rattle.prolly_apply.specs.declared.old_pairs.Standing.TheVariants as standings
 use Rattle.prolly_apply.specs.declared.stop.Stop.{Stop}
@@ -527,12 +529,12 @@ module _ {C : Type 0} (cut_of : C → Cut) where
           (λ e. some_left p rest e) rises))) rising
 
   -- A change of its key takes the place of the pair.
-  pub pair_same : (p : Pair) (old mid new : LeafState C) (sent sent' sent'' : List Chunk)
+  pub pair_same : (Such : Cut → Type 0) (p : Pair) (old mid new : LeafState C) (sent sent' sent'' : List Chunk)
       (head head' head'' : Head) (got got' both : List Record) →
       PairLoop p old mid sent sent' head got head' → TakesChange cut_of mid new sent' sent'' head' →
       Stands p.key head' standings.Same → got' ≡ in_hand head'' → both ≡ got ++ got' →
-      TakesFront cut_of AnyCut (p ∷ []) old new sent sent'' head both head''
-  pair_same p old mid new sent sent' sent'' head head' head'' got got' all loop c b g e cut before
+      TakesFront cut_of Such (p ∷ []) old new sent sent'' head both head''
+  pair_same Such p old mid new sent sent' sent'' head head' head'' got got' all loop c b g e cut before
       gone received such t =
       let r = c.change in
       let same : r.key ≡ p.key = ap (λ (x : Record). x.key) (sym (ready_is b.0 r (sym b.1 ∙ c.was)))
@@ -561,32 +563,36 @@ module _ {C : Type 0} (cut_of : C → Cut) where
   -- The pair goes on, where the changes stand behind it.
   pub pair_behind : (p : Pair) (old mid new : LeafState C) (sent sent' sent'' : List Chunk)
       (head head' : Head) (got : List Record) → PairLoop p old mid sent sent' head got head' →
-      SendsLeaf cut_of mid new p sent' sent'' → IsBehind p.key head' →
-      TakesFront cut_of AnyCut (p ∷ []) old new sent sent'' head got head'
-  pair_behind p old mid new sent sent' sent'' head head' got loop s b cut before gone received such
-      t = took_step cut_of cut before gone (gone ++ p ∷ []) (at (received ++ got) head')
+      (is_boundary : Bool) → (IsDecided is_boundary p (cut_of mid.cut) →
+      SendsLeaf cut_of mid new p sent' sent'') → IsBehind p.key head' →
+      TakesFront cut_of (IsDecided is_boundary p) (p ∷ []) old new sent sent'' head got head'
+  pair_behind p old mid new sent sent' sent'' head head' got loop is_boundary sends b cut before gone
+      received such t =
+      let took = loop cut before gone received t in
+      let s = sends (subst (λ x. IsDecided is_boundary p (cut_of x)) (sym (ap (λ l. l.cut) took.state))
+      such) in
+      took_step cut_of cut before gone (gone ++ p ∷ []) (at (received ++ got) head')
       (at (received ++ got) head') (From p) Any (pair_goes gone p)
-      (changes_stay (at (received ++ got) head')) mid new sent' sent'' (p ∷ [])
-      (loop cut before gone received t)
+      (changes_stay (at (received ++ got) head')) mid new sent' sent'' (p ∷ []) took
       (takes_by cut_of cut mid new (p ∷ []) sent' sent'' (takes_one cut_of mid new p sent' sent'' s))
       (λ m f more h k rising. front_first (p ∷ []) m f head' more (omega arith) b k rising)
 
   -- Memory was refused, before or behind the next head.
-  pub pair_refused : (p : Pair) (old mid : LeafState C) (sent sent' sent'' : List Chunk)
+  pub pair_refused : (Such : Cut → Type 0) (p : Pair) (old mid : LeafState C) (sent sent' sent'' : List Chunk)
       (head head' : Head) (got : List Record) → PairLoop p old mid sent sent' head got head' →
       sent'' ≡ sent' →
-      StopsInFront cut_of AnyCut (p ∷ []) old sent stops.Memory sent'' head got head'
-  pair_refused p old mid sent sent' sent'' head head' got loop s cut before gone received such t =
+      StopsInFront cut_of Such (p ∷ []) old sent stops.Memory sent'' head got head'
+  pair_refused Such p old mid sent sent' sent'' head head' got loop s cut before gone received such t =
       gives_up cut_of cut before gone (gone ++ p ∷ []) (at (received ++ got) head')
       (at (received ++ got) head') (From p) Any (pair_goes gone p)
       (changes_stay (at (received ++ got) head')) mid sent' sent'' (loop cut before gone received t) s
 
-  pub change_refused : (p : Pair) (old mid : LeafState C) (sent sent' sent'' : List Chunk)
+  pub change_refused : (Such : Cut → Type 0) (p : Pair) (old mid : LeafState C) (sent sent' sent'' : List Chunk)
       (head head' head'' : Head) (got got' both : List Record) →
       PairLoop p old mid sent sent' head got head' → IsChange head' → sent'' ≡ sent' →
       both ≡ got ++ got' →
-      StopsInFront cut_of AnyCut (p ∷ []) old sent stops.Memory sent'' head both head''
-  change_refused p old mid sent sent' sent'' head head' head'' got got' all loop c s e cut before
+      StopsInFront cut_of Such (p ∷ []) old sent stops.Memory sent'' head both head''
+  change_refused Such p old mid sent sent' sent'' head head' head'' got got' all loop c s e cut before
       gone received such t =
       subst (λ q. SentFirst (cut_of cut) before (gone ++ p ∷ []) q Any sent'')
       (got_both received got got' all head'' e)
@@ -597,11 +603,11 @@ module _ {C : Type 0} (cut_of : C → Cut) where
       (loop cut before gone received t)) s)
 
   -- The changes ended with a fault.
-  pub pair_failed : (p : Pair) (old mid : LeafState C) (sent sent' : List Chunk)
+  pub pair_failed : (Such : Cut → Type 0) (p : Pair) (old mid : LeafState C) (sent sent' : List Chunk)
       (head head' : Head) (got : List Record) (fault : RunFault) →
       PairLoop p old mid sent sent' head got head' → head' ≡ Ended (Fault fault) →
-      StopsInFront cut_of AnyCut (p ∷ []) old sent (stops.Fault fault) sent' head got head'
-  pair_failed p old mid sent sent' head head' got fault loop e cut before gone received such t =
+      StopsInFront cut_of Such (p ∷ []) old sent (stops.Fault fault) sent' head got head'
+  pair_failed Such p old mid sent sent' head head' got fault loop e cut before gone received such t =
       stops_by cut_of cut before gone (gone ++ p ∷ []) (at (received ++ got) head')
       (at (received ++ got) head') (From p) Any (pair_goes gone p)
       (changes_stay (at (received ++ got) head')) mid sent' fault (loop cut before gone received t)
@@ -621,13 +627,25 @@ module _ {I : Type 0} (link : I → LinkId) (progress : I → Progress) (Follows
 
 -- ---- the pairs of a leaf
 
-module _ {C : Type 0} (cut_of : C → Cut) where
+-- of a leaf, a pair before the last one is no boundary
+inside_at : (cut : Cut) (front : List Pair) (p q : Pair) (left : List Pair) →
+    NoneInside cut (front ++ p ∷ q ∷ left) → pair_is_boundary cut p ≡ false
+inside_at cut [] p q left h = h.0
+inside_at cut (x ∷ []) p q left h = h.1.0
+inside_at cut (x ∷ y ∷ front) p q left h = inside_at cut (y ∷ front) p q left h.1
+
+decided : (ends : Bool) (cut : Cut) (front : List Pair) (p : Pair) (left : List Pair) →
+    IsCutAs ends (front ++ p ∷ left) cut → IsDecided (closes_leaf ends left) p cut
+decided ends cut front p [] h = sym (last_at cut front p) ∙ h.last
+decided ends cut front p (q ∷ left) h = inside_at cut front p q left h.inside
+
+module _ {C : Type 0} (cut_of : C → Cut) (ends : Bool) where
   -- The level took the first pairs of some, of which these are left.
   pub record PairsLoop (all pairs : List Pair) (old new : LeafState C) (sent sent' : List Chunk)
       (head : Head) (got : List Record) (head' : Head) : Type 0 where
     pub front : List Pair
     pub whole : all ≡ front ++ pairs
-    pub took : TakesFront cut_of AnyCut front old new sent sent' head got head'
+    pub took : TakesFront cut_of (IsCutAs ends all) front old new sent sent' head got head'
 
   pub pairs_init : (pairs : List Pair) (level : LeafState C) (sent : List Chunk) (head : Head)
       (got : List Record) → got ≡ [] → PairsLoop pairs pairs level level sent sent head got head
@@ -641,13 +659,21 @@ module _ {C : Type 0} (cut_of : C → Cut) where
         (sym (got_nothing received got head none)) t);
   }
 
+  pair_decided : (all pairs pairs' : List Pair) (p : Pair) (front : List Pair) (is_boundary : Bool)
+      (cut : C) → all ≡ front ++ p ∷ pairs' → is_boundary ≡ closes_leaf ends pairs' →
+      IsCutAs ends all (cut_of cut) → IsDecided is_boundary p (cut_of cut)
+  pair_decided all pairs pairs' p front is_boundary cut whole is such =
+      decided ends (cut_of cut) front p pairs' (subst (λ ps. IsCutAs ends ps (cut_of cut)) whole such)
+      ∙ sym is
+
   pub pairs_more : (all pairs pairs' : List Pair) (p : Pair) (old mid new : LeafState C)
       (sent sent' sent'' : List Chunk) (head head' head'' : Head) (got got' both : List Record) →
-      PairsLoop all pairs old mid sent sent' head got head' → pairs ≡ p ∷ pairs' →
-      TakesFront cut_of AnyCut (p ∷ []) mid new sent' sent'' head' got' head'' →
+      (is_boundary : Bool) → PairsLoop all pairs old mid sent sent' head got head' →
+      pairs ≡ p ∷ pairs' → is_boundary ≡ closes_leaf ends pairs' →
+      TakesFront cut_of (IsDecided is_boundary p) (p ∷ []) mid new sent' sent'' head' got' head'' →
       both ≡ got ++ got' → PairsLoop all pairs' old new sent sent'' head both head''
-  pairs_more all pairs pairs' p old mid new sent sent' sent'' head head' head'' got got' both l e t f
-      = record {
+  pairs_more all pairs pairs' p old mid new sent sent' sent'' head head' head'' got got' both
+      is_boundary l e is t f = record {
         front = l.front ++ p ∷ [];
         whole = l.whole ∙ ap (λ ps. l.front ++ ps) e ∙ sym (append_assoc l.front (p ∷ []) pairs');
         took = λ cut before gone received such took.
@@ -655,15 +681,16 @@ module _ {C : Type 0} (cut_of : C → Cut) where
             (append_assoc gone l.front (p ∷ []))
             (subst (λ q. Took cut_of cut before ((gone ++ l.front) ++ p ∷ []) q Any new sent'')
             (got_both cut_of received got got' both head'' f)
-            (t cut before (gone ++ l.front) (received ++ got) tt
-            (l.took cut before gone received tt took)));
+            (t cut before (gone ++ l.front) (received ++ got)
+            (pair_decided all pairs pairs' p l.front is_boundary cut (l.whole ∙ ap (λ ps. l.front ++ ps)
+            e) is such) (l.took cut before gone received such took)));
       }
 
   pub pairs_all : (all pairs : List Pair) (old new : LeafState C) (sent sent' : List Chunk)
       (head head' : Head) (got : List Record) → PairsLoop all pairs old new sent sent' head got head' →
-      pairs ≡ [] → TakesFront cut_of AnyCut all old new sent sent' head got head'
+      pairs ≡ [] → TakesFront cut_of (IsCutAs ends all) all old new sent sent' head got head'
   pairs_all all pairs old new sent sent' head head' got l none =
-      subst (λ ps. TakesFront cut_of AnyCut ps old new sent sent' head got head')
+      subst (λ ps. TakesFront cut_of (IsCutAs ends all) ps old new sent sent' head got head')
       (sym (l.whole ∙ ap (λ ps. l.front ++ ps) none ∙ append-nil l.front)) l.took
 
   -- What stopped with fewer pairs gone stopped with more.
@@ -700,24 +727,27 @@ module _ {C : Type 0} (cut_of : C → Cut) where
 
   pub pairs_stop : (all pairs pairs' : List Pair) (p : Pair) (old mid : LeafState C)
       (sent sent' sent'' : List Chunk) (head head' head'' : Head) (got got' both : List Record)
-      (stop : Stop) → PairsLoop all pairs old mid sent sent' head got head' → pairs ≡ p ∷ pairs' →
-      StopsInFront cut_of AnyCut (p ∷ []) mid sent' stop sent'' head' got' head'' →
-      both ≡ got ++ got' → StopsInFront cut_of AnyCut all old sent stop sent'' head both head''
-  pairs_stop all pairs pairs' p old mid sent sent' sent'' head head' head'' got got' both stop l e t f
-      cut before gone received such took =
+      (stop : Stop) (is_boundary : Bool) → PairsLoop all pairs old mid sent sent' head got head' →
+      pairs ≡ p ∷ pairs' → is_boundary ≡ closes_leaf ends pairs' →
+      StopsInFront cut_of (IsDecided is_boundary p) (p ∷ []) mid sent' stop sent'' head' got' head'' →
+      both ≡ got ++ got' →
+      StopsInFront cut_of (IsCutAs ends all) all old sent stop sent'' head both head''
+  pairs_stop all pairs pairs' p old mid sent sent' sent'' head head' head'' got got' both stop
+      is_boundary l e is t f cut before gone received such took =
       stops_further (cut_of cut) before ((gone ++ l.front) ++ p ∷ []) pairs' (gone ++ all)
       (at (received ++ both) head'') stop sent''
       (append_assoc (gone ++ l.front) (p ∷ []) pairs' ∙ append_assoc gone l.front (p ∷ pairs')
       ∙ ap (λ ps. gone ++ (l.front ++ ps)) (sym e) ∙ ap (λ ps. gone ++ ps) (sym l.whole))
       (subst (λ q. StopsBy (cut_of cut) before ((gone ++ l.front) ++ p ∷ []) q Any stop sent'')
       (got_both cut_of received got got' both head'' f)
-      (t cut before (gone ++ l.front) (received ++ got) tt
-      (l.took cut before gone received tt took)))
+      (t cut before (gone ++ l.front) (received ++ got)
+      (pair_decided all pairs pairs' p l.front is_boundary cut (l.whole ∙ ap (λ ps. l.front ++ ps) e) is
+      such) (l.took cut before gone received such took)))
 
   pub pairs_refused : (all pairs : List Pair) (old mid : LeafState C) (sent sent' : List Chunk)
       (head head' : Head) (got : List Record) →
       PairsLoop all pairs old mid sent sent' head got head' →
-      StopsInFront cut_of AnyCut all old sent stops.Memory sent' head got head'
+      StopsInFront cut_of (IsCutAs ends all) all old sent stops.Memory sent' head got head'
   pairs_refused all pairs old mid sent sent' head head' got l cut before gone received such took =
       stops_further (cut_of cut) before (gone ++ l.front) pairs (gone ++ all)
       (at (received ++ got) head') stops.Memory sent'
@@ -725,37 +755,24 @@ module _ {C : Type 0} (cut_of : C → Cut) where
       (gives_up cut_of cut before (gone ++ l.front) (gone ++ l.front) (at (received ++ got) head')
       (at (received ++ got) head') Any Any (old_stays (gone ++ l.front) Any Any (λ m f h. h))
       (changes_stay (at (received ++ got) head')) mid sent' sent'
-      (l.took cut before gone received tt took) refl)
+      (l.took cut before gone received such took) refl)
 
-  -- ---- a leaf
+-- ---- a leaf
 
-  pub any_cut : (Such : Cut → Type 0) (front : List Pair) (old new : LeafState C)
-      (sent sent' : List Chunk) (head head' : Head) (got : List Record) →
-      TakesFront cut_of AnyCut front old new sent sent' head got head' →
-      TakesFront cut_of Such front old new sent sent' head got head'
-  any_cut Such front old new sent sent' head head' got t cut before gone received such took =
-      t cut before gone received tt took
-
+module _ {C : Type 0} (cut_of : C → Cut) where
   some_whole : (cut : Cut) (leaf : List Pair) → is_whole_leaf cut leaf ≡ true → 0 < length leaf
   some_whole cut [] h = cc
   some_whole cut (p ∷ leaf) h = omega arith
-
-  pub any_stop : (Such : Cut → Type 0) (front : List Pair) (old : LeafState C)
-      (sent sent' : List Chunk) (head head' : Head) (got : List Record) (stop : Stop) →
-      StopsInFront cut_of AnyCut front old sent stop sent' head got head' →
-      StopsInFront cut_of Such front old sent stop sent' head got head'
-  any_stop Such front old sent sent' head head' got stop t cut before gone received such took =
-      t cut before gone received tt took
 
   -- It goes on whole.
   pub leaf_passes : (leaf : List Pair) (ends : Bool) (old new : LeafState C)
       (sent sent' : List Chunk) (head : Head) (got : List Record) → got ≡ [] → ends ≡ true →
       IsBehind (last_key leaf) head → LeafPasses cut_of old new →
       sent' ≡ sent ++ chunk_of One 0 leaf ∷ [] →
-      TakesFront cut_of (WholeIf ends leaf) leaf old new sent sent' head got head
+      TakesFront cut_of (IsCutAs ends leaf) leaf old new sent sent' head got head
   leaf_passes leaf ends old new sent sent' head got none end behind passes is cut before gone
       received such t =
-      let whole = such end in
+      let whole = whole_is (cut_of cut) leaf such.inside (such.last ∙ end) in
       subst (λ q. Took cut_of cut before (gone ++ leaf) q Any new sent')
       (sym (got_nothing received got head none))
       (took_step cut_of cut before gone (gone ++ leaf) (at received head) (at received head) Any Any
@@ -767,7 +784,7 @@ module _ {C : Type 0} (cut_of : C → Cut) where
 
   pub leaf_refused : (leaf : List Pair) (ends : Bool) (old : LeafState C)
       (sent sent' : List Chunk) (head : Head) (got : List Record) → got ≡ [] → sent' ≡ sent →
-      StopsInFront cut_of (WholeIf ends leaf) leaf old sent stops.Memory sent' head got head
+      StopsInFront cut_of (IsCutAs ends leaf) leaf old sent stops.Memory sent' head got head
   leaf_refused leaf ends old sent sent' head got none is cut before gone received such t =
       subst (λ q. SentFirst (cut_of cut) before (gone ++ leaf) q Any sent')
       (sym (got_nothing received got head none))

@@ -1,5 +1,5 @@
 -- What was taken of an old tree and of changes that are laid over it.
-use Rattle.std.specs.Prelude.{◌≡◌, ℕ, Bool, true, List, [], ◌∷◌, ◌++◌, Option, Some}
+use Rattle.std.specs.Prelude.{◌≡◌, ℕ, Bool, false, List, [], ◌∷◌, ◌++◌, Option, Some}
 use Rattle.std.specs.List.{flat_map}
 use Rattle.prolly_entry.specs.declared.version.Version.{Version}
 use Rattle.prolly_entry.specs.Cut.{Cut}
@@ -20,7 +20,10 @@ use Rattle.prolly_merge.specs.Inputs.{fault_in, lists_of}
 use Rattle.prolly_merge.specs.Places.{Place, after}
 use Rattle.prolly_merge.specs.declared.heads.Head.{Head}
 use Rattle.prolly_merge.specs.declared.heads.Head.TheVariants.{Ready, Ended}
-use Rattle.prolly_chunk.specs.LeafLevel.{LeafState, is_whole_leaf, leaf_level}
+use Rattle.prolly_chunk.specs.LeafLevel.{LeafState, leaf_level}
+use Rattle.prolly_tree.specs.Split.{last_passes}
+use Rattle.prolly_tree.specs.Tree.{pair_is_boundary}
+use Rattle.prolly_apply.specs.Cutting.{NoneInside}
 use Rattle.prolly_apply.specs.declared.stop.Stop.{Stop}
 use Rattle.prolly_apply.specs.declared.stop.Stop.TheVariants as stops
 use Rattle.prolly_apply.specs.declared.old_pairs.Coming.{Coming}
@@ -123,13 +126,20 @@ StopsBy cut before gone place may (stops.Fault fault) sent =
 StopsBy cut before gone place may stops.Memory sent =
     SentFirst cut before gone place may sent
 
--- Whatever the cut is.
-abbrev pub AnyCut : Cut → Type 0
-AnyCut cut = Unit {0}
+-- The leaf is one of this cut: no pair before its last one is a boundary, and the last one is, if it is
+-- said to end with one.
+pub record IsCutAs (ends : Bool) (leaf : List Pair) (cut : Cut) : Type 0 where
+  pub inside : NoneInside cut leaf
+  pub last : last_passes (pair_is_boundary cut) leaf ≡ ends
 
--- Of this cut the leaf is whole, where it is said to end with a boundary.
-abbrev pub WholeIf : Bool → List Pair → Cut → Type 0
-WholeIf ends leaf cut = ends ≡ true → is_whole_leaf cut leaf ≡ true
+-- Of this cut the pair is a boundary, or none, as it is said.
+abbrev pub IsDecided : Bool → Pair → Cut → Type 0
+IsDecided is_boundary p cut = pair_is_boundary cut p ≡ is_boundary
+
+-- Whether a pair is a boundary behind which these are left of a leaf, which ends with one or not.
+abbrev pub closes_leaf : Bool → List Pair → Bool
+closes_leaf ends [] = ends
+closes_leaf ends (p ∷ ps) = false
 
 -- ---- one step
 

@@ -6,10 +6,10 @@ ghost use Rattle.prolly_merge.specs.Peeked.{Advances};
 ghost use Rattle.prolly_merge.specs.Head.{IsHeld, in_hand};
 ghost use Rattle.prolly_merge.specs.declared.heads.Head.TheVariants.{Ended};
 ghost use Rattle.prolly_tree.specs.Tree.{last_key};
-ghost use Rattle.prolly_apply.specs.Taking.{AnyCut, Comes, IsBehind, IsChange, Stands};
+ghost use Rattle.prolly_apply.specs.Taking.{Comes, IsBehind, IsChange, IsCutAs, IsDecided, Stands};
 ghost use Rattle.prolly_apply.specs.Taking.{StopsInFront};
 ghost use Rattle.prolly_apply.specs.Taking.{StopsInRest, TakesChange, TakesFront, TakesRest};
-ghost use Rattle.prolly_apply.specs.Taking.{WholeIf};
+ghost use Rattle.prolly_apply.specs.Taking.{closes_leaf};
 
 use crate::old_leaf::OldLeaf;
 use crate::stop::Stop;
@@ -18,7 +18,7 @@ use prolly_chunk::{ChunkEvent, LeafLevel};
 use prolly_entry::{Cut, Pair, Record, key_order};
 use prolly_link::{End, In, Out, RunFault};
 use prolly_merge::{Head, Peeked};
-use prolly_stage::{send_event, take_pair};
+use prolly_stage::{send_event, take_decided_pair, take_pair};
 use std::alloc::{AllocError, Global};
 use std::cmp::Ordering;
 use std::sync::Wait;
@@ -100,8 +100,8 @@ fn take_change<C: Cut, I: In<Record>, O: Out<ChunkEvent>, R: Wait>(
     }
 }
 
-/// Takes a pair of the old tree, and before it the changes below its key. A change of its key takes
-/// its place.
+/// Takes a pair of the old tree, of which it is known whether it is a boundary, and before it the
+/// changes below its key. A change of its key takes its place.
 fn take_old_pair<C: Cut, I: In<Record>, O: Out<ChunkEvent>, R: Wait>(
     rt: &R,
     alloc: Global,
@@ -109,14 +109,15 @@ fn take_old_pair<C: Cut, I: In<Record>, O: Out<ChunkEvent>, R: Wait>(
     changes: &mut Peeked<I>,
     out: &mut O,
     pair: Pair,
+    is_boundary: bool,
 ) -> Result<(), Stop>
     requires { IsHeld changes.old.head (I.progress changes.old.input) }
     ensures advances { Advances I.link I.progress I.Follows changes.old changes.new }
     ensures link { O.link out.new ≡ O.link out.old }
-    ensures ok { OnOk result (TakesFront C.cut AnyCut (pair ∷ []) level.old level.new
+    ensures ok { OnOk result (TakesFront C.cut (IsDecided is_boundary pair) (pair ∷ []) level.old level.new
         (O.sent out.old) (O.sent out.new) changes.old.head
         (I.received changes.old.input changes.new.input) changes.new.head) }
-    ensures err { IfErr result (λ stop. StopsInFront C.cut AnyCut (pair ∷ []) level.old
+    ensures err { IfErr result (λ stop. StopsInFront C.cut (IsDecided is_boundary pair) (pair ∷ []) level.old
         (O.sent out.old) stop (O.sent out.new) changes.old.head
         (I.received changes.old.input changes.new.input) changes.new.head) }
 {
@@ -124,7 +125,9 @@ fn take_old_pair<C: Cut, I: In<Record>, O: Out<ChunkEvent>, R: Wait>(
         match standing_of(&changes.head, pair.key()) {
             Standing::Below => take_change(rt, alloc, level, changes, out)?,
             Standing::Same => return Ok(take_change(rt, alloc, level, changes, out)?),
-            Standing::Behind => return Ok(take_pair(rt, alloc, level, out, pair)?),
+            Standing::Behind => {
+                return Ok(take_decided_pair(rt, alloc, level, out, pair, is_boundary)?);
+            }
             Standing::Failed(fault) => return Err(Stop::Fault(fault)),
         }
     }
@@ -173,17 +176,17 @@ pub(crate) fn take_leaf<C: Cut, I: In<Record>, O: Out<ChunkEvent>, R: Wait>(
     requires { IsHeld changes.old.head (I.progress changes.old.input) }
     ensures advances { Advances I.link I.progress I.Follows changes.old changes.new }
     ensures link { O.link out.new ≡ O.link out.old }
-    ensures ok { OnOk result (TakesFront C.cut (WholeIf ends leaf) leaf level.old level.new
+    ensures ok { OnOk result (TakesFront C.cut (IsCutAs ends leaf) leaf level.old level.new
         (O.sent out.old) (O.sent out.new) changes.old.head
         (I.received changes.old.input changes.new.input) changes.new.head) }
-    ensures err { IfErr result (λ stop. StopsInFront C.cut (WholeIf ends leaf) leaf level.old
+    ensures err { IfErr result (λ stop. StopsInFront C.cut (IsCutAs ends leaf) leaf level.old
         (O.sent out.old) stop (O.sent out.new) changes.old.head
         (I.received changes.old.input changes.new.input) changes.new.head) }
 {
     if passes(level, &changes.head, &leaf, ends) {
         return Ok(send_event(rt, out, leaf.into_event())?);
     }
-    take_pairs(rt, alloc, level, changes, out, leaf.pairs())
+    take_pairs(rt, alloc, level, changes, out, leaf.pairs(), ends)
 }
 
 /// Whether a leaf goes on whole, and lets it pass the level.
@@ -195,7 +198,8 @@ fn passes<C: Cut>(level: &mut LeafLevel<C>, head: &Head, leaf: &OldLeaf, ends: b
     ends && is_behind(head, leaf.last_key()) && level.pass()
 }
 
-/// Takes pairs of the old tree, with the changes laid over them.
+/// Takes pairs of a leaf of the old tree, with the changes laid over them. None of them is hashed: the
+/// last one is a boundary if the leaf ends with one, and no other one is.
 fn take_pairs<C: Cut, I: In<Record>, O: Out<ChunkEvent>, R: Wait>(
     rt: &R,
     alloc: Global,
@@ -203,20 +207,29 @@ fn take_pairs<C: Cut, I: In<Record>, O: Out<ChunkEvent>, R: Wait>(
     changes: &mut Peeked<I>,
     out: &mut O,
     mut pairs: Pairs<'_>,
+    ends: bool,
 ) -> Result<(), Stop>
     requires { IsHeld changes.old.head (I.progress changes.old.input) }
     ensures advances { Advances I.link I.progress I.Follows changes.old changes.new }
     ensures link { O.link out.new ≡ O.link out.old }
-    ensures ok { OnOk result (TakesFront C.cut AnyCut pairs.entry level.old level.new
+    ensures ok { OnOk result (TakesFront C.cut (IsCutAs ends pairs.entry) pairs.entry level.old level.new
         (O.sent out.old) (O.sent out.new) changes.old.head
         (I.received changes.old.input changes.new.input) changes.new.head) }
-    ensures err { IfErr result (λ stop. StopsInFront C.cut AnyCut pairs.entry level.old
+    ensures err { IfErr result (λ stop. StopsInFront C.cut (IsCutAs ends pairs.entry) pairs.entry level.old
         (O.sent out.old) stop (O.sent out.new) changes.old.head
         (I.received changes.old.input changes.new.input) changes.new.head) }
 {
     while let Some((key, value)) = pairs.next() {
         let pair = Pair::copy_of(alloc, key, value)?;
-        take_old_pair(rt, alloc, level, changes, out, pair)?;
+        let is_boundary = closes_leaf(ends, &pairs);
+        take_old_pair(rt, alloc, level, changes, out, pair, is_boundary)?;
     }
     Ok(())
+}
+
+/// Whether the pair of a leaf is a boundary behind which these are left.
+fn closes_leaf(ends: bool, left: &Pairs<'_>) -> bool
+    ensures { result ≡ closes_leaf ends left.now }
+{
+    ends && left.is_empty()
 }

@@ -73,6 +73,20 @@ impl Chunk {
         }
     }
 
+    /// Adds a pair. An `Err` leaves the chunk as it was.
+    pub(crate) fn append(&mut self, pair: &Pair) -> Result<(), AllocError>
+        ensures added { OnOk result (self.new ≡ with_pair self.old pair.now) }
+        ensures room { OnOk result (length self.new.bytes < 2 ^ 64) }
+        ensures err { OnErr result (self.new ≡ self.old) }
+    {
+        let start = self.bytes.len();
+        append_pair(&mut self.bytes, pair)?;
+        self.key_start = start + KEY_START;
+        self.key_length = pair.key().len();
+        self.count = self.count.saturating_add(1);
+        Ok(())
+    }
+
     /// Adds a pair, and says whether it is a boundary. An `Err` leaves the chunk as it was.
     pub(crate) fn add_pair<C: Cut>(&mut self, cut: &C, pair: &Pair) -> Result<bool, AllocError>
         ensures added { OnOk result (self.new ≡ with_pair self.old pair.now) }
@@ -82,10 +96,7 @@ impl Chunk {
         ensures err { OnErr result (self.new ≡ self.old) }
     {
         let start = self.bytes.len();
-        append_pair(&mut self.bytes, pair)?;
-        self.key_start = start + KEY_START;
-        self.key_length = pair.key().len();
-        self.count = self.count.saturating_add(1);
+        self.append(pair)?;
         Ok(cut.is_boundary_pair(pair, &self.bytes[start..]))
     }
 

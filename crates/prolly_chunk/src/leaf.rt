@@ -1,5 +1,6 @@
 //! The level of the leaves.
 ghost use Rattle.std.specs.Prelude.{◌≡◌, true, false, not, nat_le, length, IfOk};
+ghost use Rattle.prolly_tree.specs.Tree.{pair_is_boundary};
 ghost use Rattle.prolly_chunk.specs.LeafLevel.{LeafBegins, LeafTakes, LeafPasses, LeafEnds};
 
 use crate::chunk::Chunk;
@@ -48,6 +49,26 @@ impl<C: Cut> LeafLevel<C> {
     {
         self.has_pairs = true;
         if self.leaf.add_pair(&self.cut, pair)? {
+            return Ok(Some(self.leaf.take_event(alloc)?));
+        }
+        Ok(None)
+    }
+
+    /// Takes a pair of which the caller knows whether it is a boundary, and answers as
+    /// [`push`](LeafLevel::push) does. So it is not hashed.
+    pub fn push_decided(
+        &mut self,
+        alloc: Global,
+        pair: &Pair,
+        is_boundary: bool,
+    ) -> Result<Option<ChunkEvent>, AllocError>
+        ensures { IfOk result (λ closed.
+            pair_is_boundary (C.cut self.old.cut) pair.now ≡ is_boundary →
+            LeafTakes C.cut self.old self.new pair.now closed) }
+    {
+        self.has_pairs = true;
+        self.leaf.append(pair)?;
+        if is_boundary {
             return Ok(Some(self.leaf.take_event(alloc)?));
         }
         Ok(None)

@@ -2,6 +2,7 @@
 ghost use Rattle.std.specs.Prelude.{◌≡◌, ◌++◌, IfOk, OnOk, OnErr};
 ghost use Rattle.prolly_entry.specs.declared.version.Version.{Version as VersionValue};
 ghost use Rattle.prolly_tree.specs.Events.{leaf_events};
+ghost use Rattle.prolly_tree.specs.Tree.{pair_is_boundary};
 ghost use Rattle.prolly_link.specs.Progress.{HasEnded, end_given};
 ghost use Rattle.prolly_stage.specs.Sends.{closing_of, Sends, GivesUp};
 ghost use Rattle.prolly_stage.specs.StageStep.{SendsLeaf};
@@ -93,5 +94,24 @@ pub fn take_pair<C: Cut, O: Out<ChunkEvent>, R: Wait>(
     ensures err { OnErr result (O.sent out.new ≡ O.sent out.old) }
 {
     let closed = leaves.push(alloc, &pair)?;
+    send_closed(rt, out, closed)
+}
+
+/// Takes a pair of which the caller knows whether it is a boundary, and sends the leaf that it closes,
+/// if any. It is not hashed. An `Err` has sent nothing.
+pub fn take_decided_pair<C: Cut, O: Out<ChunkEvent>, R: Wait>(
+    rt: &R,
+    alloc: Global,
+    leaves: &mut LeafLevel<C>,
+    out: &mut O,
+    pair: Pair,
+    is_boundary: bool,
+) -> Result<(), AllocError>
+    ensures link { O.link out.new ≡ O.link out.old }
+    ensures ok { OnOk result (pair_is_boundary (C.cut leaves.old.cut) pair ≡ is_boundary →
+        SendsLeaf C.cut leaves.old leaves.new pair (O.sent out.old) (O.sent out.new)) }
+    ensures err { OnErr result (O.sent out.new ≡ O.sent out.old) }
+{
+    let closed = leaves.push_decided(alloc, &pair, is_boundary)?;
     send_closed(rt, out, closed)
 }

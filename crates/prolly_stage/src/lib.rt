@@ -17,6 +17,6 @@ mod staged;
 pub use gate::{Gate, OpenGate, Worker};
 pub use gated::Gated;
 pub use inner::{inner_stage, inner_stage_as};
-pub use leaf::{leaf_stage, take_pair};
+pub use leaf::{leaf_stage, take_decided_pair, take_pair};
 pub use prolly_chunk::ChunkEvent;
 pub use staged::{Staged, send_closed, send_event};

@@ -1,6 +1,6 @@
 use Rattle.std.proofs.Common.{◌∙◌, ◌∷◌, [], ◌++◌, ap, refl, subst}
-use Rattle.prolly_apply.specs.Taking.{AnyCut, StopsInFront, TakesFront, WholeIf}
-use Rattle.prolly_apply.proofs.Steps.{any_cut, any_stop, if_err, leaf_passes, leaf_refused, on_err}
+use Rattle.prolly_apply.specs.Taking.{IsCutAs, StopsInFront, TakesFront}
+use Rattle.prolly_apply.proofs.Steps.{if_err, leaf_passes, leaf_refused, on_err}
 use Rattle.prolly_apply.proofs.Steps.{on_ok, stops_memory}
 use Rattle.prolly_apply.proofs.old_pairs.take_leaf.Goals as goal
 
@@ -44,26 +44,26 @@ returns g c =
     record {
       advances = e.advances;
       link = e.link;
-      ok = on_ok c.take_pairs.result _ _ (λ t. any_cut g.C.Cut.cut (WholeIf c.args.ends c.args.leaf)
-          c.args.leaf c.args.level.now _ _ _ _ _ _
-          (subst (λ ps. TakesFront g.C.Cut.cut AnyCut ps c.args.level.now c.take_pairs.new.level
-          (g.O.Out.sent c.args.out.now) (g.O.Out.sent c.take_pairs.new.out) c.args.changes.now.head
+      ok = on_ok c.take_pairs.result _ _ (λ t.
+          subst (λ ps. TakesFront g.C.Cut.cut (IsCutAs c.args.ends ps) ps c.args.level.now
+          c.take_pairs.new.level (g.O.Out.sent c.args.out.now) (g.O.Out.sent c.take_pairs.new.out)
+          c.args.changes.now.head
           (g.I.In.received c.args.changes.now.input c.take_pairs.new.changes.input)
           c.take_pairs.new.changes.head) c.pairs.ensures
-          (subst (λ l. TakesFront g.C.Cut.cut AnyCut c.pairs.result l c.take_pairs.new.level
-          (g.O.Out.sent c.args.out.now) (g.O.Out.sent c.take_pairs.new.out) c.args.changes.now.head
+          (subst (λ l. TakesFront g.C.Cut.cut (IsCutAs c.args.ends c.pairs.result) c.pairs.result l
+          c.take_pairs.new.level (g.O.Out.sent c.args.out.now) (g.O.Out.sent c.take_pairs.new.out)
+          c.args.changes.now.head
           (g.I.In.received c.args.changes.now.input c.take_pairs.new.changes.input)
-          c.take_pairs.new.changes.head) same t))) e.ok;
-      err = if_err c.take_pairs.result _ _ (λ stop t. any_stop g.C.Cut.cut
-          (WholeIf c.args.ends c.args.leaf) c.args.leaf c.args.level.now _ _ _ _ _ stop
-          (subst (λ ps. StopsInFront g.C.Cut.cut AnyCut ps c.args.level.now
+          c.take_pairs.new.changes.head) same t)) e.ok;
+      err = if_err c.take_pairs.result _ _ (λ stop t.
+          subst (λ ps. StopsInFront g.C.Cut.cut (IsCutAs c.args.ends ps) ps c.args.level.now
           (g.O.Out.sent c.args.out.now) stop (g.O.Out.sent c.take_pairs.new.out)
           c.args.changes.now.head
           (g.I.In.received c.args.changes.now.input c.take_pairs.new.changes.input)
           c.take_pairs.new.changes.head) c.pairs.ensures
-          (subst (λ l. StopsInFront g.C.Cut.cut AnyCut c.pairs.result l
+          (subst (λ l. StopsInFront g.C.Cut.cut (IsCutAs c.args.ends c.pairs.result) c.pairs.result l
           (g.O.Out.sent c.args.out.now) stop (g.O.Out.sent c.take_pairs.new.out)
           c.args.changes.now.head
           (g.I.In.received c.args.changes.now.input c.take_pairs.new.changes.input)
-          c.take_pairs.new.changes.head) same t))) e.err;
+          c.take_pairs.new.changes.head) same t)) e.err;
     }

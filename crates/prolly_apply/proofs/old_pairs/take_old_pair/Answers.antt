@@ -1,6 +1,7 @@
 use Rattle.std.proofs.Common.{refl, ◌∙◌, subst}
 use Rattle.prolly_apply.specs.declared.old_pairs.Standing.TheVariants as standings
 use Rattle.prolly_stage.specs.StageStep.{SendsLeaf}
+use Rattle.prolly_apply.specs.Taking.{IsDecided}
 use Rattle.prolly_apply.proofs.Steps.{advances_on, change_refused, is_change, is_same_change, on_err}
 use Rattle.prolly_apply.proofs.Steps.{pair_behind, pair_below, pair_failed, pair_init, pair_refused}
 use Rattle.prolly_apply.proofs.Steps.{pair_same, stands_at, stops_memory}
@@ -44,8 +45,7 @@ returns-in_err-take_change-in-Below g c =
           i.advances e.advances;
       link = e.link ∙ i.link;
       ok = on_err _ _ c.from_residual.ensures.0;
-      err = stops_memory _ _ c.from_residual.ensures.1 (change_refused g.C.Cut.cut c.args.pair _ _ _
-          _ _ _ _ _ _ _ _ i.took (is_change c.args.pair.key c.loop.changes.head
+      err = stops_memory _ _ c.from_residual.ensures.1 (change_refused g.C.Cut.cut (IsDecided c.args.is_boundary c.args.pair) c.args.pair _ _ _ _ _ _ _ _ _ _ _ i.took (is_change c.args.pair.key c.loop.changes.head
           (stands_at c.key.result.now c.loop.pair c.args.pair
           c.loop.changes.head c.standing_of.result standings.Below c.standing_of.ensures
           c.key.ensures.key i.pair c.in-Below.is)) e.err
@@ -61,9 +61,7 @@ returns-in_err-take_change-in-Same g c =
           i.advances e.advances;
       link = e.link ∙ i.link;
       ok = on_err _ _ c.from_residual-in_err-take_change-in-Same.ensures.0;
-      err = stops_memory _ _ c.from_residual-in_err-take_change-in-Same.ensures.1 (change_refused
-          g.C.Cut.cut c.args.pair _ _ _
-          _ _ _ _ _ _ _ _ i.took (is_same_change c.args.pair.key c.loop.changes.head
+      err = stops_memory _ _ c.from_residual-in_err-take_change-in-Same.ensures.1 (change_refused g.C.Cut.cut (IsDecided c.args.is_boundary c.args.pair) c.args.pair _ _ _ _ _ _ _ _ _ _ _ i.took (is_same_change c.args.pair.key c.loop.changes.head
           (stands_at c.key.result.now c.loop.pair c.args.pair
           c.loop.changes.head c.standing_of.result standings.Same c.standing_of.ensures
           c.key.ensures.key i.pair c.in-Same.is)) e.err
@@ -78,7 +76,7 @@ returns-in-Same g c =
       advances = advances_on g.I.In.link g.I.In.progress g.I.In.Follows g.met.I.In.goes_on _ _ _
           i.advances e.advances;
       link = e.link ∙ i.link;
-      ok = pair_same g.C.Cut.cut c.args.pair _ _ _ _ _ _ _ _ _ _ _ _ i.took e.ok
+      ok = pair_same g.C.Cut.cut (IsDecided c.args.is_boundary c.args.pair) c.args.pair _ _ _ _ _ _ _ _ _ _ _ _ i.took e.ok
           (stands_at c.key.result.now c.loop.pair c.args.pair
           c.loop.changes.head c.standing_of.result standings.Same c.standing_of.ensures
           c.key.ensures.key i.pair c.in-Same.is) e.got
@@ -86,28 +84,28 @@ returns-in-Same g c =
       err = tt;
     }
 
-pub returns-in_err-take_pair-in-Behind : goal.returns-in_err-take_pair-in-Behind
-returns-in_err-take_pair-in-Behind g c =
+pub returns-in_err-take_decided_pair-in-Behind : goal.returns-in_err-take_decided_pair-in-Behind
+returns-in_err-take_decided_pair-in-Behind g c =
     let i = c.loop.invariant in
-    let e = c.in_err-take_pair-in-Behind.ensures in
+    let e = c.in_err-take_decided_pair-in-Behind.ensures in
     record {
       advances = i.advances;
       link = e.link ∙ i.link;
-      ok = on_err _ _ c.from_residual-in_err-take_pair-in-Behind.ensures.0;
-      err = stops_memory _ _ c.from_residual-in_err-take_pair-in-Behind.ensures.1 (pair_refused
-          g.C.Cut.cut c.args.pair _ _ _ _ _ _ _ _ i.took e.err);
+      ok = on_err _ _ c.from_residual-in_err-take_decided_pair-in-Behind.ensures.0;
+      err = stops_memory _ _ c.from_residual-in_err-take_decided_pair-in-Behind.ensures.1 (pair_refused g.C.Cut.cut (IsDecided c.args.is_boundary c.args.pair) c.args.pair _ _ _ _ _ _ _ _ i.took e.err);
     }
 
 pub returns-in-Behind : goal.returns-in-Behind
 returns-in-Behind g c =
     let i = c.loop.invariant in
-    let e = c.in_ok-take_pair-in-Behind.ensures in
+    let e = c.in_ok-take_decided_pair-in-Behind.ensures in
     record {
       advances = i.advances;
       link = e.link ∙ i.link;
-      ok = pair_behind g.C.Cut.cut c.args.pair _ _ _ _ _ _ _ _ _ i.took
-          (subst (λ p. SendsLeaf g.C.Cut.cut c.loop.level c.take_pair.new.leaves p
-          (g.O.Out.sent c.loop.out) (g.O.Out.sent c.take_pair.new.out)) i.pair e.ok)
+      ok = pair_behind g.C.Cut.cut c.args.pair _ _ _ _ _ _ _ _ _ i.took c.args.is_boundary
+          (subst (λ p. IsDecided c.args.is_boundary p (g.C.Cut.cut c.loop.level.cut) →
+          SendsLeaf g.C.Cut.cut c.loop.level c.take_decided_pair.new.leaves p
+          (g.O.Out.sent c.loop.out) (g.O.Out.sent c.take_decided_pair.new.out)) i.pair e.ok)
           (stands_at c.key.result.now c.loop.pair c.args.pair
           c.loop.changes.head c.standing_of.result standings.Behind c.standing_of.ensures
           c.key.ensures.key i.pair c.in-Behind.is);
@@ -121,7 +119,7 @@ returns-in-Failed g c =
       advances = i.advances;
       link = i.link;
       ok = tt;
-      err = pair_failed g.C.Cut.cut c.args.pair _ _ _ _ _ _ _ c.in-Failed.fault i.took
+      err = pair_failed g.C.Cut.cut (IsDecided c.args.is_boundary c.args.pair) c.args.pair _ _ _ _ _ _ _ c.in-Failed.fault i.took
           (stands_at c.key.result.now c.loop.pair c.args.pair c.loop.changes.head
           c.standing_of.result (standings.Failed c.in-Failed.fault) c.standing_of.ensures
           c.key.ensures.key i.pair c.in-Failed.is);

@@ -11,7 +11,7 @@ loop-key-init g c = record {
     held = c.requires;
   };
   link = refl;
-  took = pairs_init g.C.Cut.cut _ _ _ _ _ (g.met.I.In.received_none c.args.changes.now.input);
+  took = pairs_init g.C.Cut.cut c.args.ends _ _ _ _ _ (g.met.I.In.received_none c.args.changes.now.input);
 }
 
 pub loop-key-preserved : goal.loop-key-preserved
@@ -22,8 +22,9 @@ loop-key-preserved g c =
       advances = advances_on g.I.In.link g.I.In.progress g.I.In.Follows g.met.I.In.goes_on _ _ _
           i.advances e.advances;
       link = e.link ∙ i.link;
-      took = pairs_more g.C.Cut.cut _ _ _ c.in_ok-pair.pair _ _ _ _ _ _ _ _ _ _ _ _ i.took
-          (c.in-Some.ensures.next ∙ ap (λ p. p ∷ c.next.new.self) (sym c.in_ok-pair.ensures)) e.ok
+      took = pairs_more g.C.Cut.cut c.args.ends _ _ _ c.in_ok-pair.pair _ _ _ _ _ _ _ _ _ _ _ _ _ i.took
+          (c.in-Some.ensures.next ∙ ap (λ p. p ∷ c.next.new.self) (sym c.in_ok-pair.ensures))
+          c.closes_leaf-is_boundary.ensures e.ok
           (g.met.I.In.received_both _ _ _ i.advances.follows e.advances.follows);
     }
 
@@ -35,7 +36,7 @@ returns-in_err-pair g c =
       link = i.link;
       ok = on_err _ _ c.from_residual.ensures.0;
       err = stops_memory _ _ c.from_residual.ensures.1
-          (pairs_refused g.C.Cut.cut _ _ _ _ _ _ _ _ _ i.took);
+          (pairs_refused g.C.Cut.cut c.args.ends _ _ _ _ _ _ _ _ _ i.took);
     }
 
 pub returns-in_err-take_old_pair : goal.returns-in_err-take_old_pair
@@ -48,8 +49,9 @@ returns-in_err-take_old_pair g c =
       link = e.link ∙ i.link;
       ok = on_err _ _ c.from_residual-in_err-take_old_pair.ensures.0;
       err = stops_as _ _ _ c.from_residual-in_err-take_old_pair.ensures.1
-          (pairs_stop g.C.Cut.cut _ _ _ c.in_ok-pair.pair _ _ _ _ _ _ _ _ _ _ _ _ i.took
-          (c.in-Some.ensures.next ∙ ap (λ p. p ∷ c.next.new.self) (sym c.in_ok-pair.ensures)) e.err
+          (pairs_stop g.C.Cut.cut c.args.ends _ _ _ c.in_ok-pair.pair _ _ _ _ _ _ _ _ _ _ _ _ _ i.took
+          (c.in-Some.ensures.next ∙ ap (λ p. p ∷ c.next.new.self) (sym c.in_ok-pair.ensures))
+          c.closes_leaf-is_boundary.ensures e.err
           (g.met.I.In.received_both _ _ _ i.advances.follows e.advances.follows));
     }
 
@@ -59,6 +61,6 @@ returns g c =
     record {
       advances = i.advances;
       link = i.link;
-      ok = pairs_all g.C.Cut.cut _ _ _ _ _ _ _ _ _ i.took c.in_default.ensures.next;
+      ok = pairs_all g.C.Cut.cut c.args.ends _ _ _ _ _ _ _ _ _ i.took c.in_default.ensures.next;
       err = tt;
     }

@@ -7,7 +7,7 @@ abbrev pub invariant-loop-key : goal.invariant-loop-key
 invariant-loop-key g l = record {
   advances : Advances g.I.In.link g.I.In.progress g.I.In.Follows l.fn.changes l.changes;
   link : g.O.Out.link l.out ≡ g.O.Out.link l.fn.out;
-  took : PairsLoop g.C.Cut.cut l.fn.pairs l.pairs l.fn.level l.level (g.O.Out.sent l.fn.out)
+  took : PairsLoop g.C.Cut.cut l.ends l.fn.pairs l.pairs l.fn.level l.level (g.O.Out.sent l.fn.out)
       (g.O.Out.sent l.out) l.fn.changes.head (g.I.In.received l.fn.changes.input l.changes.input)
       l.changes.head;
 }
