@@ -40,7 +40,7 @@ above_wanted set x (p ∷ ps) h = go (has_key set p.key) refl (above_wanted set 
     go true e others = rw e (h.0, others)
     go false e others = rw e others
 
-rises_wanted : (set : KeySet) (ps : List Pair) → Rises ps → Rises (pairs_wanted set ps)
+pub rises_wanted : (set : KeySet) (ps : List Pair) → Rises ps → Rises (pairs_wanted set ps)
 rises_wanted set [] h = tt
 rises_wanted set (p ∷ ps) h = go (has_key set p.key) refl (rises_wanted set ps h.1)
   where

@@ -18,3 +18,5 @@ mod Locating
 mod Writing
 -- What is known of a key from the pairs that were shown.
 mod Finding
+-- The pairs that are shown of a list of keys come in its order.
+mod Showing

@@ -2,3 +2,5 @@
 
 -- Chunks of a proof that are taken one after another.
 pub mod Taken
+-- Keys that rise, and where a key splits them.
+pub mod Splits

@@ -1,12 +1,13 @@
 //! The proof of a set of keys, from a file that was checked.
-ghost use Rattle.std.specs.Prelude.{IfErr, OnOk};
+ghost use Rattle.std.specs.Prelude.{[], ◌∷◌, IfErr, OnErr, OnOk};
 ghost use Rattle.prolly_check.specs.Content.{Content};
 ghost use Rattle.prolly_check.specs.Verdict.{IsFileOf};
 ghost use Rattle.prolly_entry.specs.Cut.{sha512_cut};
 ghost use Rattle.prolly_file.specs.Sink.{IsSettled};
 ghost use Rattle.prolly_tree.specs.File.{root_reference};
 ghost use Rattle.prolly_range.specs.KeySet.{set_of};
-ghost use Rattle.prolly_range.specs.Prover.{MayFailTo, TellsSink, WritesProof};
+ghost use Rattle.prolly_range.specs.Prover.{MayFailTo, TellsSink, WritesPart, WritesProof};
+ghost use Rattle.prolly_range.specs.SetProof.{root_due, set_start};
 
 use crate::key_set::KeySet;
 use crate::prove_fault::ProveFault;
@@ -17,7 +18,8 @@ use prolly_root::FileChunks;
 use std::alloc::Global;
 use std::io::Cursor;
 
-/// Writes the proof of what a checked tree has at the keys of the set, and flushes the sink.
+/// Writes the proof of what a checked tree has at the keys of the set, and flushes the sink. What a
+/// fault leaves in the sink is a first part of a proof.
 ///
 /// Takes memory as [`prove_set`](crate::prove_set) does.
 pub fn prove_checked_set<W: Sink>(
@@ -31,6 +33,10 @@ pub fn prove_checked_set<W: Sink>(
         (root_reference (sha512_cut content.bits) content.version content.pairs) (set_of set.entry)
         (W.seen sink.old) (W.seen sink.new)) }
     ensures settled { OnOk result (IsSettled (W.seen sink.new)) }
+    ensures part { (content : Content) → IsFileOf tree.now content →
+        OnErr result (WritesPart content.version (root_due
+        (root_reference (sha512_cut content.bits) content.version content.pairs)
+        (set_of set.entry) ∷ []) (set_start content.version) (W.seen sink.old) (W.seen sink.new)) }
     ensures lawful { (content : Content) → IsFileOf tree.now content → IfErr result MayFailTo }
     ensures writes { TellsSink (W.seen sink.old).failures (W.seen sink.new).failures result }
 {

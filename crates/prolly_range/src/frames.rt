@@ -1,6 +1,6 @@
 //! The frames of a proof, as they come from a source.
 ghost use Rattle.std.specs.Prelude.{◌≡◌, ◌≢◌, ◌↔◌, ◌<◌, ◌≤◌, ◌+◌, ◌^◌, ◌⊎◌, ◌++◌, [], true, false};
-ghost use Rattle.std.specs.Prelude.{length, vec_len, drop, take, None, IfErr, IfOk, IfSome, IsErrOf};
+ghost use Rattle.std.specs.Prelude.{length, vec_len, drop, take, None, IfErr, IfOk, IsErrOf};
 ghost use Rattle.std.specs.Prelude.{OnOk};
 ghost use Rattle.std.specs.Int.{w64, from_be_bytes};
 ghost use Rattle.prolly_range.specs.Frames.{IsFrameOf, IsNoFrame};
@@ -42,26 +42,27 @@ pub(crate) fn next_frame<S: Source>(
     if is_over {
         return Err(SetFault::Proof(ProofFault::Truncated));
     }
-    let Some(size) = frame_size(&bytes) else {
-        return Err(SetFault::Memory);
-    };
-    let _ = read_up_to(source, part, &mut bytes, size)?;
+    let size = frame_size(&bytes);
+    if read_up_to(source, part, &mut bytes, size)? {
+        return Err(SetFault::Proof(ProofFault::Truncated));
+    }
     match frame_at(&bytes) {
         Some(_) => Ok(bytes),
-        None => Err(SetFault::Proof(ProofFault::Truncated)),
+        // The frame is longer than any memory, and this much of it came.
+        None => Err(SetFault::Memory),
     }
 }
 
-/// The size of the frame that these bytes begin, as they say it; none where no memory has so many
-/// bytes.
-fn frame_size(start: &[u8]) -> Option<usize>
+/// The size of the frame that these bytes begin, as they say it, or the greatest number where that
+/// is greater.
+fn frame_size(start: &[u8]) -> usize
     requires { FRAME_START ≤ length start.now }
-    ensures { IfSome result (λ size.
-        size ≡ FRAME_START + from_be_bytes w64 (take 8 (drop 1 start.now))) }
+    ensures least { FRAME_START ≤ result }
+    ensures most { result ≤ FRAME_START + from_be_bytes w64 (take 8 (drop 1 start.now)) }
 {
     let mut len = [0; 8];
     len.copy_from_slice(&start[1..FRAME_START]);
-    FRAME_START.checked_add(u64::from_be_bytes(len) as usize)
+    FRAME_START.saturating_add(u64::from_be_bytes(len) as usize)
 }
 
 /// Reads on until there are so many bytes, or the source is at its end. Answers whether it is. Reads

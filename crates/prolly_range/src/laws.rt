@@ -1,6 +1,6 @@
 //! Laws of proofs of sets of keys. They are the contract of a function that does nothing: to call it
 //! is to know the laws, and to prove the crate is to prove them.
-ghost use Rattle.prolly_range.specs.Found.{KeysAreFound};
+ghost use Rattle.prolly_range.specs.Found.{KeysAreFound, ShownInOrder};
 ghost use Rattle.prolly_range.specs.SetProof.{SetProofsAreRight, TakenAreRight};
 
 use prolly_check::laws::tops_are_read;
@@ -19,4 +19,9 @@ pub fn set_proofs_are_right()
 /// shown whose key is not less, or all were.
 pub fn keys_are_found()
     ensures { KeysAreFound }
+{}
+
+/// What chunks show of a list of keys comes in the order of the list, whatever the chunks are.
+pub fn shown_in_order()
+    ensures { ShownInOrder }
 {}

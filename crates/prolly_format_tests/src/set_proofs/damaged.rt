@@ -15,6 +15,9 @@ const FROM: &[u8] = b"b";
 
 const TO: &[u8] = b"e";
 
+/// How many bytes a proof begins with.
+const START_SIZE: usize = 5;
+
 /// More frames than any of these proofs has.
 const MOST_FRAMES: usize = 100;
 
@@ -81,6 +84,22 @@ fn refuses_each_part_that_ends_early(rt: HostRuntime) -> Result<(), Fail> {
             proof[..len].to_vec(alloc)?,
             ProofFault::Truncated,
         )?;
+    }
+    Ok(())
+}
+
+/// Lengths of frames that no proof is as long as.
+const GREAT_LENGTHS: &[u64] = &[1 << 40, 1 << 63, u64::MAX - 9, u64::MAX - 8, u64::MAX];
+
+#[test]
+fn tells_a_frame_of_a_great_length_as_cut_short(rt: HostRuntime) -> Result<(), Fail> {
+    let alloc = rt.alloc();
+    let tree = Tree::of(alloc, Version::One, 0, KEYS)?;
+    let proof = tree.proof(&rt, alloc, range(FROM, Some(TO)))?;
+    let (start, rest) = proof.split_at(START_SIZE + 1);
+    for len in GREAT_LENGTHS {
+        let changed = joined(alloc, &[start, &len.to_be_bytes(), &rest[8..]])?;
+        expect_fault(&rt, alloc, &tree, changed, ProofFault::Truncated)?;
     }
     Ok(())
 }
