@@ -1,6 +1,6 @@
-//! The commands, each over the files that it names. What the words alone decide is told first; then
-//! input files are opened in the order of the words, and then the output is made, before anything
-//! is read.
+//! The commands, each over the files that it names. What the words alone decide is told first; then a
+//! file of keys is read, since it stands for words; then input files are opened in the order of the
+//! words, and then the output is made, before anything else is read.
 mod apply;
 mod build;
 mod diff;
@@ -131,6 +131,24 @@ fn answer_or_refusal<T: Wait + Threads + Clock + Sync>(
                 notation,
             )
         }
+        Command::GetKeys {
+            file,
+            keys,
+            root,
+            version,
+            notation,
+        } => {
+            let version = Version::of(version).unwrap();
+            look_up::get_keys(
+                rt,
+                &on_all_processors(threads),
+                &file,
+                &keys,
+                root,
+                version,
+                notation,
+            )
+        }
         Command::Scan {
             file,
             from,
@@ -222,6 +240,7 @@ fn answer_or_refusal<T: Wait + Threads + Clock + Sync>(
             root,
             version,
             out,
+            notation,
             mode,
         } => {
             let version = Version::of(version).unwrap();
@@ -233,6 +252,7 @@ fn answer_or_refusal<T: Wait + Threads + Clock + Sync>(
                 version,
                 &sought,
                 &out,
+                notation,
                 mode,
             )
         }

@@ -4,7 +4,7 @@ use crate::refusal::Refusal;
 use prolly_check::CheckFault;
 use prolly_file::{Blocks, FromRead, FromSeek};
 use prolly_root::FileChunks;
-use prolly_tool::{Fault, INPUT_LIMIT, NameFault};
+use prolly_tool::{Fault, INPUT_LIMIT, NameFault, Notation, read_keys};
 use std::fs;
 use std::fs::File;
 use std::os::unix::fs::FileExt;
@@ -77,6 +77,22 @@ impl Input {
 /// The chunk file of this name, to be read whole.
 pub fn chunk_file(rt: &HostRuntime, name: &str) -> Result<FromRead<File>, Refusal> {
     Input::open(rt, name)?.into_chunk_file(rt)
+}
+
+/// The keys that the lines of the file of this name stand for, where it is not the one that is to be
+/// written.
+pub fn listed_keys(
+    rt: &HostRuntime,
+    name: &str,
+    notation: Notation,
+    output: Found,
+) -> Result<Vec<Vec<u8>>, Refusal> {
+    let input = Input::open_beside(rt, name, output)?;
+    let mut source = input.into_whole(rt, Fault::InputTooLong)?;
+    match read_keys(rt.alloc(), notation, &mut source) {
+        Ok(keys) => Ok(keys),
+        Err(fault) => Err(Refusal::of_fault(rt, fault)),
+    }
 }
 
 /// The chunks of a file of which any part is read, by blocks where the parts are short.

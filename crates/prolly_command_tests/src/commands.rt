@@ -118,6 +118,15 @@ const COMMANDS: &str = "\
     prove --format 2 a.prl 61 a.prf --root 00000000000000000000000000000000 => prove \
      (\"a.prl\", Key([97]), Some(Ref([0, 0, 0, 0, 0, 0, 0, 0, 0, 0, 0, 0, 0, 0, 0, 0, 0, \
      0, 0, 0])), 2, \"a.prf\", WriteMode { atomic: false, sync: false, force: false })\n\
+    get --keys k a.prl => get keys (\"a.prl\", \"k\", None, 1, Hex)\n\
+    get a.prl --text --keys=k --format 2 --root 00000000000000000000000000000000 => get keys \
+     (\"a.prl\", \"k\", Some(Ref([0, 0, 0, 0, 0, 0, 0, 0, 0, 0, 0, 0, 0, 0, 0, 0, 0, 0, 0, 0])), \
+     2, Text)\n\
+    prove --keys k a.prl a.prf => prove (\"a.prl\", Keys(\"k\"), None, 1, \"a.prf\", \
+     WriteMode { atomic: false, sync: false, force: false })\n\
+    verify vvvvvvvvvvvvvvvvvvvvvvvvvvvvvvvv --keys k a.prf => verify (Ref([255, 255, 255, 255, \
+     255, 255, 255, 255, 255, 255, 255, 255, 255, 255, 255, 255, 255, 255, 255, 255]), \
+     Keys(\"k\"), 1, Some(\"a.prf\"), Hex)\n\
     prove --from 61 a.prl a.prf => prove (\"a.prl\", Range { from: [97], to: None }, None, \
      1, \"a.prf\", WriteMode { atomic: false, sync: false, force: false })\n\
     prove --text a.prl --to b a.prf --sync --from a => prove (\"a.prl\", Range { from: \
@@ -211,6 +220,13 @@ fn reader(alloc: Global, command: &Command) -> Result<String, AllocError> {
             version,
             notation,
         } => told(alloc, "get", &(file, key, root, version, notation)),
+        Command::GetKeys {
+            file,
+            keys,
+            root,
+            version,
+            notation,
+        } => told(alloc, "get keys", &(file, keys, root, version, notation)),
         Command::Scan {
             file,
             from,
@@ -262,6 +278,7 @@ fn writer(alloc: Global, command: &Command) -> Result<String, AllocError> {
             version,
             out,
             mode,
+            ..
         } => told(alloc, "prove", &(file, sought, root, version, out, mode)),
         Command::Verify {
             root,

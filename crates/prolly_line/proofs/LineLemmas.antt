@@ -20,15 +20,15 @@ use Rattle.prolly_line.specs.Line.{line_faults, line_given, program_line}
 use Rattle.prolly_line.specs.declared.command.Command.{Command}
 use Rattle.prolly_line.specs.declared.command.Command.TheVariants.{Pack, Scratch, Build, Apply}
 use Rattle.prolly_line.specs.declared.command.Command.TheVariants.{Explain, Check, Root, Stat, Get}
-use Rattle.prolly_line.specs.declared.command.Command.TheVariants.{Scan, Nth, Dump, Diff, Prove}
-use Rattle.prolly_line.specs.declared.command.Command.TheVariants.{Verify}
+use Rattle.prolly_line.specs.declared.command.Command.TheVariants.{GetKeys, Scan, Nth, Dump, Diff}
+use Rattle.prolly_line.specs.declared.command.Command.TheVariants.{Prove, Verify}
 use Rattle.prolly_line.specs.declared.command.ParseFault.{ParseFault}
 use Rattle.prolly_line.specs.declared.command.RootPair.{RootPair}
 use Rattle.prolly_line.specs.declared.command.ParseFault.TheVariants.{Memory, Usage, Help}
 use Rattle.prolly_line.specs.declared.command.ParseFault.TheVariants.{BadRoot, LoneRoot, BadKey}
 use Rattle.prolly_line.specs.declared.command.ParseFault.TheVariants.{BadTextKey}
 use Rattle.prolly_line.specs.declared.command.Sought.{Sought}
-use Rattle.prolly_line.specs.declared.command.Sought.TheVariants.{Key, Range}
+use Rattle.prolly_line.specs.declared.command.Sought.TheVariants.{Key, Keys, Range}
 use Rattle.prolly_text.specs.declared.notation.Notation.{Notation}
 
 -- ---- clap's model holds of the line
@@ -140,9 +140,10 @@ lawful_trust rows (Some root) version h = (h.0.1, h.1.1, h.1.2)
 -- so is what is sought
 lawful_sought : (rows : List Row) (notation : Notation) (sought : Sought) →
     GivesSought rows notation sought → IsLawfulSought sought
-lawful_sought rows notation (Key key) h = h.1.1.2.1
-lawful_sought rows notation (Range from None) h = (h.0.1.2.1, tt)
-lawful_sought rows notation (Range from (Some to)) h = (h.0.1.2.1, h.1.1.2.1)
+lawful_sought rows notation (Key key) h = h.2.1.2.1
+lawful_sought rows notation (Range from None) h = (h.1.1.2.1, tt)
+lawful_sought rows notation (Range from (Some to)) h = (h.1.1.2.1, h.2.1.2.1)
+lawful_sought rows notation (Keys keys) h = tt
 
 -- so are the roots of two trees
 lawful_roots : (rows : List Row) (roots : Option RootPair) → MayGiveRoots rows roots →
@@ -183,15 +184,16 @@ limits_kept given (Ok command) fields = go command fields
     go (Root file) h = tt
     go (Stat file json notation) h = tt
     go (Get file key root version notation) h =
-        (h.2.1.2.1, lawful_trust given.1 root version h.3)
+        (h.3.1.2.1, lawful_trust given.1 root version h.4)
+    go (GetKeys file keys root version notation) h = lawful_trust given.1 root version h.5
     go (Scan file from limit root version notation) h =
         (h.2.1.2.1, h.3.2, lawful_trust given.1 root version h.4)
     go (Nth file n root version notation) h = (h.2.2, lawful_trust given.1 root version h.3)
     go (Dump file root version out lines mode) h = lawful_trust given.1 root version h.2
     go (Diff old new roots version out stat notation mode) h =
         (lawful_roots given.1 roots h.3, h.4.1, h.4.2)
-    go (Prove file sought root version out mode) h = (
-      lawful_sought given.1 h.2.0 sought h.2.1,
+    go (Prove file sought root version out notation mode) h = (
+      lawful_sought given.1 notation sought h.2,
       lawful_trust given.1 root version h.3,
     )
     go (Verify root sought version proof notation) h =

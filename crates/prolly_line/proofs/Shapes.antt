@@ -258,7 +258,6 @@ get_sound = all_sound get_shape.rules refl
 pub record TakesGet (rows : List Row) : Type 0 where
   pub format : HasNumber (codes "format") 1 2 rows
   pub file : HasWord (codes "file") rows
-  pub key : HasWord (codes "key") rows
 
 pub takes_get : (rows : List Row) → IsAccepted (codes "get", rows) → TakesGet rows
 unfolding clap_on_literals get_shape
@@ -267,7 +266,6 @@ takes_get rows accepted =
     record {
       format = number_at get_shape rows (codes "format") 1 2 get_sound level refl refl;
       file = word_at get_shape rows (codes "file") get_sound level refl refl;
-      key = word_at get_shape rows (codes "key") get_sound level refl refl;
     }
 
 -- ---- scan

@@ -1,6 +1,6 @@
 -- What the getters of clap's matches give, by the rows of the subcommand.
 use Rattle.std.proofs.Common.{◌<◌, ◌≤◌, ◌^◌, ◌≡◌, ◌∙◌, ℕ, List, Option, Some, None, refl, sym, ap}
-use Rattle.std.proofs.Common.{subst, arith, option_map, true, false, inl, inr}
+use Rattle.std.proofs.Common.{subst, arith, option_map, string_bytes, true, false, inl, inr, codes}
 use Rattle.std.specs.Prelude.{is_some}
 use Rattle.std.specs.Prelude.{Result, Ok}
 use Rattle.std.specs.Borrow.{Bor}
@@ -11,11 +11,16 @@ use Rattle.clap.specs.Words.{Row, Text, first_of, one_text, rows_of, without_min
 use Rattle.clap.specs.declared.parser.matches.Found.{Found}
 use Rattle.clap.proofs.CallerReads.{signed_reads}
 use Rattle.clap.proofs.WalkLemmas.{first_value-rows, one_text-rows}
-use Rattle.prolly_line.specs.AcceptedWords.{DoFit, HasNumber, HasWord, MayReadNumber, ReadsNumber}
-use Rattle.prolly_line.specs.GivenCommand.{GivesSought, MayGiveNumber, decimal_of, number_given}
-use Rattle.prolly_line.specs.GivenCommand.{place_of_last}
+use Rattle.prolly_entry.specs.declared.reference.Ref.{Ref}
+use Rattle.prolly_line.specs.AcceptedWords.{DoFit, HasNumber, HasWord, IsRefusedAt, IsRefusedSought}
+use Rattle.prolly_line.specs.AcceptedWords.{MayReadNumber, ReadsNumber}
+use Rattle.prolly_line.specs.GivenCommand.{GivesSought, HasMisfit, IsWordFault, MayGiveNumber}
+use Rattle.prolly_line.specs.GivenCommand.{MayGiveRoot, decimal_of, number_given, place_of_last}
+use Rattle.prolly_line.specs.declared.command.ParseFault.{ParseFault}
+use Rattle.prolly_line.specs.declared.command.ParseFault.TheVariants.{BadKey, BadRoot, BadTextKey}
+use Rattle.prolly_line.specs.declared.command.ParseFault.TheVariants.{Help, LoneRoot, Memory, Usage}
 use Rattle.prolly_line.specs.declared.command.Sought.{Sought}
-use Rattle.prolly_line.specs.declared.command.Sought.TheVariants.{Key, Range}
+use Rattle.prolly_line.specs.declared.command.Sought.TheVariants.{Key, Keys, Range}
 use Rattle.prolly_text.specs.declared.notation.Notation.{Notation}
 
 -- a typed getter gives a number where a numeral in its range stands under the name
@@ -105,5 +110,29 @@ word_given f id (Some s) e = (λ yes. (s.now, sym (first_value-rows f id) ∙ sy
 pub last_there : (rows : List Row) (notation : Notation) (sought : Sought) (last : Text) →
     DoFit last true rows → GivesSought rows notation sought →
     HasWord (place_of_last sought last) rows
-last_there rows notation (Key key) last fit h = fit.last_word h.0 refl
-last_there rows notation (Range from to) last fit h = fit.in_place (h.0.1.0, h.0.1.1) refl
+last_there rows notation (Key key) last fit h = fit.last_word h.0 h.1 refl
+last_there rows notation (Range from to) last fit h =
+    fit.in_place (inl (h.1.1.0, h.1.1.1)) refl
+last_there rows notation (Keys keys) last fit h = fit.in_place (inr (string_bytes keys, h.0)) refl
+
+-- a word for what is sought is refused of `prove` where its root is none or good
+pub prove_refused : (rows : List Row) (root : Option Ref) (fault : ParseFault) →
+    MayGiveRoot rows root → IsRefusedSought rows fault → IsRefusedAt (codes "prove", rows) fault
+prove_refused rows root Memory has bad = tt
+prove_refused rows root (Usage text) has bad = absurd bad
+prove_refused rows root (Help text) has bad = absurd bad
+prove_refused rows root BadRoot has bad = absurd bad
+prove_refused rows root LoneRoot has bad = absurd bad
+prove_refused rows root BadKey has bad = inr (inl (refl, (root, has)), bad)
+prove_refused rows root BadTextKey has bad = inr (inl (refl, (root, has)), bad)
+
+-- words that do not fit are told as usage
+pub misfit_refused : (given : Text × List Row) (fault : ParseFault) → HasMisfit given →
+    IsWordFault fault → IsRefusedAt given fault
+misfit_refused given Memory misfit told = tt
+misfit_refused given (Usage text) misfit told = misfit
+misfit_refused given (Help text) misfit told = absurd told
+misfit_refused given BadRoot misfit told = absurd told
+misfit_refused given LoneRoot misfit told = absurd told
+misfit_refused given BadKey misfit told = absurd told
+misfit_refused given BadTextKey misfit told = absurd told

@@ -10,6 +10,7 @@ use Rattle.prolly_line.specs.GivenCommand.{GivesBadKey, GivesBadKeyAs, GivesBadR
 use Rattle.prolly_line.specs.GivenCommand.{GivesBadSought, GivesNumber, HasBadKey, HasMisfit}
 use Rattle.prolly_line.specs.GivenCommand.{HasNone}
 pub use Rattle.prolly_line.specs.GivenCommand.{HasWord}
+use Rattle.prolly_line.specs.GivenCommand.{HasSet}
 use Rattle.prolly_line.specs.GivenCommand.{GivesBadPair, GivesLoneRoot, HasBadRoot, HasLoneRoot}
 use Rattle.prolly_line.specs.GivenCommand.{HasFields, MayGiveNumber, MayGiveRoot}
 use Rattle.prolly_line.specs.declared.command.Command.{Command}
@@ -49,13 +50,20 @@ MayReadNumber bound name rows n =
     (least most : ℕ) → most ≤ bound → MayHaveNumber name least most rows
     → MayGiveNumber rows name least most n
 
--- what follows of words that fit where a key or a range is sought
+-- what follows of words that fit where a key, a range or a list of keys is sought
 pub record DoFit (last : Text) (needs_last : Bool) (rows : List Row) : Type 0 where
+  pub key : HasNone (codes "keys") rows → HasNone (codes "from") rows → HasWord (codes "key") rows
+  pub last_word : HasNone (codes "keys") rows → HasNone (codes "from") rows → needs_last ≡ true →
+      HasWord last rows
   pub no_to : HasNone (codes "from") rows → HasNone (codes "to") rows
-  pub key : HasNone (codes "from") rows → HasWord (codes "key") rows
-  pub last_word : HasNone (codes "from") rows → needs_last ≡ true → HasWord last rows
-  pub no_last : HasWord (codes "from") rows → HasNone last rows
-  pub in_place : HasWord (codes "from") rows → needs_last ≡ true → HasWord (codes "key") rows
+  pub no_last : HasSet rows → HasNone last rows
+  pub in_place : HasSet rows → needs_last ≡ true → HasWord (codes "key") rows
+  pub no_range : HasWord (codes "keys") rows → HasNone (codes "from") rows
+
+-- what follows of words that fit where a key or a list of keys is sought
+pub record DoesKeyFit (rows : List Row) : Type 0 where
+  pub key : HasNone (codes "keys") rows → HasWord (codes "key") rows
+  pub no_key : HasWord (codes "keys") rows → HasNone (codes "key") rows
 
 -- an accepted subcommand is refused in this way
 abbrev pub IsRefusedAt : Text × List Row → ParseFault → Type 0

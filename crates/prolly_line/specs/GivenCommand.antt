@@ -18,10 +18,10 @@ use Rattle.prolly_line.specs.declared.command.Command.{Command}
 use Rattle.prolly_line.specs.declared.command.WriteMode.{WriteMode}
 use Rattle.prolly_line.specs.declared.command.Command.TheVariants.{Pack, Scratch, Build, Apply}
 use Rattle.prolly_line.specs.declared.command.Command.TheVariants.{Explain, Check, Root, Stat, Get}
-use Rattle.prolly_line.specs.declared.command.Command.TheVariants.{Scan, Nth, Dump, Diff, Prove}
-use Rattle.prolly_line.specs.declared.command.Command.TheVariants.{Verify}
+use Rattle.prolly_line.specs.declared.command.Command.TheVariants.{GetKeys, Scan, Nth, Dump, Diff}
+use Rattle.prolly_line.specs.declared.command.Command.TheVariants.{Prove, Verify}
 use Rattle.prolly_line.specs.declared.command.Sought.{Sought}
-use Rattle.prolly_line.specs.declared.command.Sought.TheVariants.{Key, Range}
+use Rattle.prolly_line.specs.declared.command.Sought.TheVariants.{Key, Keys, Range}
 use Rattle.prolly_line.specs.declared.command.ParseFault.{ParseFault}
 use Rattle.prolly_line.specs.declared.command.RootPair.{RootPair}
 use Rattle.prolly_line.specs.declared.command.ParseFault.TheVariants.{Memory, Usage, Help}
@@ -125,26 +125,33 @@ HasNone name rows = first_of name rows ≡ None
 abbrev pub HasWord : Text → List Row → Type 0
 HasWord name rows = (text : Text) × (first_of name rows ≡ Some text)
 
--- what is sought: the key, where there is no `--from`, and else the range from the key that this gives
--- to the one that `--to` gives, or without an end where there is no `--to`
+-- a range, or a list of keys, stands in the place of a key
+abbrev pub HasSet : List Row → Type 0
+HasSet rows = HasWord (codes "from") rows ⊎ HasWord (codes "keys") rows
+
+-- what is sought: the keys of the file that `--keys` names; without it the range from the key that
+-- `--from` gives to the one that `--to` gives, or without an end where there is no `--to`; and the key,
+-- where there is neither
 abbrev pub GivesSought : List Row → Notation → Sought → Type 0
-GivesSought rows notation (Key key) =
-    HasNone (codes "from") rows × GivesKey rows notation key.items
-GivesSought rows notation (Range from to) =
-    GivesKeyAs (codes "from") rows notation from.items
+GivesSought rows notation (Key key) = HasNone (codes "keys") rows × HasNone (codes "from") rows
+    × GivesKey rows notation key.items
+GivesSought rows notation (Range from to) = HasNone (codes "keys") rows
+    × GivesKeyAs (codes "from") rows notation from.items
     × MayGiveKeyAs (codes "to") rows notation to
+GivesSought rows notation (Keys keys) =
+    GivesWord rows (codes "keys") (string_bytes keys) × GivesNotation rows notation
 
 -- the name under which the last word stands: it stands behind a key, and in the place of the key where
--- a range is sought
+-- a range or a list of keys is sought
 abbrev pub place_of_last : Sought → Text → Text
 place_of_last (Key key) last = last
 place_of_last (Range from to) last = codes "key"
+place_of_last (Keys keys) last = codes "key"
 
--- the last word, and where a range is sought there is none behind it
+-- the last word, and where there is no key there is none behind it
 abbrev pub GivesLast : Sought → Text → List Row → Option Text → Type 0
 GivesLast sought last rows word =
-    GivesOption rows (place_of_last sought last) word
-    × (HasWord (codes "from") rows → HasNone last rows)
+    GivesOption rows (place_of_last sought last) word × (HasSet rows → HasNone last rows)
 
 -- one of the keys of a range is no text of a key in this notation, which the words give; the end of
 -- the range only where the other one is
@@ -153,15 +160,23 @@ GivesBadRange rows notation = GivesBadKeyAs (codes "from") rows notation
     ⊎ (((from : List ℕ) × GivesKeyAs (codes "from") rows notation from)
     × GivesBadKeyAs (codes "to") rows notation)
 
--- the words do not fit where a key or a range is sought, and behind a key stands a word that goes by
--- the name `last`, which may be needed: there is neither a key nor a `--from`, or a `--to` without
--- that; or the last word is missing; or beside `--from` there is a word too many
+-- the words do not fit where a key, a range or a list of keys is sought, and behind a key stands a word
+-- that goes by the name `last`, which may be needed: there is no key, no `--from` and no `--keys`, or a
+-- `--to` without a `--from`; or the last word is missing; or where there is no key there is a word too
+-- many; or there is a range beside `--keys`
 abbrev pub AreMisfit : Text → Bool → List Row → Type 0
 AreMisfit last needs_last rows =
-    (HasNone (codes "from") rows × (HasWord (codes "to") rows ⊎ HasNone (codes "key") rows
+    ((HasNone (codes "keys") rows × HasNone (codes "from") rows)
+    × (HasWord (codes "to") rows ⊎ HasNone (codes "key") rows
     ⊎ ((needs_last ≡ true) × HasNone last rows)))
-    ⊎ (HasWord (codes "from") rows × (HasWord last rows
-    ⊎ ((needs_last ≡ true) × HasNone (codes "key") rows)))
+    ⊎ (HasSet rows × (HasWord last rows ⊎ ((needs_last ≡ true) × HasNone (codes "key") rows)))
+    ⊎ (HasWord (codes "keys") rows × (HasWord (codes "from") rows ⊎ HasWord (codes "to") rows))
+
+-- the words do not fit where a key or a list of keys is sought, and no word stands behind the key: there
+-- is neither, or there are both
+abbrev pub IsMisfitKey : List Row → Type 0
+IsMisfitKey rows = (HasNone (codes "keys") rows × HasNone (codes "key") rows)
+    ⊎ (HasWord (codes "keys") rows × HasWord (codes "key") rows)
 
 -- how a bad word for a key is told
 abbrev pub bad_key : Notation → ParseFault
@@ -277,7 +292,15 @@ HasFields (Stat file json notation) given =
 HasFields (Get file key root version notation) given =
     (given.0 ≡ codes "get")
     × GivesWord given.1 (codes "file") (string_bytes file)
+    × HasNone (codes "keys") given.1
     × GivesKey given.1 notation key.items
+    × GivesTrust given.1 root version
+HasFields (GetKeys file keys root version notation) given =
+    (given.0 ≡ codes "get")
+    × GivesWord given.1 (codes "file") (string_bytes file)
+    × GivesWord given.1 (codes "keys") (string_bytes keys)
+    × HasNone (codes "key") given.1
+    × GivesNotation given.1 notation
     × GivesTrust given.1 root version
 HasFields (Scan file from limit root version notation) given =
     (given.0 ≡ codes "scan")
@@ -308,10 +331,10 @@ HasFields (Diff old new roots version out stat notation mode) given =
     × GivesFlag given.1 (codes "stat") stat
     × GivesNotation given.1 notation
     × GivesMode given.1 mode
-HasFields (Prove file sought root version out mode) given =
+HasFields (Prove file sought root version out notation mode) given =
     (given.0 ≡ codes "prove")
     × GivesWord given.1 (codes "file") (string_bytes file)
-    × ((notation : Notation) × GivesSought given.1 notation sought)
+    × GivesSought given.1 notation sought
     × GivesTrust given.1 root version
     × GivesLast sought (codes "out") given.1 (Some (string_bytes out))
     × GivesMode given.1 mode
@@ -342,6 +365,7 @@ abbrev pub IsLawfulSought : Sought → Type 0
 IsLawfulSought (Key key) = length key.items ≤ 1024
 IsLawfulSought (Range from to) =
     (length from.items ≤ 1024) × IfSome to (λ to. length to.items ≤ 1024)
+IsLawfulSought (Keys keys) = ⊤
 
 -- the numbers of the command, and the lengths of its keys, are within their limits, and its root is
 -- a reference
@@ -365,6 +389,7 @@ IsWithinLimits (Root file) = ⊤
 IsWithinLimits (Stat file json notation) = ⊤
 IsWithinLimits (Get file key root version notation) =
     (length key.items ≤ 1024) × IsLawfulTrust root version
+IsWithinLimits (GetKeys file keys root version notation) = IsLawfulTrust root version
 IsWithinLimits (Scan file from limit root version notation) =
     (length from.items ≤ 1024) × (limit ≤ 1000000) × IsLawfulTrust root version
 IsWithinLimits (Nth file n root version notation) =
@@ -372,7 +397,7 @@ IsWithinLimits (Nth file n root version notation) =
 IsWithinLimits (Dump file root version out lines mode) = IsLawfulTrust root version
 IsWithinLimits (Diff old new roots version out stat notation mode) =
     AreLawfulRoots roots × (1 ≤ version) × (version ≤ 2)
-IsWithinLimits (Prove file sought root version out mode) =
+IsWithinLimits (Prove file sought root version out notation mode) =
     IsLawfulSought sought × IsLawfulTrust root version
 IsWithinLimits (Verify root sought version proof notation) =
     IsReference root.0 × IsLawfulSought sought × (1 ≤ version) × (version ≤ 2)
@@ -402,27 +427,28 @@ abbrev pub ReadsKey : Text × List Row → Type 0
 ReadsKey given = ((given.0 ≡ codes "get") ⊎ (given.0 ≡ codes "scan"))
     × ((root : Option Ref) × MayGiveRoot given.1 root)
 
--- the same of one that takes a key or a range
+-- the same of one that takes a key, a range or a list of keys
 abbrev pub ReadsSought : Text × List Row → Type 0
 ReadsSought given =
     ((given.0 ≡ codes "prove") × ((root : Option Ref) × MayGiveRoot given.1 root))
     ⊎ ((given.0 ≡ codes "verify") × ((root : List ℕ) × GivesRoot given.1 root))
 
 -- the word for the key is no text of one where there is no `--from`, or one of those for the keys of
--- a range
+-- a range; and there is no `--keys`
 abbrev pub GivesBadSought : List Row → Notation → Type 0
-GivesBadSought rows notation = (HasNone (codes "from") rows × GivesBadKey rows notation)
-    ⊎ GivesBadRange rows notation
+GivesBadSought rows notation = HasNone (codes "keys") rows
+    × ((HasNone (codes "from") rows × GivesBadKey rows notation) ⊎ GivesBadRange rows notation)
 
--- the subcommand takes a key or a range, a word for a key is no text of one, and no word before is bad
+-- the subcommand takes a key, a word for a key is no text of one, and no word before is bad
 abbrev pub HasBadKey : Text × List Row → Notation → Type 0
 HasBadKey given notation = (ReadsKey given × GivesBadKey given.1 notation)
     ⊎ (ReadsSought given × GivesBadSought given.1 notation)
 
--- the subcommand takes a key or a range, and its words do not fit
+-- the subcommand takes a key, or a set of keys in its place, and its words do not fit
 abbrev pub HasMisfit : Text × List Row → Type 0
 HasMisfit given = ((given.0 ≡ codes "prove") × AreMisfit (codes "out") true given.1)
     ⊎ ((given.0 ≡ codes "verify") × AreMisfit (codes "proof") false given.1)
+    ⊎ ((given.0 ≡ codes "get") × IsMisfitKey given.1)
 
 -- an error of clap's of this kind is what the words ask for: help, or the version
 abbrev pub IsAskedFor : ErrorKind → Type 0

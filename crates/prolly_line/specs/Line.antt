@@ -85,6 +85,9 @@ from_option = option_rule (codes "from")
 abbrev pub to_option : Rule
 to_option = option_rule (codes "to")
 
+abbrev pub keys_option : Rule
+keys_option = option_rule (codes "keys")
+
 abbrev pub old_root_option : Rule
 old_root_option = option_rule (codes "old-root")
 
@@ -174,9 +177,9 @@ with_trust app = with_rule (with_rule app root_option) format_option
 abbrev pub with_roots : App → App
 with_roots app = with_rule (with_rule (with_rule app old_root_option) new_root_option) format_option
 
--- the options that give a range in place of a key
+-- the options that give a range, or many keys, in place of a key
 abbrev pub with_range : App → App
-with_range app = with_rule (with_rule app from_option) to_option
+with_range app = with_rule (with_rule (with_rule app from_option) to_option) keys_option
 
 -- `NAME [--text] [--root ROOT] [--format V] FILE`, a look-up in a file, or by a root that it trusts
 abbrev pub look_up_line : Text → App
@@ -224,9 +227,10 @@ abbrev pub stat_line : App
 stat_line = with_rule (with_rule (with_rule (new_app (codes "stat")) text_flag) json_flag)
     file_word
 
--- `get [--text] [--root ROOT] [--format V] FILE KEY`
+-- `get [--text] [--root ROOT] [--format V] [--keys FILE] FILE [KEY]`
 abbrev pub get_line : App
-get_line = with_rule (look_up_line (codes "get")) key_word
+get_line = with_rule (with_rule (with_rule (with_trust (with_rule (new_app (codes "get"))
+    text_flag)) keys_option) file_word) optional_key_word
 
 -- `scan [--text] [--root ROOT] [--format V] FILE KEY LIMIT`
 abbrev pub scan_line : App
@@ -247,13 +251,13 @@ abbrev pub diff_line : App
 diff_line = with_rule (with_rule (with_mode (with_rule (with_roots (with_rule (with_rule
     (new_app (codes "diff")) text_flag) stat_flag)) out_option)) old_word) new_word
 
--- `prove [--text] [--root ROOT] [--format V] [--from KEY] [--to KEY] [--atomic] [--sync] [--force]
--- FILE [KEY] [OUT]`
+-- `prove [--text] [--root ROOT] [--format V] [--from KEY] [--to KEY] [--keys FILE] [--atomic]
+-- [--sync] [--force] FILE [KEY] [OUT]`
 abbrev pub prove_line : App
 prove_line = with_rule (with_rule (with_rule (with_mode (with_range (with_trust (with_rule
     (new_app (codes "prove")) text_flag)))) file_word) optional_key_word) optional_out_word
 
--- `verify [--text] [--format V] [--from KEY] [--to KEY] ROOT [KEY] [PROOF]`
+-- `verify [--text] [--format V] [--from KEY] [--to KEY] [--keys FILE] ROOT [KEY] [PROOF]`
 abbrev pub verify_line : App
 verify_line = with_rule (with_rule (with_rule (with_range (with_rule (with_rule
     (new_app (codes "verify")) text_flag) format_option)) root_word) optional_key_word) proof_word

@@ -2,7 +2,8 @@
 ghost use Rattle.prolly_line.specs.Line.{atomic_flag, batch_option, bits_option, capacity_option};
 ghost use Rattle.prolly_line.specs.Line.{file_word, files_words, flag, force_flag, format_option};
 ghost use Rattle.prolly_line.specs.Line.{from_option, optional_key_word, to_option};
-ghost use Rattle.prolly_line.specs.Line.{hex_flag, json_flag, key_word, limit_word, quiet_flag};
+ghost use Rattle.prolly_line.specs.Line.{hex_flag, json_flag, key_word, keys_option, limit_word};
+ghost use Rattle.prolly_line.specs.Line.{quiet_flag};
 ghost use Rattle.prolly_line.specs.Line.{removals_flag};
 ghost use Rattle.prolly_line.specs.Line.{max_records_option, n_word, number_option, number_word};
 ghost use Rattle.prolly_line.specs.Line.{changes_words, old_bits_option, old_format_option};
@@ -199,6 +200,16 @@ pub(crate) fn to_option<'a>(alloc: Global) -> Arg<'a>
     )
 }
 
+/// `--keys FILE`, with which many keys are asked for.
+pub(crate) fn keys_option<'a>(alloc: Global) -> Arg<'a>
+    ensures { IsReadBy keys_option result }
+{
+    text_option(alloc, "keys", "FILE").help(
+        "Of many keys in place of one: those of the lines of FILE, of which each has to be greater \
+         than the one before",
+    )
+}
+
 /// The root of one of two trees that are trusted; `what` says for its help of which one.
 pub(crate) fn tree_root_option<'a>(alloc: Global, name: &'a str, what: &'a str) -> Arg<'a>
     ensures { IsReadBy (option_rule name.now) result }
@@ -330,13 +341,13 @@ pub(crate) fn key_word<'a>(alloc: Global) -> Arg<'a>
     )
 }
 
-/// `[KEY]`, where a range may stand in its place.
+/// `[KEY]`, where a range, or many keys, may stand in its place.
 pub(crate) fn optional_key_word<'a>(alloc: Global) -> Arg<'a>
     ensures { IsReadBy optional_key_word result }
 {
     Arg::new(alloc, "key").value_name("KEY").help(
         "The key in hexadecimal, two digits a byte, or with --text as text; at most 1,024 bytes. \
-         With --from it is left out",
+         With --from, or with --keys, it is left out",
     )
 }
 

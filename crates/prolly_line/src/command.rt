@@ -43,6 +43,8 @@ pub enum Sought {
     /// Its pairs whose key is not less than `from`, and less than `to`; where there is no `to`, all
     /// whose key is not less than `from`.
     Range { from: Vec<u8>, to: Option<Vec<u8>> },
+    /// What it has at each of the keys that the lines of the file of this name stand for.
+    Keys(String),
 }
 
 /// What the program is asked to do. File names are the words as they stand. A notation is that of
@@ -123,6 +125,15 @@ pub enum Command {
         version: u8,
         notation: Notation,
     },
+    /// Print what there is at each of the keys that the lines of the file `keys` stand for. The root
+    /// and the version say the same as for `Get`.
+    GetKeys {
+        file: String,
+        keys: String,
+        root: Option<Ref>,
+        version: u8,
+        notation: Notation,
+    },
     /// Print pairs in the order of keys, from a key on. The root and the version say the same as
     /// for `Get`.
     Scan {
@@ -168,18 +179,19 @@ pub enum Command {
         notation: Notation,
         mode: WriteMode,
     },
-    /// Write a proof of what a file has at a key, or in a range. The root and the version say the
-    /// same as for `Get`.
+    /// Write a proof of what a file has at a key, in a range, or at many keys. The root and the
+    /// version say the same as for `Get`.
     Prove {
         file: String,
         sought: Sought,
         root: Option<Ref>,
         version: u8,
         out: String,
+        notation: Notation,
         mode: WriteMode,
     },
-    /// Say what a proof shows of a key, or of a range, to whoever knows the root and the version of
-    /// the chunks. Without a file the proof comes from standard input.
+    /// Say what a proof shows of a key, of a range, or of many keys, to whoever knows the root and the
+    /// version of the chunks. Without a file the proof comes from standard input.
     Verify {
         root: Ref,
         sought: Sought,

@@ -1,15 +1,15 @@
 //! The fields of a command, from what clap found for its subcommand. Each function requires that
 //! clap has accepted the words, and so takes what has to be there without a test.
 ghost use Rattle.std.specs.Prelude.{codes, IfErr, IfOk, true, false};
-ghost use Rattle.prolly_line.specs.AcceptedWords.{Answers, DoFit, HasNumber, HasWord, IsAccepted};
-ghost use Rattle.prolly_line.specs.AcceptedWords.{IsRefusedLookUp, rows_in};
-ghost use Rattle.prolly_line.specs.GivenCommand.{GivesKey, GivesNotation, GivesTrust};
+ghost use Rattle.prolly_line.specs.AcceptedWords.{Answers, DoFit, DoesKeyFit, HasNumber, HasWord};
+ghost use Rattle.prolly_line.specs.AcceptedWords.{IsAccepted, IsRefusedLookUp, rows_in};
+ghost use Rattle.prolly_line.specs.GivenCommand.{GivesKey, GivesNotation, GivesTrust, HasNone};
 
 use crate::command::{Command, ParseFault};
 use crate::misfit::Misfit;
-use crate::subcommands::{prove_line, verify_line};
+use crate::subcommands::{get_line, prove_line, verify_line};
 use crate::values::{
-    byte_of, flag_of, key_of, lines_of, mode_of, notation_of, number_of, option_of,
+    byte_of, flag_of, is_given, key_of, lines_of, mode_of, notation_of, number_of, option_of,
     optional_byte_of, place_of_last, root_of, roots_of, sought_of, text_of, texts_of, trust_of,
 };
 use clap::ArgMatches;
@@ -173,9 +173,43 @@ fn trusted_key(
     Ok((trust.0, trust.1, key))
 }
 
-/// `get [--text] [--root ROOT] [--format V] FILE KEY`
+/// `get [--text] [--root ROOT] [--format V] [--keys FILE] FILE [KEY]`
 pub(crate) fn get(alloc: Global, given: &ArgMatches<'_>) -> Result<Command, ParseFault>
     requires { IsAccepted (codes "get", rows_in given.now) }
+    ensures { Answers (codes "get", rows_in given.now) result }
+{
+    match Misfit::of_key(given) {
+        Some(misfit) => Err(misfit.fault(alloc, get_line(alloc))),
+        None if is_given(given, "keys") => get_keys(alloc, given),
+        None => get_one(alloc, given),
+    }
+}
+
+// The same of many keys, where the words fit.
+fn get_keys(alloc: Global, given: &ArgMatches<'_>) -> Result<Command, ParseFault>
+    requires accepted { IsAccepted (codes "get", rows_in given.now) }
+    requires fit { DoesKeyFit (rows_in given.now) }
+    requires keys { HasWord (codes "keys") (rows_in given.now) }
+    ensures { Answers (codes "get", rows_in given.now) result }
+{
+    let notation = notation_of(given);
+    let (root, version) = trust_of(given)?;
+    let file = text_of(alloc, given, "file")?;
+    let keys = text_of(alloc, given, "keys")?;
+    Ok(Command::GetKeys {
+        file,
+        keys,
+        root,
+        version,
+        notation,
+    })
+}
+
+// The same of one key.
+fn get_one(alloc: Global, given: &ArgMatches<'_>) -> Result<Command, ParseFault>
+    requires accepted { IsAccepted (codes "get", rows_in given.now) }
+    requires fit { DoesKeyFit (rows_in given.now) }
+    requires none { HasNone (codes "keys") (rows_in given.now) }
     ensures { Answers (codes "get", rows_in given.now) result }
 {
     let notation = notation_of(given);
@@ -273,8 +307,8 @@ pub(crate) fn diff(alloc: Global, given: &ArgMatches<'_>) -> Result<Command, Par
     })
 }
 
-/// `prove [--text] [--root ROOT] [--format V] [--from KEY] [--to KEY] [--atomic] [--sync] [--force]
-/// FILE [KEY] OUT`
+/// `prove [--text] [--root ROOT] [--format V] [--from KEY] [--to KEY] [--keys FILE] [--atomic]
+/// [--sync] [--force] FILE [KEY] OUT`
 pub(crate) fn prove(alloc: Global, given: &ArgMatches<'_>) -> Result<Command, ParseFault>
     requires { IsAccepted (codes "prove", rows_in given.now) }
     ensures { Answers (codes "prove", rows_in given.now) result }
@@ -303,11 +337,12 @@ fn fitting_prove(alloc: Global, given: &ArgMatches<'_>) -> Result<Command, Parse
         root,
         version,
         out,
+        notation,
         mode,
     })
 }
 
-/// `verify [--text] [--format V] [--from KEY] [--to KEY] ROOT [KEY] [PROOF]`
+/// `verify [--text] [--format V] [--from KEY] [--to KEY] [--keys FILE] ROOT [KEY] [PROOF]`
 pub(crate) fn verify(alloc: Global, given: &ArgMatches<'_>) -> Result<Command, ParseFault>
     requires { IsAccepted (codes "verify", rows_in given.now) }
     ensures { Answers (codes "verify", rows_in given.now) result }

@@ -238,12 +238,19 @@ there, and --text is ignored.",
 };
 
 pub(crate) const GET: Help<'static> = Help {
-    about: "Print the value of a key in a chunk file",
+    about: "Print the value of a key in a chunk file, or of many keys",
     details: "Prints the value of one key in a chunk file, in hexadecimal. Where the file does
 not have the key, nothing is printed and the exit status is 1.
 
-With --text the key is taken and the value shown as text, with the escapes of
-`pack --text`.
+With --keys there is no KEY among the words, and what is asked for are the keys
+of a file: a key in hexadecimal in each line, greater than the one before it. A
+line is printed for each of them, in their order: HEXKEY HEXVALUE, or HEXKEY
+alone where there is no value. The exit status is 0 also where none has one. A
+line that is no key, or whose key is not greater, is told with its number,
+counted from 0, and nothing else is done; the exit status is then 3.
+
+With --text keys are taken and values shown as text, with the escapes of
+`pack --text`, and a key and its value are separated by a tab.
 
 Without --root the whole file is checked first, as by `check`: that takes time
 linear in it, no file over 1 GiB is read, and --format is ignored. With --root
@@ -251,8 +258,10 @@ only what is needed is read: the lengths and levels of the frames, and one chunk
 a level, each compared with the reference above it, from ROOT down. So what is
 printed is right for ROOT, whatever else the file holds; a chunk that does not
 fit is refused.",
-    example: "Example: the value of the key of one byte, 61
-  prolly get ab.prl 61",
+    example: "Examples: the value of the key of one byte, 61, and what there is at each key
+of a file
+  prolly get ab.prl 61
+  prolly get --keys keys.txt ab.prl",
 };
 
 pub(crate) const SCAN: Help<'static> = Help {
@@ -357,7 +366,7 @@ FILE that has bytes and does not begin as a record file does is refused, unless
 };
 
 pub(crate) const PROVE: Help<'static> = Help {
-    about: "Write a proof of what a chunk file has at a key, or in a range",
+    about: "Write a proof of what a chunk file has at a key, in a range, or at many keys",
     details: "Writes a proof of what FILE has at the key: its value, or that it has none. The
 proof is the chunks of FILE from the root down to the one at which the look-up
 of the key ends. Whoever knows the root of FILE can check it by `verify`,
@@ -369,6 +378,10 @@ and that there are no others. Without --to the range has no end. Keys are
 compared byte by byte. The proof is the chunks that have such keys, and those
 above them, each once.
 
+With --keys there is no KEY either, and the proof is one of what FILE has at
+each of the keys of a file, as `get` reads them: a key in each line, greater than
+the one before it. Each chunk is in it once, however many keys meet it.
+
 With --text keys are taken as text, with the escapes of `pack --text`.
 
 Without --root the whole file is checked first, as by `check`: that takes time
@@ -379,7 +392,8 @@ So what is written is a proof for ROOT, whatever else the file holds; a chunk
 that does not fit is refused.
 
 Nothing is printed. The exit status is 0 also where FILE does not have the key,
-or has no pair in the range.
+or has no pair in the range, or at the keys. It is 3 where a line of the file of
+keys is refused.
 
 OUT is replaced once the proof is whole: after a fault it is as it was. An OUT
 that has bytes and does not begin as a proof does is refused, unless --force is
@@ -391,7 +405,7 @@ that it has from there on before the key 63
 };
 
 pub(crate) const VERIFY: Help<'static> = Help {
-    about: "Say what a proof shows of a key, or of a range, by the root alone",
+    about: "Say what a proof shows of a key, of a range, or of many keys, by the root alone",
     details: "Says what a proof shows of a key to whoever knows ROOT, the root of a tree, as
 `scratch`, `build` and `check` print it. The proof is one that `prove` has made.
 It may come from anywhere: where it is taken, the tree of that root has what is
@@ -405,17 +419,26 @@ each line HEXKEY HEXVALUE, those of a chunk once it was compared with the
 reference above it. So what is printed is right for ROOT; that it is all only
 the exit status tells, once the proof was read to its end.
 
+With --keys there is no KEY either, and the proof is one of the keys of a file,
+which is the one that `prove` was given. A line is printed for each key, as `get`
+prints it: HEXKEY HEXVALUE, or HEXKEY alone where there is no value. The line of
+a key with a value is printed once its chunk was compared; that of one without,
+with the next one that has a value, or at the end. So what is printed is right
+for ROOT, and the exit status tells whether it is all.
+
 The proof is read from PROOF, or from standard input where PROOF is not given.
-That of a range may be of any size.
+That of a range, or of many keys, may be of any size.
 
 With --text keys are taken, and what is shown is printed, as text, with the
 escapes of `pack --text`.
 
 The exit status is
   0  where the key has a value, which is printed in hexadecimal, or where all
-     pairs of the range were printed, also where there are none
+     pairs of the range were printed, also where there are none, or a line for
+     each key of a file
   1  where the key has none; nothing is printed
   2  where a word is not understood, as where ROOT is not the text of a root
+  3  where a line of the file of keys is refused
   4  where the proof is refused; a line names the first fault of it
   5  where the proof cannot be read, or the answer cannot be printed",
     example: "Examples: what the tree of a root has at the key of one byte, 61, and all that

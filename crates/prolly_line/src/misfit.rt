@@ -1,8 +1,8 @@
 //! Words that clap takes, and that do not fit together.
 ghost use Rattle.std.specs.Prelude.{◌≢◌, IfNone, IfSome, codes};
-ghost use Rattle.prolly_line.specs.AcceptedWords.{DoFit, rows_in};
+ghost use Rattle.prolly_line.specs.AcceptedWords.{DoFit, DoesKeyFit, rows_in};
 ghost use Rattle.prolly_line.specs.GivenCommand.{AreMisfit, HasNone, HasWord, IsAskedFor};
-ghost use Rattle.prolly_line.specs.GivenCommand.{IsWordFault};
+ghost use Rattle.prolly_line.specs.GivenCommand.{IsMisfitKey, IsWordFault};
 
 use crate::command::{ParseFault, refusal};
 use crate::values::is_given;
@@ -10,37 +10,79 @@ use clap::error::ErrorKind;
 use clap::{ArgMatches, Command};
 use std::alloc::{AllocError, Global};
 
-/// Which words are missing, or one too many, where a key or a range is sought.
+/// Which words are missing, or one too many, where a key, a range or many keys are sought.
 #[derive(Clone, Copy)]
 pub(crate) enum Misfit {
     /// `--to` without `--from`.
     LoneTo,
-    /// Neither a key nor a range.
+    /// Neither a key nor something in its place.
     NoKey,
     /// No output.
     NoOut,
     /// A key beside a range.
     KeyBesideRange,
+    /// A key beside `--keys`.
+    KeyBesideKeys,
+    /// `--from` beside `--keys`.
+    FromBesideKeys,
+    /// `--to` beside `--keys`.
+    ToBesideKeys,
 }
 
 impl Misfit {
     /// What of the words behind the first one does not fit, of a command that takes a key, and
-    /// behind it a word that goes by the name `last`; with `--from` there is no key, and the last
-    /// word stands in its place.
+    /// behind it a word that goes by the name `last`; with `--from` or `--keys` there is no key, and
+    /// the last word stands in its place.
     pub(crate) fn of(given: &ArgMatches<'_>, last: &str, needs_last: bool) -> Option<Misfit>
         ensures some { IfSome result (λ _. AreMisfit last.now needs_last (rows_in given.now)) }
         ensures none { IfNone result (DoFit last.now needs_last (rows_in given.now)) }
     {
-        if is_given(given, "from") {
+        if is_given(given, "keys") {
+            Misfit::beside_keys(given, last, needs_last)
+        } else if is_given(given, "from") {
             Misfit::beside_range(given, last, needs_last)
         } else {
             Misfit::beside_key(given, last, needs_last)
         }
     }
 
+    /// What does not fit, of a command that takes a key, or `--keys` in its place, and no word behind.
+    pub(crate) fn of_key(given: &ArgMatches<'_>) -> Option<Misfit>
+        ensures some { IfSome result (λ _. IsMisfitKey (rows_in given.now)) }
+        ensures none { IfNone result (DoesKeyFit (rows_in given.now)) }
+    {
+        match (is_given(given, "keys"), is_given(given, "key")) {
+            (true, true) => Some(Misfit::KeyBesideKeys),
+            (false, false) => Some(Misfit::NoKey),
+            _ => None,
+        }
+    }
+
+    /// The same as of the words of [`of`](Misfit::of), where there are many keys.
+    fn beside_keys(given: &ArgMatches<'_>, last: &str, needs_last: bool) -> Option<Misfit>
+        requires { HasWord (codes "keys") (rows_in given.now) }
+        ensures some { IfSome result (λ _. AreMisfit last.now needs_last (rows_in given.now)) }
+        ensures none { IfNone result (DoFit last.now needs_last (rows_in given.now)) }
+    {
+        if is_given(given, "from") {
+            return Some(Misfit::FromBesideKeys);
+        }
+        if is_given(given, "to") {
+            return Some(Misfit::ToBesideKeys);
+        }
+        if is_given(given, last) {
+            return Some(Misfit::KeyBesideKeys);
+        }
+        if needs_last && !is_given(given, "key") {
+            return Some(Misfit::NoOut);
+        }
+        None
+    }
+
     /// The same, where there is a range.
     fn beside_range(given: &ArgMatches<'_>, last: &str, needs_last: bool) -> Option<Misfit>
-        requires { HasWord (codes "from") (rows_in given.now) }
+        requires none { HasNone (codes "keys") (rows_in given.now) }
+        requires range { HasWord (codes "from") (rows_in given.now) }
         ensures some { IfSome result (λ _. AreMisfit last.now needs_last (rows_in given.now)) }
         ensures none { IfNone result (DoFit last.now needs_last (rows_in given.now)) }
     {
@@ -53,9 +95,10 @@ impl Misfit {
         None
     }
 
-    /// The same, where there is none.
+    /// The same, where there is neither.
     fn beside_key(given: &ArgMatches<'_>, last: &str, needs_last: bool) -> Option<Misfit>
-        requires { HasNone (codes "from") (rows_in given.now) }
+        requires none { HasNone (codes "keys") (rows_in given.now) }
+        requires no_range { HasNone (codes "from") (rows_in given.now) }
         ensures some { IfSome result (λ _. AreMisfit last.now needs_last (rows_in given.now)) }
         ensures none { IfNone result (DoFit last.now needs_last (rows_in given.now)) }
     {
@@ -89,7 +132,10 @@ impl Misfit {
         ensures { (IsAskedFor result → ⊥) × (result ≢ ErrorKind.OutOfMemory) }
     {
         match self {
-            Misfit::KeyBesideRange => ErrorKind::ArgumentConflict,
+            Misfit::KeyBesideRange
+            | Misfit::KeyBesideKeys
+            | Misfit::FromBesideKeys
+            | Misfit::ToBesideKeys => ErrorKind::ArgumentConflict,
             _ => ErrorKind::MissingRequiredArgument,
         }
     }
@@ -101,6 +147,13 @@ impl Misfit {
             Misfit::NoKey => "the following required arguments were not provided:\n  <KEY>",
             Misfit::NoOut => "the following required arguments were not provided:\n  <OUT>",
             Misfit::KeyBesideRange => "the argument '--from <KEY>' cannot be used with '<KEY>'",
+            Misfit::KeyBesideKeys => "the argument '--keys <FILE>' cannot be used with '<KEY>'",
+            Misfit::FromBesideKeys => {
+                "the argument '--keys <FILE>' cannot be used with '--from <KEY>'"
+            }
+            Misfit::ToBesideKeys => {
+                "the argument '--keys <FILE>' cannot be used with '--to <KEY>'"
+            }
         }
     }
 }

@@ -22,13 +22,19 @@ const MADE_CHUNK_FILE: &str = "The chunk file to make";
 // What OUT says of a dump.
 const DUMPED_FILE: &str = "The file to make; without it, it is written to standard output";
 
+// How `get` is used.
+const GET_USAGE: &str = "prolly get [OPTIONS] <FILE> <KEY>
+       prolly get [OPTIONS] --keys <FILE> <FILE>";
+
 // How `prove` is used.
 const PROVE_USAGE: &str = "prolly prove [OPTIONS] <FILE> <KEY> <OUT>
-       prolly prove [OPTIONS] --from <KEY> [--to <KEY>] <FILE> <OUT>";
+       prolly prove [OPTIONS] --from <KEY> [--to <KEY>] <FILE> <OUT>
+       prolly prove [OPTIONS] --keys <FILE> <FILE> <OUT>";
 
 // How `verify` is used.
 const VERIFY_USAGE: &str = "prolly verify [OPTIONS] <ROOT> <KEY> [PROOF]
-       prolly verify [OPTIONS] --from <KEY> [--to <KEY>] <ROOT> [PROOF]";
+       prolly verify [OPTIONS] --from <KEY> [--to <KEY>] <ROOT> [PROOF]
+       prolly verify [OPTIONS] --keys <FILE> <ROOT> [PROOF]";
 
 // What `--text` says of a dump.
 const DUMPED_TEXT: &str = "Write lines KEY, tab, VALUE of text in place of a record file";
@@ -36,8 +42,8 @@ const DUMPED_TEXT: &str = "Write lines KEY, tab, VALUE of text in place of a rec
 // What `--format` says where a chunk file is made.
 const WRITTEN_FORMAT: &str = "Write version V of the chunk file (1 or 2)";
 
-// What `--text` says where a key is taken and its value is printed.
-const KEY_AND_VALUE: &str = "Take the key and print the value as text in place of hexadecimal";
+// What `--text` says where keys are taken and their values are printed.
+const KEYS_AND_VALUES: &str = "Take keys and print values as text in place of hexadecimal";
 
 // What `--text` says where keys are printed.
 const SHOWN_KEYS: &str = "Print keys as text in place of hexadecimal";
@@ -78,7 +84,7 @@ fn with_trust<'a>(
     with_argument(line, format)
 }
 
-// Adds the options that give a range in place of a key.
+// Adds the options that give a range, or many keys, in place of a key.
 fn with_range<'a>(
     alloc: Global,
     line: Result<Command<'a>, AllocError>,
@@ -87,7 +93,8 @@ fn with_range<'a>(
         → IfOk result (HasCommandLine (with_range app)) }
 {
     let line = with_argument(line, arguments::from_option(alloc));
-    with_argument(line, arguments::to_option(alloc))
+    let line = with_argument(line, arguments::to_option(alloc));
+    with_argument(line, arguments::keys_option(alloc))
 }
 
 // Adds the options that name the roots of two trees that are trusted, and the version of their
@@ -265,12 +272,16 @@ pub(crate) fn diff_line<'a>(alloc: Global) -> Result<Command<'a>, AllocError>
     with_argument(with_argument(line, old), new)
 }
 
-/// `get [--text] [--root ROOT] [--format V] FILE KEY`
+/// `get [--text] [--root ROOT] [--format V] [--keys FILE] FILE [KEY]`
 pub(crate) fn get_line<'a>(alloc: Global) -> Result<Command<'a>, AllocError>
     ensures { IfOk result (HasCommandLine get_line) }
 {
-    let key = arguments::key_word(alloc);
-    look_up_line(alloc, "get", help::GET, KEY_AND_VALUE, key)
+    let text = arguments::text_flag(alloc, KEYS_AND_VALUES);
+    let line = described_as(alloc, "get", GET_USAGE, help::GET).arg(text);
+    let line = with_trust(alloc, line);
+    let line = with_argument(line, arguments::keys_option(alloc));
+    let line = with_argument(line, arguments::file_word(alloc, CHUNK_FILE));
+    with_argument(line, arguments::optional_key_word(alloc))
 }
 
 /// `scan [--text] [--root ROOT] [--format V] FILE KEY LIMIT`
@@ -291,10 +302,10 @@ pub(crate) fn nth_line<'a>(alloc: Global) -> Result<Command<'a>, AllocError>
     look_up_line(alloc, "nth", help::NTH, text, arguments::n_word(alloc))
 }
 
-/// `prove [--text] [--root ROOT] [--format V] [--from KEY] [--to KEY] [--atomic] [--sync] [--force]
-/// FILE [KEY] [OUT]`
+/// `prove [--text] [--root ROOT] [--format V] [--from KEY] [--to KEY] [--keys FILE] [--atomic]
+/// [--sync] [--force] FILE [KEY] [OUT]`
 ///
-/// Where `--from` is given, the word behind FILE is OUT, and there is no third one.
+/// Where `--from` or `--keys` is given, the word behind FILE is OUT, and there is no third one.
 pub(crate) fn prove_line<'a>(alloc: Global) -> Result<Command<'a>, AllocError>
     ensures { IfOk result (HasCommandLine prove_line) }
 {
@@ -310,9 +321,9 @@ pub(crate) fn prove_line<'a>(alloc: Global) -> Result<Command<'a>, AllocError>
     )
 }
 
-/// `verify [--text] [--format V] [--from KEY] [--to KEY] ROOT [KEY] [PROOF]`
+/// `verify [--text] [--format V] [--from KEY] [--to KEY] [--keys FILE] ROOT [KEY] [PROOF]`
 ///
-/// Where `--from` is given, the word behind ROOT is PROOF, and there is no third one.
+/// Where `--from` or `--keys` is given, the word behind ROOT is PROOF, and there is no third one.
 pub(crate) fn verify_line<'a>(alloc: Global) -> Result<Command<'a>, AllocError>
     ensures { IfOk result (HasCommandLine verify_line) }
 {

@@ -185,6 +185,7 @@ fn optional_key_of(
 
 /// The range of a subcommand that takes one.
 fn range_of(alloc: Global, given: &ArgMatches<'_>, notation: Notation) -> Result<Sought, ParseFault>
+    requires none { HasNone (codes "keys") (rows_in given.now) }
     requires word { HasWord (codes "from") (rows_in given.now) }
     requires notation { GivesNotation (rows_in given.now) notation }
     ensures range { IfOk result (λ sought. GivesSought (rows_in given.now) notation sought) }
@@ -195,32 +196,35 @@ fn range_of(alloc: Global, given: &ArgMatches<'_>, notation: Notation) -> Result
     Ok(Sought::Range { from, to })
 }
 
-/// What is sought: a range where `--from` is given, and else a key.
+/// What is sought: many keys where `--keys` is given, a range where `--from` is, and else a key.
 pub(crate) fn sought_of(
     alloc: Global,
     given: &ArgMatches<'_>,
     notation: Notation,
 ) -> Result<Sought, ParseFault>
-    requires word { HasNone (codes "from") (rows_in given.now) →
-        HasWord (codes "key") (rows_in given.now) }
+    requires word { HasNone (codes "keys") (rows_in given.now) →
+        HasNone (codes "from") (rows_in given.now) → HasWord (codes "key") (rows_in given.now) }
     requires notation { GivesNotation (rows_in given.now) notation }
     ensures sought { IfOk result (λ sought. GivesSought (rows_in given.now) notation sought) }
     ensures refused { IfErr result (IsRefusedSought (rows_in given.now)) }
 {
+    if is_given(given, "keys") {
+        return Ok(Sought::Keys(text_of(alloc, given, "keys")?));
+    }
     if is_given(given, "from") {
         return range_of(alloc, given, notation);
     }
     Ok(Sought::Key(key_of(alloc, given, "key", notation)?))
 }
 
-/// The name under which the word stands that is the last one: `last`, or that of the key where a
-/// range is sought.
+/// The name under which the word stands that is the last one: `last`, or that of the key where
+/// something else is sought in its place.
 pub(crate) fn place_of_last<'a>(sought: &Sought, last: &'a str) -> &'a str
     ensures { result.now ≡ place_of_last sought.now last.now }
 {
     match sought {
         Sought::Key(_) => last,
-        Sought::Range { .. } => "key",
+        Sought::Range { .. } | Sought::Keys(_) => "key",
     }
 }
 

@@ -28,7 +28,11 @@ pub mod RootDiffSteps
 mod KeySteps
 -- What is left of the proof of a set of keys.
 pub mod SetRests
--- Verifying a range, chunk by chunk.
+-- Which keys of a list are past when pairs were shown, and what is found there.
+pub mod ShownKeys
+-- The lines of the keys up to those of pairs, key by key and pair by pair.
+pub mod ShownLines
+-- Verifying the proof of a set of keys, chunk by chunk.
 pub mod SetSteps
 -- The pairs of a range are those that a scan has there.
 pub mod Ranges

@@ -502,6 +502,7 @@ module _ {W : Type 0} (seen : W → SinkView) (version : Version) (old new : Lis
     stopped_told faults.Read told other d t = absurd d
     stopped_told (faults.Run f) told other d t = absurd d
     stopped_told (faults.Pack f) told other d t = absurd d
+    stopped_told (faults.Keys f) told other d t = absurd d
     stopped_told (faults.Check f) told other d t = absurd d
     stopped_told (faults.Stream f) told other d t = absurd d
     stopped_told (faults.CheckOld f) told other d t = absurd d

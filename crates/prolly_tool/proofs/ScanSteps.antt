@@ -396,6 +396,7 @@ stop_cases d v r l n took until faults.Read lists goal a b t = absurd t
 stop_cases d v r l n took until faults.Write lists goal a b t = b outputs.Write t
 stop_cases d v r l n took until (faults.Run f) lists goal a b t = absurd t
 stop_cases d v r l n took until (faults.Pack f) lists goal a b t = absurd t
+stop_cases d v r l n took until (faults.Keys f) lists goal a b t = absurd t
 stop_cases d v r l n took until (faults.Check f) lists goal a b t =
     absurd t
 stop_cases d v r l n took until (faults.Stream f) lists goal a b t =

@@ -1,4 +1,4 @@
--- Verifying a range, chunk by chunk.
+-- Verifying the proof of a set of keys, chunk by chunk.
 use Rattle.std.proofs.Common.{◌≡◌, ◌≢◌, ◌⊎◌, inl, inr, ℕ, min, Bool, true, false, List, [], ◌∷◌, ◌++◌}
 use Rattle.std.proofs.Common.{length, Option, Some, None, Result, Ok, Err, refl, sym, ap, ◌∙◌}
 use Rattle.std.proofs.Common.{subst, arith, append_assoc, append-nil}
@@ -14,6 +14,7 @@ use Rattle.prolly_file.specs.Failures.{CountsFailure, after_failure}
 use Rattle.prolly_file.specs.Frame.{framed, IsSmall}
 use Rattle.prolly_file.specs.Sink.{IsSettled, SinkView}
 use Rattle.prolly_file.specs.Writer.{next_count}
+use Rattle.prolly_range.specs.Found.{ShownInOrder}
 use Rattle.prolly_range.specs.KeySet.{KeySet}
 use Rattle.prolly_range.specs.SetProof.{AreTaken, Due, IsSetProof, root_due}
 use Rattle.prolly_range.specs.SetProof.{set_file, set_start}
@@ -24,10 +25,11 @@ use Rattle.prolly_range.specs.declared.fault.SetFault.TheVariants as sets
 use Rattle.prolly_range.specs.lemmas.Taken.{taken_more}
 use Rattle.prolly_text.specs.declared.notation.Notation.{Notation}
 use Rattle.prolly_tree.specs.Events.{greatest_count}
-use Rattle.prolly_tool.specs.LookUps.{pair_lines, pair_text}
 use Rattle.prolly_tool.specs.OutputFault.{told}
 use Rattle.prolly_tool.specs.Outputs.{TookAll, TookBytes, TookPart, TookUntil}
 use Rattle.prolly_tool.specs.RootScans.{IsFlushed}
+use Rattle.prolly_tool.specs.SetLines.{FitsLeft, RisesIn, alone_lines, left_at_first, left_behind}
+use Rattle.prolly_tool.specs.SetLines.{lines_at_end, lines_so_far, more_lines}
 use Rattle.prolly_tool.specs.SetProofs.{IsNoSetProof, IsStoppedSet, IsVerifiedSet, StoppedSet}
 use Rattle.prolly_tool.specs.SetProofs.{TellsProofReads, told_set}
 use Rattle.prolly_tool.specs.declared.faults.fault.Fault.{Fault}
@@ -37,6 +39,8 @@ use Rattle.prolly_tool.specs.declared.faults.output_fault.OutputFault.TheVariant
 use Rattle.prolly_tool.proofs.ScanSteps.{all_flushed, all_unflushed, prefix_flushed}
 use Rattle.prolly_tool.proofs.ScanSteps.{prefix_unflushed, took_also, until_also}
 use Rattle.prolly_tool.proofs.SetRests.{not_begun, rest_behind, rest_begins}
+use Rattle.prolly_tool.proofs.ShownKeys.{IsLeft, SomeOfSet, left_begins, left_fits, left_goes_on}
+use Rattle.prolly_tool.proofs.ShownKeys.{lines_ended, lines_more, lines_of_none, some_of_set}
 use Rattle.prolly_tool.proofs.Writing.{TookSoFar, took_none}
 
 -- ---- what a call came to
@@ -91,17 +95,22 @@ is_opened verifier version due e = record {
 
 module _ {W : Type 0} (seen : W → SinkView) (notation : Notation) (version : Version)
     (root : List ℕ) (set : KeySet) (honest : Bool) (bytes : List ℕ) where
-  -- So much is due behind the chunks that were taken, and the lines of their pairs were written.
-  pub record IsReading (due : List Due) (count : ℕ) (left : List ℕ) (old new : W) : Type 0 where
+  -- So much is due behind the chunks that were taken, these keys of a list are left, and the lines that
+  -- are told were written.
+  pub record IsReading (due : List Due) (count : ℕ) (left : List ℕ) (keys : List (List ℕ)) (old new : W)
+      : Type 0 where
+    pub order : ShownInOrder
+    pub rises : RisesIn set
     pub chunks : List (List ℕ)
     pub pairs : List Pair
     pub small : AllByRecursion IsSmall chunks
     pub taken : AreTaken version (root_due root set ∷ []) chunks pairs due
+    pub keys_are : IsLeft set pairs keys
     pub count_is : count ≡ min greatest_count (length chunks)
     pub read : honest ≡ true → bytes ≡ set_file version chunks ++ left
     pub rest : honest ≡ true → (ps : List Pair) → IsSetProof version root set bytes ps →
         IsRestOf version due left
-    pub took : TookSoFar seen (pair_lines notation pairs) old new
+    pub took : TookSoFar seen (lines_so_far notation set pairs) old new
 
   abbrev Verified : W → W → Type 0
   Verified old new = IsVerifiedSet notation version root set honest bytes
@@ -114,19 +123,27 @@ module _ {W : Type 0} (seen : W → SinkView) (notation : Notation) (version : V
   abbrev Refused : SetFault → Type 0
   Refused fault = honest ≡ true → IsNoSetProof version root set bytes fault
 
-  pub range_begins : (due : List Due) (count : ℕ) (left : List ℕ) (old : W) →
-      due ≡ root_due root set ∷ [] → count ≡ 0 →
-      (honest ≡ true → bytes ≡ set_start version ++ left) → IsReading due count left old old
-  range_begins due count left old is none start = record {
+  told_none : (old : W) → TookSoFar seen (lines_so_far notation set []) old old
+  told_none old = subst (λ lines. TookSoFar seen lines old old) (sym (lines_of_none notation set))
+      (took_none seen old)
+
+  pub range_begins : (due : List Due) (count : ℕ) (left : List ℕ) (keys : List (List ℕ)) (old : W) →
+      ShownInOrder → RisesIn set → keys ≡ left_at_first set → due ≡ root_due root set ∷ [] →
+      count ≡ 0 → (honest ≡ true → bytes ≡ set_start version ++ left) →
+      IsReading due count left keys old old
+  range_begins due count left keys old order rises all is none start = record {
+    order = order;
+    rises = rises;
     chunks = [];
     pairs = [];
     small = tt;
     taken = (sym is, refl);
+    keys_are = subst (IsLeft set []) (sym all) (left_begins set);
     count_is = none;
     read = start;
     rest = λ h ps p. subst (λ d. IsRestOf version d left) (sym is)
         (rest_begins version root set bytes left ps (start h) p);
-    took = took_none seen old;
+    took = told_none old;
   }
 
   -- The bytes do not begin as a proof.
@@ -136,8 +153,10 @@ module _ {W : Type 0} (seen : W → SinkView) (notation : Notation) (version : V
     chunks = [];
     pairs = [];
     due = root_due root set ∷ [];
+    lines = lines_so_far notation set [];
     taken = (refl, refl);
-    stopped = inl (fault, refl, λ h. refused fault (start h), (took_none seen old).all);
+    told_are = inl refl;
+    stopped = inl (fault, refl, λ h. refused fault (start h), (told_none old).all);
   }
     where
       refused : (fault : SetFault) → IsStartFault version bytes fault →
@@ -147,23 +166,51 @@ module _ {W : Type 0} (seen : W → SinkView) (notation : Notation) (version : V
       refused (sets.Proof fault) s = (inl s, λ ps p. not_begun version root set bytes fault ps s p)
       refused sets.Stopped s = absurd s
 
-  module _ (due : List Due) (count : ℕ) (left : List ℕ) (old mid : W)
-      (r : IsReading due count left old mid) where
-    -- Nothing is due any more.
-    pub range_ends : (new : List Due) → IsAtEnd due new honest left → Verified old mid
-    range_ends new end = record {
-      proof = set_file version r.chunks;
-      pairs = r.pairs;
-      proves = record {
+  module _ (due : List Due) (count : ℕ) (left : List ℕ) (keys : List (List ℕ)) (old mid : W)
+      (r : IsReading due count left keys old mid) where
+    -- Nothing is due any more, and the lines of the keys that are left are told.
+    module _ (next : List Due) (end : IsAtEnd due next honest left) (last : W) where
+      all : lines_at_end notation set r.pairs ≡
+          lines_so_far notation set r.pairs ++ alone_lines notation keys
+      all = lines_ended notation set r.pairs keys r.rises
+          (some_of_set r.order version root set r.chunks r.pairs due r.rises r.taken) r.keys_are
+
+      pub range_unwritten : (fault : OutputFault) →
+          TookUntil seen fault (alone_lines notation keys) mid last → Stopped old last (told fault)
+      range_unwritten fault u = record {
         chunks = r.chunks;
-        small = r.small;
-        is = refl;
-        taken = subst (AreTaken version (root_due root set ∷ []) r.chunks r.pairs) end.none r.taken;
-      };
-      read = λ h. r.read h ∙ ap (λ x. set_file version r.chunks ++ x) (end.over h) ∙
-          append-nil (set_file version r.chunks);
-      took = r.took.all;
-    }
+        pairs = r.pairs;
+        due = due;
+        lines = lines_at_end notation set r.pairs;
+        taken = r.taken;
+        told_are = inr (end.none, refl);
+        stopped = inr (
+          fault,
+          refl,
+          subst (λ lines. TookUntil seen fault lines old last) (sym all)
+              (until_also seen (lines_so_far notation set r.pairs) (alone_lines notation keys) old
+              mid last r.took fault u),
+        );
+      }
+
+      pub range_ends : TookBytes seen (alone_lines notation keys) mid last →
+          ((seen mid).is_keeping ≡ true → (seen last).is_keeping ≡ true) → Verified old last
+      range_ends w keeping = record {
+        proof = set_file version r.chunks;
+        pairs = r.pairs;
+        proves = record {
+          chunks = r.chunks;
+          small = r.small;
+          is = refl;
+          taken = subst (AreTaken version (root_due root set ∷ []) r.chunks r.pairs) end.none
+              r.taken;
+        };
+        read = λ h. r.read h ∙ ap (λ x. set_file version r.chunks ++ x) (end.over h) ∙
+            append-nil (set_file version r.chunks);
+        took = subst (λ lines. TookBytes seen lines old last) (sym all)
+            (took_also seen (lines_so_far notation set r.pairs) (alone_lines notation keys) old mid
+            last r.took w keeping).all;
+      }
 
     -- What is next is at fault.
     pub range_fails : (fault : SetFault) →
@@ -174,7 +221,9 @@ module _ {W : Type 0} (seen : W → SinkView) (notation : Notation) (version : V
       chunks = r.chunks;
       pairs = r.pairs;
       due = due;
+      lines = lines_so_far notation set r.pairs;
       taken = r.taken;
+      told_are = inl refl;
       stopped = inl (fault, refl, refused fault next accepts, r.took.all);
     }
       where
@@ -203,43 +252,60 @@ module _ {W : Type 0} (seen : W → SinkView) (notation : Notation) (version : V
 
     module _ (shown : List Pair) (next : List Due) (after : List ℕ)
         (t : TakesNext version due shown next honest left after) where
+      abbrev own : List ℕ
+      own = more_lines notation set keys shown
+
       taken : AreTaken version (root_due root set ∷ []) (r.chunks ++ t.chunk ∷ []) (r.pairs ++ shown)
           next
       taken = taken_more version (root_due root set ∷ []) r.chunks r.pairs due t.chunk shown next
           r.taken t.takes
 
-      text : pair_lines notation (r.pairs ++ shown) ≡
-          pair_lines notation r.pairs ++ pair_lines notation shown
-      text = flat_map-append (λ p. pair_text notation p ++ 0x0A ∷ []) r.pairs shown
+      some : SomeOfSet set (r.pairs ++ shown)
+      some = some_of_set r.order version root set (r.chunks ++ t.chunk ∷ []) (r.pairs ++ shown) next
+          r.rises taken
+
+      text : lines_so_far notation set (r.pairs ++ shown) ≡ lines_so_far notation set r.pairs ++ own
+      text = lines_more notation set r.pairs shown keys r.rises some r.keys_are
+
+      -- The pairs that it shows are of the keys that are left.
+      pub chunk_fits : FitsLeft set keys shown
+      chunk_fits = left_fits set r.pairs shown keys r.rises some r.keys_are
 
       module _ (new : W) where
         -- The lines of one more chunk are not all written.
         pub chunk_unwritten : (fault : OutputFault) →
-            TookUntil seen fault (pair_lines notation shown) mid new → Stopped old new (told fault)
+            TookUntil seen fault (more_lines notation set keys shown) mid new →
+            Stopped old new (told fault)
         chunk_unwritten fault u = record {
           chunks = r.chunks ++ t.chunk ∷ [];
           pairs = r.pairs ++ shown;
           due = next;
+          lines = lines_so_far notation set (r.pairs ++ shown);
           taken = taken;
+          told_are = inl refl;
           stopped = inr (
             fault,
             refl,
             subst (λ lines. TookUntil seen fault lines old new) (sym text)
-                (until_also seen (pair_lines notation r.pairs) (pair_lines notation shown) old mid new
-                r.took fault u),
+                (until_also seen (lines_so_far notation set r.pairs) own old mid new r.took fault u),
           );
         }
 
         -- They are written.
-        pub range_goes_on : (more : ℕ) → more ≡ next_count count →
-            TookBytes seen (pair_lines notation shown) mid new →
+        pub range_goes_on : (more : ℕ) (rest : List (List ℕ)) → more ≡ next_count count →
+            rest ≡ left_behind set keys shown →
+            TookBytes seen (more_lines notation set keys shown) mid new →
             ((seen mid).is_keeping ≡ true → (seen new).is_keeping ≡ true) →
-            IsReading next more after old new
-        range_goes_on more one w keeping = record {
+            IsReading next more after rest old new
+        range_goes_on more rest one behind w keeping = record {
+          order = r.order;
+          rises = r.rises;
           chunks = r.chunks ++ t.chunk ∷ [];
           pairs = r.pairs ++ shown;
           small = all_append IsSmall r.chunks (t.chunk ∷ []) r.small (t.small, tt);
           taken = taken;
+          keys_are = subst (IsLeft set (r.pairs ++ shown)) (sym behind)
+              (left_goes_on set r.pairs shown keys r.keys_are);
           count_is = omega (arith, one, r.count_is, length-append r.chunks (t.chunk ∷ []));
           read = λ h. r.read h ∙ ap (λ x. set_file version r.chunks ++ x) (t.read h) ∙
               sym (append_assoc (set_file version r.chunks) (framed t.chunk) after) ∙
@@ -247,8 +313,7 @@ module _ {W : Type 0} (seen : W → SinkView) (notation : Notation) (version : V
           rest = λ h ps p. rest_behind version due t.chunk shown next left after t.takes t.small
               (t.read h) (r.rest h ps p);
           took = subst (λ lines. TookSoFar seen lines old new) (sym text)
-              (took_also seen (pair_lines notation r.pairs) (pair_lines notation shown) old mid new
-              r.took w keeping);
+              (took_also seen (lines_so_far notation set r.pairs) own old mid new r.took w keeping);
         }
           where
             file_more : (after : List ℕ) → (set_file version r.chunks ++ framed t.chunk) ++ after ≡
@@ -287,7 +352,7 @@ module _ {W : Type 0} (seen : W → SinkView) (notation : Notation) (version : V
       proves = d.proves;
       read = d.read;
       took = all_flushed seen old mid new keeping same counted settled
-          (pair_lines notation d.pairs) d.took;
+          (lines_at_end notation set d.pairs) d.took;
     }
     range_ended d (Err fault) counted settled = tt
 
@@ -299,12 +364,14 @@ module _ {W : Type 0} (seen : W → SinkView) (notation : Notation) (version : V
       chunks = d.proves.chunks;
       pairs = d.pairs;
       due = [];
+      lines = lines_at_end notation set d.pairs;
       taken = d.proves.taken;
+      told_are = inr (refl, refl);
       stopped = inr (
         outputs.Write,
         is,
         all_unflushed seen old mid new keeping same counted
-            (pair_lines notation d.pairs) d.took,
+            (lines_at_end notation set d.pairs) d.took,
       );
     }
 
@@ -316,7 +383,7 @@ module _ {W : Type 0} (seen : W → SinkView) (notation : Notation) (version : V
     Refuses of_proof = honest ≡ true → IsNoSetProof version root set bytes of_proof
 
     abbrev StoppedBy : Fault → Type 0
-    StoppedBy = StoppedSet Refuses All Until (pair_lines notation s.pairs)
+    StoppedBy = StoppedSet Refuses All Until s.lines
 
     told_write : (of_proof : SetFault) → told_set of_proof ≢ Write
     told_write sets.Memory e = cc
@@ -329,13 +396,13 @@ module _ {W : Type 0} (seen : W → SinkView) (notation : Notation) (version : V
     failed is write = go s.stopped
       where
         go : StoppedSet Refuses (λ lines. TookBytes seen lines old mid)
-            (λ fault lines. TookUntil seen fault lines old mid) (pair_lines notation s.pairs) fault →
+            (λ fault lines. TookUntil seen fault lines old mid) s.lines fault →
             StoppedBy fault
         go (inl p) = absurd (told_write p.0 (sym p.1 ∙ write))
         go (inr w) = inr (
           w.0,
           w.1,
-          subst (λ last. TookUntil seen w.0 (pair_lines notation s.pairs)
+          subst (λ last. TookUntil seen w.0 s.lines
               old last) (sym is) w.2,
         )
 
@@ -347,21 +414,21 @@ module _ {W : Type 0} (seen : W → SinkView) (notation : Notation) (version : V
       told_flushed counted settled = go s.stopped
         where
           until : (of_lines : OutputFault) → fault ≡ told of_lines →
-              TookUntil seen of_lines (pair_lines notation s.pairs) old mid →
-              Until of_lines (pair_lines notation s.pairs)
+              TookUntil seen of_lines s.lines old mid →
+              Until of_lines s.lines
           until outputs.Memory e t = prefix_flushed seen old mid new keeping same counted settled
-              (pair_lines notation s.pairs) t
+              s.lines t
           until outputs.Write e t = absurd (other e)
 
           go : StoppedSet Refuses (λ lines. TookBytes seen lines old mid)
-              (λ fault lines. TookUntil seen fault lines old mid) (pair_lines notation s.pairs)
+              (λ fault lines. TookUntil seen fault lines old mid) s.lines
               fault → StoppedBy fault
           go (inl p) = inl (
             p.0,
             p.1,
             p.2,
             all_flushed seen old mid new keeping same counted settled
-                (pair_lines notation s.pairs) p.3,
+                s.lines p.3,
           )
           go (inr w) = inr (w.0, w.1, until w.0 w.1 w.2)
 
@@ -370,17 +437,17 @@ module _ {W : Type 0} (seen : W → SinkView) (notation : Notation) (version : V
       told_unflushed counted = inr (outputs.Write, refl, go s.stopped)
         where
           until : (of_lines : OutputFault) → fault ≡ told of_lines →
-              TookUntil seen of_lines (pair_lines notation s.pairs) old mid →
-              TookPart seen (pair_lines notation s.pairs) old new
+              TookUntil seen of_lines s.lines old mid →
+              TookPart seen s.lines old new
           until outputs.Memory e t = prefix_unflushed seen old mid new keeping same counted
-              (pair_lines notation s.pairs) t
+              s.lines t
           until outputs.Write e t = absurd (other e)
 
           go : StoppedSet Refuses (λ lines. TookBytes seen lines old mid)
-              (λ fault lines. TookUntil seen fault lines old mid) (pair_lines notation s.pairs)
-              fault → TookPart seen (pair_lines notation s.pairs) old new
+              (λ fault lines. TookUntil seen fault lines old mid) s.lines
+              fault → TookPart seen s.lines old new
           go (inl p) = all_unflushed seen old mid new keeping same counted
-              (pair_lines notation s.pairs) p.3
+              s.lines p.3
           go (inr w) = until w.0 w.1 w.2
 
     ended_by : (told_as : Fault) → StoppedBy told_as → Ended told_as
@@ -388,7 +455,9 @@ module _ {W : Type 0} (seen : W → SinkView) (notation : Notation) (version : V
       chunks = s.chunks;
       pairs = s.pairs;
       due = s.due;
+      lines = s.lines;
       taken = s.taken;
+      told_are = s.told_are;
       stopped = stopped;
     }
 

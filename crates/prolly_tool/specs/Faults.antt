@@ -11,11 +11,12 @@ use Rattle.prolly_check.specs.declared.verdict.fault.CheckFault.TheVariants as c
 use Rattle.prolly_root.specs.FaultTexts.{proof_fault_text, root_fault_text}
 use Rattle.prolly_root.specs.declared.root_fault.RootFault.{RootFault}
 use Rattle.prolly_root.specs.declared.root_fault.RootFault.TheVariants as roots
+use Rattle.prolly_text.specs.declared.lines.keys.KeysFault.TheVariants as key_faults
 use Rattle.prolly_text.specs.declared.lines.pack.LinesFault.TheVariants as lines
 use Rattle.prolly_text.specs.declared.lines.pack.PackFault.TheVariants as packs
 use Rattle.prolly_tool.specs.declared.faults.fault.Fault.{Fault}
 use Rattle.prolly_tool.specs.declared.faults.fault.Fault.TheVariants.{Memory, Read, Write}
-use Rattle.prolly_tool.specs.declared.faults.fault.Fault.TheVariants.{Run, Pack, Check, NoCounts}
+use Rattle.prolly_tool.specs.declared.faults.fault.Fault.TheVariants.{Run, Pack, Keys, Check, NoCounts}
 use Rattle.prolly_tool.specs.declared.faults.fault.Fault.TheVariants.{InputTooLong, BadKey}
 use Rattle.prolly_tool.specs.declared.faults.fault.Fault.TheVariants.{BadTextKey}
 use Rattle.prolly_tool.specs.declared.faults.fault.Fault.TheVariants.{NotUnicode}
@@ -24,7 +25,7 @@ use Rattle.prolly_tool.specs.declared.faults.fault.Fault.TheVariants.{CheckNew}
 use Rattle.prolly_tool.specs.declared.faults.fault.Fault.TheVariants.{Proof, Root, RootOld, RootNew}
 use Rattle.prolly_tool.specs.declared.faults.fault.Fault.TheVariants.{BadRoot, LoneRoot, Stream}
 use Rattle.prolly_tool.specs.declared.faults.fault.Fault.TheVariants.{WrongBits, OtherHeader}
-use Rattle.prolly_text.specs.LinesFaults.{lines_text}
+use Rattle.prolly_text.specs.LinesFaults.{keys_text, lines_text}
 
 -- What is said of one of two files, which is told first; want of memory is no file's fault.
 abbrev pub side_fault_text : List ℕ → CheckFault → List ℕ
@@ -43,6 +44,7 @@ fault_text Read = codes "file 0: read failed"
 fault_text Write = codes "write failed"
 fault_text (Run fault) = run_text fault
 fault_text (Pack fault) = lines_text fault
+fault_text (Keys fault) = keys_text fault
 fault_text (Check fault) = check_fault_text fault
 fault_text (Stream fault) = stream_fault_text fault
 fault_text (CheckOld fault) = side_fault_text (codes "old ") fault
@@ -121,6 +123,11 @@ fault_status (Pack (lines.Pack (packs.BadLine line))) = 3
 fault_status (Pack (lines.BadText line)) = 3
 fault_status (Pack (lines.Pack (packs.KeyTooLong line))) = 3
 fault_status (Pack (lines.Pack (packs.ValueTooLong line))) = 3
+fault_status (Keys key_faults.Memory) = 6
+fault_status (Keys (key_faults.BadLine line)) = 3
+fault_status (Keys (key_faults.BadText line)) = 3
+fault_status (Keys (key_faults.KeyTooLong line)) = 3
+fault_status (Keys (key_faults.NotRising line)) = 3
 fault_status (Check fault) = check_status fault
 fault_status (Stream fault) = stream_status fault
 fault_status (CheckOld fault) = check_status fault

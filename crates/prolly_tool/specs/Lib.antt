@@ -30,7 +30,9 @@ pub mod Counts
 pub mod Diff
 -- What the commands `prove` and `verify` answer.
 pub mod Proofs
--- What `prove` and `verify` answer of a range of keys.
+-- The lines that are told of a set of keys, as its proof is read.
+pub mod SetLines
+-- What `prove` and `verify` answer of a set of keys.
 pub mod SetProofs
 -- What `diff` answers to who names the roots.
 pub mod RootDiffs
@@ -38,6 +40,8 @@ pub mod RootDiffs
 pub mod RootScans
 -- What `dump` answers to who names the root.
 pub mod RootDumps
+-- Lists of keys, out of files.
+pub mod KeyLists
 -- What `get` answers of many keys.
 pub mod KeyLookUps
 -- What `explain` answers, and what a command says of a record file that it goes over once.

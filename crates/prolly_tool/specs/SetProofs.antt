@@ -1,4 +1,4 @@
--- What `prove` and `verify` answer of a range of keys.
+-- What `prove` and `verify` answer of a set of keys.
 use Rattle.std.specs.Prelude.{◌≡◌, ◌⊎◌, ℕ, min, Bool, true, List, [], ◌∷◌, ◌++◌, length}
 use Rattle.std.specs.Prelude.{Option, Result, Ok, Err}
 use Rattle.std.specs.List.{AllByRecursion, filter}
@@ -11,7 +11,7 @@ use Rattle.prolly_entry.specs.declared.version.Version.{Version}
 use Rattle.prolly_file.specs.Frame.{IsSmall}
 use Rattle.prolly_file.specs.Sink.{IsSettled, SinkView}
 use Rattle.prolly_range.specs.KeySet.{KeySet, is_before}
-use Rattle.prolly_range.specs.KeySet.KeySet.{Range}
+use Rattle.prolly_range.specs.KeySet.KeySet.{Keys, Range}
 use Rattle.prolly_range.specs.Prover.{MayFailTo, TellsSink, TellsSource, WritesPart, WritesProof}
 use Rattle.prolly_range.specs.SetProof.{AreTaken, Due, IsSetProof, root_due, set_file, set_start}
 use Rattle.prolly_range.specs.Start.{IsSetStartFault}
@@ -28,8 +28,10 @@ use Rattle.prolly_tree.specs.Events.{greatest_count}
 use Rattle.prolly_tree.specs.File.{root_reference}
 use Rattle.prolly_tree.specs.LookUp.{scan}
 use Rattle.prolly_tool.specs.Answers.{ShowsDone, ShowsFault}
-use Rattle.prolly_tool.specs.LookUps.{IsLookedUp, IsNoFile, pair_lines}
+use Rattle.prolly_tool.specs.KeyLookUps.{found_at}
+use Rattle.prolly_tool.specs.LookUps.{IsLookedUp, IsNoFile}
 use Rattle.prolly_tool.specs.OutputFault.{told}
+use Rattle.prolly_tool.specs.SetLines.{keys_past, lines_at_end, lines_so_far}
 use Rattle.prolly_tool.specs.declared.answers.answer.Answer.{Answer}
 use Rattle.prolly_tool.specs.declared.faults.fault.Fault.{Fault}
 use Rattle.prolly_tool.specs.declared.faults.fault.Fault.TheVariants.{Memory, Proof, Read, Root, Write}
@@ -61,9 +63,12 @@ IsProvedSet set bytes failed old new =
     × (new.failures ≡ old.failures) × IsSettled new
 
 -- They were read whole and are such a file, and this fault stopped the proof: a failed write, which
--- the sink tells too, or want of memory.
-abbrev pub IsStoppedProof : List ℕ → Type 0 → SinkView → SinkView → ProveFault → Type 0
-IsStoppedProof bytes failed old new fault = IsLookedUp bytes failed (λ content. MayFailTo fault)
+-- the sink tells too, or want of memory; and the sink took a first part of a proof.
+abbrev pub IsStoppedProof : KeySet → List ℕ → Type 0 → SinkView → SinkView → ProveFault → Type 0
+IsStoppedProof set bytes failed old new fault =
+    IsLookedUp bytes failed (λ content. MayFailTo fault × WritesPart content.version
+    (root_due (root_reference (sha512_cut content.bits) content.version content.pairs) set ∷ [])
+    (set_start content.version) old new)
     × TellsSink {T = Unit {0}} old.failures new.failures (Err fault)
 
 -- The answer of `prove`: the proof was written; a fault stopped that; or the bytes are refused, and
@@ -71,7 +76,7 @@ IsStoppedProof bytes failed old new fault = IsLookedUp bytes failed (λ content.
 abbrev pub IsProveSet : KeySet → List ℕ → Type 0 → SinkView → SinkView → Type 0 → Answer → Type 0
 IsProveSet set bytes failed old new untouched answer =
     (IsProvedSet set bytes failed old new × ShowsDone answer)
-    ⊎ ((fault : ProveFault) × IsStoppedProof bytes failed old new fault ×
+    ⊎ ((fault : ProveFault) × IsStoppedProof set bytes failed old new fault ×
     ShowsFault answer (told_prove fault))
     ⊎ (IsNoFile bytes failed answer × untouched)
 
@@ -142,15 +147,20 @@ IsNoSetProof version root set bytes (sets.Proof fault) =
     × ((pairs : List Pair) → IsSetProof version root set bytes pairs → ⊥)
 IsNoSetProof version root set bytes sets.Stopped = ⊥
 
--- A proof was read whole, which is all that an honest source had, and the lines of the pairs that it
--- shows were written. Of the sink, `took_all` says that it took all of these bytes.
+-- A proof was read whole, which is all that an honest source had, and the lines of what it shows were
+-- written. Of the sink, `took_all` says that it took all of these bytes.
 pub record IsVerifiedSet (notation : Notation) (version : Version) (root : List ℕ) (set : KeySet)
     (is_honest : Bool) (bytes : List ℕ) (took_all : List ℕ → Type 0) : Type 0 where
   pub proof : List ℕ
   pub pairs : List Pair
   pub proves : IsSetProof version root set proof pairs
   pub read : is_honest ≡ true → bytes ≡ proof
-  pub took : took_all (pair_lines notation pairs)
+  pub took : took_all (lines_at_end notation set pairs)
+
+-- The lines are those that are told when these pairs were shown and so much is due.
+abbrev pub AreTold : Notation → KeySet → List Pair → List Due → List ℕ → Type 0
+AreTold notation set pairs due lines = (lines ≡ lines_so_far notation set pairs)
+    ⊎ ((due ≡ []) × (lines ≡ lines_at_end notation set pairs))
 
 -- This fault stopped it, when these lines were to be written: it is one of the proof, and they were
 -- all written; or one of writing them, of which the sink took a part until then.
@@ -160,18 +170,20 @@ StoppedSet refused took_all took_until lines fault =
     ((of_proof : SetFault) × (fault ≡ told_set of_proof) × refused of_proof × took_all lines)
     ⊎ ((of_lines : OutputFault) × (fault ≡ told of_lines) × took_until of_lines lines)
 
--- Chunks of a proof were taken, which show pairs, and then this fault stopped it; of the lines of
--- these pairs all were written, or a part.
+-- Chunks of a proof were taken, which show pairs, and then this fault stopped it; of the lines that
+-- are told of these all were written, or a part.
 pub record IsStoppedSet (notation : Notation) (version : Version) (root : List ℕ) (set : KeySet)
     (is_honest : Bool) (bytes : List ℕ) (took_all : List ℕ → Type 0)
     (took_until : OutputFault → List ℕ → Type 0) (fault : Fault) : Type 0 where
   pub chunks : List (List ℕ)
   pub pairs : List Pair
   pub due : List Due
+  pub lines : List ℕ
   pub taken : AreTaken version (root_due root set ∷ []) chunks pairs due
+  pub told_are : AreTold notation set pairs due lines
   pub stopped : StoppedSet
       (λ of_proof. is_honest ≡ true → IsNoSetProof version root set bytes of_proof) took_all
-      took_until (pair_lines notation pairs) fault
+      took_until lines fault
 
 -- What is told of the reads: a failed one is told as such, unless writing failed behind it; and
 -- nothing else is told so.
@@ -212,3 +224,21 @@ RangesAreRight = (version : Version) (bits : ℕ) (m : List Pair) (from : List �
     AllByRecursion IsPair m →
     AreTaken version (root_due (root_reference (sha512_cut bits) version m) (Range from to) ∷ [])
     chunks pairs due → AreFirstScanned m from to pairs due ⊎ Clash chunks (chunk_bytes version bits m)
+
+-- What was shown of a list of keys is what the map has at those of them that are past, and at all of
+-- them where nothing is due any more.
+pub record AreRightKeys (m : List Pair) (keys : List (List ℕ)) (pairs : List Pair) (due : List Due)
+    : Type 0 where
+  pub past : found_at pairs (keys_past pairs keys) ≡ found_at m (keys_past pairs keys)
+  pub all : due ≡ [] → found_at pairs keys ≡ found_at m keys
+
+-- Law: whoever knows the reference of a map's root knows of what chunks show which were taken as those
+-- of the proof of a list of keys that it is what the map has at the keys that are past, a value or
+-- nothing, and at all of them where nothing is due any more, whatever the bits of the map's tree; or
+-- else one of the chunks and a different one of the tree have one reference.
+abbrev pub ShownKeysAreRight : Type 0
+ShownKeysAreRight = (version : Version) (bits : ℕ) (m : List Pair) (keys : List (List ℕ))
+    (chunks : List (List ℕ)) (pairs : List Pair) (due : List Due) → IsMap m →
+    AllByRecursion IsPair m →
+    AreTaken version (root_due (root_reference (sha512_cut bits) version m) (Keys keys) ∷ []) chunks
+    pairs due → AreRightKeys m keys pairs due ⊎ Clash chunks (chunk_bytes version bits m)

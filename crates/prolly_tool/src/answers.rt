@@ -19,6 +19,8 @@ mod root_scan;
 mod scan;
 mod scratch;
 mod set_proof;
+mod set_verify;
+mod shown_lines;
 mod stat;
 
 pub use answer::Answer;
@@ -40,5 +42,6 @@ pub use root_get_keys::answer_get_keys_by_root;
 pub use root_scan::{RootScan, answer_scan_by_root};
 pub use scan::{answer_scan, answer_scan_in};
 pub use scratch::answer_scratch;
-pub use set_proof::{answer_prove_set, answer_prove_set_by_root, answer_verify_range};
+pub use set_proof::{answer_prove_set, answer_prove_set_by_root};
+pub use set_verify::answer_verify_set;
 pub use stat::{StatForm, Stated, answer_stat};

@@ -4,10 +4,10 @@
 ghost use Rattle.prolly_tool.specs.Dump.{RecordFilesAreDumped};
 ghost use Rattle.prolly_tool.specs.KeyLookUps.{KeysByRootAreRight};
 ghost use Rattle.prolly_tool.specs.RootDumps.{DumpsAreRight};
-ghost use Rattle.prolly_tool.specs.SetProofs.{RangesAreRight};
+ghost use Rattle.prolly_tool.specs.SetProofs.{RangesAreRight, ShownKeysAreRight};
 
 use prolly_check::laws::ways_are_right;
-use prolly_range::laws::set_proofs_are_right;
+use prolly_range::laws::{keys_are_found, set_proofs_are_right};
 
 /// What `dump` writes as a record file is that of the map.
 pub fn record_files_are_dumped()
@@ -37,4 +37,14 @@ pub fn ranges_are_right()
     ensures { RangesAreRight }
 {
     set_proofs_are_right();
+}
+
+/// What was verified of a list of keys by whoever names the root of a map is what the map has at these
+/// keys, a value or nothing: at those that are past, and at all of them where the proof was read to its
+/// end; or there are two different chunks with one reference.
+pub fn shown_keys_are_right()
+    ensures { ShownKeysAreRight }
+{
+    set_proofs_are_right();
+    keys_are_found();
 }

@@ -4,6 +4,7 @@
 mod answers;
 mod faults;
 mod input;
+mod key_list;
 pub mod laws;
 mod lines;
 
@@ -14,10 +15,11 @@ pub use answers::{
     answer_get_in, answer_get_keys, answer_get_keys_by_root, answer_nth, answer_nth_in,
     answer_pack, answer_pack_in, answer_prove, answer_prove_by_root, answer_prove_set,
     answer_prove_set_by_root, answer_root, answer_scan, answer_scan_by_root, answer_scan_in,
-    answer_scratch, answer_stat, answer_verify, answer_verify_range,
+    answer_scratch, answer_stat, answer_verify, answer_verify_set,
 };
 pub use faults::{Fault, NameFault, OutputFault};
 pub use input::INPUT_LIMIT;
+pub use key_list::read_keys;
 pub use prolly_build::{AllStart, Config, ConfigFault, Permit, Report, build, build_with};
 pub use prolly_line::{Command, ParseFault, RootPair, Sought, WriteMode, parse};
 pub use prolly_text::{

@@ -1,16 +1,18 @@
 //! The commands `get`, `scan` and `nth`, each of a file that is checked, and of one of which only a
 //! root is believed.
-use crate::inputs::{Chunks, Input, chunk_file, chunks_of};
+use crate::file_id::Found;
+use crate::inputs::{Chunks, Input, chunk_file, chunks_of, listed_keys};
+use crate::output::OUTPUT_BYTES;
 use crate::patient::Patient;
 use crate::refusal::Refusal;
 use crate::streams::Stream;
 use prolly_check::ChunkHasher;
 use prolly_entry::{Pair, Ref, Version};
-use prolly_file::ToWrite;
+use prolly_file::{Buffered, ToWrite};
 use prolly_root::{ChunkSource, Reader, RootFault};
 use prolly_tool::{
     Answer, Fault, Notation, RootScan, answer_found, answer_found_pair, answer_get_in,
-    answer_nth_in, answer_scan_by_root, answer_scan_in,
+    answer_get_keys, answer_get_keys_by_root, answer_nth_in, answer_scan_by_root, answer_scan_in,
 };
 
 /// A file of which nothing is believed but what the root of its tree vouches for, and how what is
@@ -77,6 +79,44 @@ fn value_in<S: ChunkSource>(
 ) -> Result<Option<Vec<u8>>, RootFault> {
     let mut reader = Reader::open(rt.alloc(), chunks, tree.version, tree.root)?;
     reader.get(rt.alloc(), chunks, key)
+}
+
+/// `get [--text] [--root ROOT] [--format V] --keys FILE FILE`, which prints a line for each key.
+pub fn get_keys<H: ChunkHasher>(
+    rt: &HostRuntime,
+    hasher: &H,
+    file: &str,
+    keys: &str,
+    root: Option<Ref>,
+    version: Version,
+    notation: Notation,
+) -> Result<Answer, Refusal>
+    requires { H.can_hash hasher.now }
+{
+    let printed = Stream::Output.found(rt)?;
+    let keys = listed_keys(rt, keys, notation, Found::Nothing)?;
+    let input = Input::open_beside(rt, file, printed)?;
+    let out = ToWrite::new(Patient::new(rt, rt.stdout()));
+    let mut sink = Buffered::with_capacity(rt.alloc(), OUTPUT_BYTES, out)?;
+    let answer = match root {
+        None => {
+            let mut source = input.into_chunk_file(rt)?;
+            answer_get_keys(hasher, rt.alloc(), &mut source, &keys, notation, &mut sink)
+        }
+        Some(root) => {
+            let mut chunks = chunks_of(rt, input)?;
+            answer_get_keys_by_root(
+                rt.alloc(),
+                &mut chunks,
+                version,
+                &root,
+                &keys,
+                notation,
+                &mut sink,
+            )
+        }
+    };
+    Ok(answer?)
 }
 
 /// `scan [--text] [--root ROOT] [--format V] FILE KEY LIMIT`

@@ -1,5 +1,6 @@
 //! The commands `prove` and `verify`.
-use crate::inputs::{Input, chunks_of};
+use crate::file_id::Found;
+use crate::inputs::{Input, chunks_of, listed_keys};
 use crate::output::{OUTPUT_BYTES, Output};
 use crate::output_kind::OutputKind;
 use crate::patient::Patient;
@@ -9,11 +10,11 @@ use crate::target::Target;
 use prolly_check::ChunkHasher;
 use prolly_entry::{Ref, Version};
 use prolly_file::{Buffered, FromRead, Source, ToWrite};
-use prolly_range::KeySet;
+use prolly_range::{KeySet, SortedKeys};
 use prolly_root::ChunkSource;
 use prolly_tool::{
     Answer, Fault, NameFault, Notation, Sought, WriteMode, answer_prove, answer_prove_by_root,
-    answer_prove_set, answer_prove_set_by_root, answer_verify, answer_verify_range,
+    answer_prove_set, answer_prove_set_by_root, answer_verify, answer_verify_set,
 };
 use std::alloc::AllocError;
 
@@ -26,8 +27,49 @@ fn range_between<'a>(from: &'a Vec<u8>, to: &'a Option<Vec<u8>>) -> KeySet<'a> {
     KeySet::Range { from, to }
 }
 
-/// `prove [--text] [--root ROOT] [--format V] [--from KEY] [--to KEY] FILE [KEY] OUT [--sync]
-/// [--force]`
+/// What is asked for.
+#[derive(Clone, Copy)]
+enum Asked<'a> {
+    /// What there is at a key.
+    Key(&'a [u8]),
+    /// What there is at all keys of a set.
+    Set(KeySet<'a>),
+}
+
+impl<'a> Asked<'a> {
+    /// What is sought, where these keys were read from a file of keys.
+    fn of(
+        rt: &HostRuntime,
+        sought: &'a Sought,
+        keys: &'a Vec<Vec<u8>>,
+    ) -> Result<Asked<'a>, Refusal> {
+        match sought {
+            Sought::Key(key) => Ok(Asked::Key(key)),
+            Sought::Range { from, to } => Ok(Asked::Set(range_between(from, to))),
+            Sought::Keys(_) => match SortedKeys::new(keys) {
+                Ok(sorted) => Ok(Asked::Set(KeySet::Keys(sorted))),
+                Err(fault) => Err(Refusal::of_fault(rt, Fault::from(fault))),
+            },
+        }
+    }
+}
+
+/// The keys of the file that is named in their place, where that is not the one that is to be written;
+/// none where no file is.
+fn keys_read(
+    rt: &HostRuntime,
+    sought: &Sought,
+    notation: Notation,
+    output: Found,
+) -> Result<Vec<Vec<u8>>, Refusal> {
+    match sought {
+        Sought::Keys(name) => listed_keys(rt, name, notation, output),
+        _ => Ok(Vec::new(rt.alloc())),
+    }
+}
+
+/// `prove [--text] [--root ROOT] [--format V] [--from KEY] [--to KEY] [--keys FILE] FILE [KEY] OUT
+/// [--sync] [--force]`
 pub fn prove<H: ChunkHasher>(
     rt: &HostRuntime,
     hasher: &H,
@@ -36,15 +78,18 @@ pub fn prove<H: ChunkHasher>(
     version: Version,
     sought: &Sought,
     out: &str,
+    notation: Notation,
     mode: WriteMode,
 ) -> Result<Answer, Refusal>
     requires { H.can_hash hasher.now }
 {
     let target = Target::look(rt, out, OutputKind::Proof, mode)?;
+    let keys = keys_read(rt, sought, notation, target.found())?;
+    let asked = Asked::of(rt, sought, &keys)?;
     let input = Input::open_beside(rt, file, target.found())?;
     match root {
-        None => prove_checked(rt, hasher, input, sought, target),
-        Some(root) => prove_from_root(rt, input, version, &root, sought, target),
+        None => prove_checked(rt, hasher, input, asked, target),
+        Some(root) => prove_from_root(rt, input, version, &root, asked, target),
     }
 }
 
@@ -53,14 +98,14 @@ fn prove_checked<H: ChunkHasher>(
     rt: &HostRuntime,
     hasher: &H,
     input: Input,
-    sought: &Sought,
+    asked: Asked<'_>,
     target: Target<'_>,
 ) -> Result<Answer, Refusal>
     requires { H.can_hash hasher.now }
 {
     let mut source = input.into_chunk_file(rt)?;
     let mut output = target.open(rt)?;
-    let answer = write_checked(rt, hasher, &mut source, sought, &mut output);
+    let answer = write_checked(rt, hasher, &mut source, asked, &mut output);
     output.finish(rt, target.name(), answer)
 }
 
@@ -69,17 +114,17 @@ fn write_checked<H: ChunkHasher, S: Source>(
     rt: &HostRuntime,
     hasher: &H,
     source: &mut S,
-    sought: &Sought,
+    asked: Asked<'_>,
     output: &mut Output,
 ) -> Result<Answer, AllocError>
     requires { H.can_hash hasher.now }
 {
     let alloc = rt.alloc();
-    match sought {
-        Sought::Key(key) => answer_prove(hasher, alloc, source, key, &mut ToWrite::new(output)),
-        Sought::Range { from, to } => {
+    match asked {
+        Asked::Key(key) => answer_prove(hasher, alloc, source, key, &mut ToWrite::new(output)),
+        Asked::Set(set) => {
             let mut sink = Buffered::with_capacity(alloc, OUTPUT_BYTES, ToWrite::new(output))?;
-            answer_prove_set(hasher, alloc, source, range_between(from, to), &mut sink)
+            answer_prove_set(hasher, alloc, source, set, &mut sink)
         }
     }
 }
@@ -90,12 +135,12 @@ fn prove_from_root(
     input: Input,
     version: Version,
     root: &Ref,
-    sought: &Sought,
+    asked: Asked<'_>,
     target: Target<'_>,
 ) -> Result<Answer, Refusal> {
     let mut chunks = chunks_of(rt, input)?;
     let mut output = target.open(rt)?;
-    let answer = write_from_root(rt, &mut chunks, version, root, sought, &mut output);
+    let answer = write_from_root(rt, &mut chunks, version, root, asked, &mut output);
     output.finish(rt, target.name(), answer)
 }
 
@@ -105,23 +150,22 @@ fn write_from_root<S: ChunkSource>(
     chunks: &mut S,
     version: Version,
     root: &Ref,
-    sought: &Sought,
+    asked: Asked<'_>,
     output: &mut Output,
 ) -> Result<Answer, AllocError> {
     let alloc = rt.alloc();
-    match sought {
-        Sought::Key(key) => {
+    match asked {
+        Asked::Key(key) => {
             answer_prove_by_root(alloc, chunks, version, root, key, &mut ToWrite::new(output))
         }
-        Sought::Range { from, to } => {
+        Asked::Set(set) => {
             let mut sink = Buffered::with_capacity(alloc, OUTPUT_BYTES, ToWrite::new(output))?;
-            let range = range_between(from, to);
-            answer_prove_set_by_root(alloc, chunks, version, root, range, &mut sink)
+            answer_prove_set_by_root(alloc, chunks, version, root, set, &mut sink)
         }
     }
 }
 
-/// `verify [--text] [--format V] [--from KEY] [--to KEY] ROOT [KEY] [PROOF]`
+/// `verify [--text] [--format V] [--from KEY] [--to KEY] [--keys FILE] ROOT [KEY] [PROOF]`
 pub fn verify(
     rt: &HostRuntime,
     root: Ref,
@@ -130,11 +174,10 @@ pub fn verify(
     proof: Option<String>,
     notation: Notation,
 ) -> Result<Answer, Refusal> {
-    match sought {
-        Sought::Key(key) => verify_key(rt, root, version, key, proof, notation),
-        Sought::Range { from, to } => {
-            verify_range(rt, root, version, range_between(from, to), proof, notation)
-        }
+    let keys = keys_read(rt, sought, notation, Found::Nothing)?;
+    match Asked::of(rt, sought, &keys)? {
+        Asked::Key(key) => verify_key(rt, root, version, key, proof, notation),
+        Asked::Set(set) => verify_set(rt, root, version, set, proof, notation),
     }
 }
 
@@ -164,13 +207,13 @@ fn verify_key(
     Ok(answer?)
 }
 
-/// `verify [--text] [--format V] --from KEY [--to KEY] ROOT [PROOF]`, which prints the pairs of a
-/// leaf before it reads the next one. The proof may not be the file to which they are printed.
-fn verify_range(
+/// The same of a set of keys, which prints what a leaf shows before it reads the next one. The proof may
+/// not be the file to which it is printed.
+fn verify_set(
     rt: &HostRuntime,
     root: Ref,
     version: Version,
-    range: KeySet<'_>,
+    set: KeySet<'_>,
     proof: Option<String>,
     notation: Notation,
 ) -> Result<Answer, Refusal> {
@@ -181,33 +224,25 @@ fn verify_range(
                 return Err(Refusal::of_name(rt, NameFault::IsInput, Stream::Input.name()));
             }
             let mut source = FromRead::new(Patient::new(rt, rt.stdin()));
-            print_range(rt, &mut source, notation, version, &root, range)
+            print_set(rt, &mut source, notation, version, &root, set)
         }
         Some(proof) => {
             let mut source = Input::open_beside(rt, &proof, printed)?.into_source();
-            print_range(rt, &mut source, notation, version, &root, range)
+            print_set(rt, &mut source, notation, version, &root, set)
         }
     };
     Ok(answer?)
 }
 
-/// Prints the pairs of a range, of which the source has the proof.
-fn print_range<S: Source>(
+/// Prints what a set of keys has, of which the source has the proof.
+fn print_set<S: Source>(
     rt: &HostRuntime,
     source: &mut S,
     notation: Notation,
     version: Version,
     root: &Ref,
-    range: KeySet<'_>,
+    set: KeySet<'_>,
 ) -> Result<Answer, AllocError> {
     let mut sink = ToWrite::new(Patient::new(rt, rt.stdout()));
-    answer_verify_range(
-        rt.alloc(),
-        source,
-        notation,
-        version,
-        root,
-        range,
-        &mut sink,
-    )
+    answer_verify_set(rt.alloc(), source, notation, version, root, set, &mut sink)
 }

@@ -4,11 +4,13 @@ use super::look_up_answers::file_of_three;
 use crate::expect::{expect_bytes, expect_eq};
 use prolly_check::OneThread;
 use prolly_entry::{Ref, Sha512Cut, Version};
-use prolly_file::{FromRead, ScriptDevice, ScriptSink, scratch_as};
+use prolly_file::{FromRead, ScriptDevice, ScriptSink, ScriptSource, scratch_as};
+use prolly_range::{KeySet, SortedKeys};
 use prolly_root::FileChunks;
 use prolly_test_parts::pairs_of;
 use prolly_tool::{
-    Answer, KeysFault, Notation, answer_get_keys, answer_get_keys_by_root, keys_of_lines,
+    Answer, Fault, KeysFault, Notation, answer_get_keys, answer_get_keys_by_root,
+    answer_prove_set_by_root, answer_verify_set, keys_of_lines, read_keys,
 };
 use std::alloc::{AllocError, Global};
 use std::process::Abort;
@@ -70,6 +72,27 @@ fn the_first_line_that_is_no_greater_key_is_named(rt: HostRuntime) -> Result<(),
     long.push(b'a')?;
     let told = keys_of_lines(alloc, Notation::Text, &long).err();
     expect_eq(&rt, &told, &Some(KeysFault::KeyTooLong { line: 0 }));
+    Ok(())
+}
+
+#[test]
+fn a_file_of_keys_is_read_or_its_fault_is_told(rt: HostRuntime) -> Result<(), Fail> {
+    let alloc = rt.alloc();
+    let mut good = FromRead::new(KEYS);
+    let Ok(keys) = read_keys(alloc, Notation::Text, &mut good) else {
+        return Err("keys".into());
+    };
+    expect_eq(&rt, &keys.len(), &5);
+    let mut falling = FromRead::new(b"61\n6\n".as_slice());
+    let fault = read_keys(alloc, Notation::Hex, &mut falling).err();
+    expect_eq(
+        &rt,
+        &fault,
+        &Some(Fault::Keys(KeysFault::BadLine { line: 1 })),
+    );
+    let mut failing = ScriptSource::new(KEYS.to_vec(alloc)?, 4, Some(2));
+    let fault = read_keys(alloc, Notation::Text, &mut failing).err();
+    expect_eq(&rt, &fault, &Some(Fault::Read));
     Ok(())
 }
 
@@ -157,5 +180,60 @@ fn keys_are_answered_up_to_a_fault(rt: HostRuntime) -> Result<(), Fail> {
     let (answer, sink) = answer_by_root(alloc, notation, (1, 0))?;
     expect_answer(&rt, &answer, 5, b"", b"prolly: chunk file: read failed\n");
     expect_bytes(&rt, sink.taken(), b"");
+    Ok(())
+}
+
+/// The proof of the keys.
+fn proof(alloc: Global, version: Version) -> Result<Vec<u8>, Fail> {
+    let keys = keys(alloc)?;
+    let mut chunks = FileChunks::new(ScriptDevice::new(file_of_three(alloc, version)?, None));
+    let root = root_of_three(alloc, version)?;
+    let mut sink = ScriptSink::new(alloc, 5, None);
+    let set = KeySet::Keys(SortedKeys::new(&keys).ok().ok_or("rising")?);
+    answer_prove_set_by_root(alloc, &mut chunks, version, &root, set, &mut sink)?;
+    Ok(sink.taken().to_vec(alloc)?)
+}
+
+/// What is answered to these bytes as the proof of the keys, over a sink whose call of this number
+/// fails; 0 for none.
+fn verified(
+    alloc: Global,
+    notation: Notation,
+    proof: &[u8],
+    fail_at: u64,
+) -> Result<(Answer, ScriptSink), Fail> {
+    let keys = keys(alloc)?;
+    let version = Version::Two;
+    let root = root_of_three(alloc, version)?;
+    let mut source = ScriptSource::new(proof.to_vec(alloc)?, 7, None);
+    let mut sink = ScriptSink::new(alloc, 99, Some(fail_at));
+    let set = KeySet::Keys(SortedKeys::new(&keys).ok().ok_or("rising")?);
+    let answer = answer_verify_set(alloc, &mut source, notation, version, &root, set, &mut sink)?;
+    Ok((answer, sink))
+}
+
+#[test]
+fn a_proof_of_keys_shows_a_line_for_each(rt: HostRuntime) -> Result<(), Fail> {
+    let alloc = rt.alloc();
+    let proof = proof(alloc, Version::Two)?;
+    for &(notation, lines) in LINES {
+        let (answer, sink) = verified(alloc, notation, &proof, 0)?;
+        expect_answer(&rt, &answer, 0, b"", b"");
+        expect_bytes(&rt, sink.taken(), lines);
+    }
+    Ok(())
+}
+
+#[test]
+fn a_proof_of_keys_shows_what_is_known_before_a_fault(rt: HostRuntime) -> Result<(), Fail> {
+    let alloc = rt.alloc();
+    let proof = proof(alloc, Version::Two)?;
+    let cut = &proof[..proof.len() - 1];
+    let (answer, sink) = verified(alloc, Notation::Text, cut, 0)?;
+    expect_answer(&rt, &answer, 4, b"", b"prolly: proof: truncated\n");
+    expect_bytes(&rt, sink.taken(), b"\na\t1\n");
+    let (answer, sink) = verified(alloc, Notation::Text, &proof, 2)?;
+    expect_answer(&rt, &answer, 5, b"", b"prolly: write failed\n");
+    expect_bytes(&rt, sink.taken(), b"\na\t1\n");
     Ok(())
 }

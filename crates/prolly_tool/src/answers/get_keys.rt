@@ -102,7 +102,7 @@ pub(crate) fn write_found<W: Sink>(
 }
 
 /// Appends the line of a key and its value, or of the key alone.
-fn append_found(
+pub(crate) fn append_found(
     alloc: Global,
     line: &mut Vec<u8>,
     notation: Notation,

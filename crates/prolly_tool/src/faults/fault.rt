@@ -8,7 +8,7 @@ use prolly_check::{CheckFault, StreamFault};
 use prolly_file::SinkFault;
 use prolly_link::RunFault;
 use prolly_root::{ProofFault, RootFault};
-use prolly_text::{LinesFault, PackFault};
+use prolly_text::{KeysFault, LinesFault, PackFault};
 use std::alloc::AllocError;
 use std::fmt;
 use std::fmt::{Display, Formatter};
@@ -27,6 +27,8 @@ pub enum Fault {
     Run(RunFault),
     /// A text is not packed.
     Pack(LinesFault),
+    /// A text is no list of keys.
+    Keys(KeysFault),
     /// A file is no lawful chunk file.
     Check(CheckFault),
     /// A file is not that of the tree of a root.
@@ -71,9 +73,11 @@ impl Fault {
         ensures { result ≡ fault_status self }
     {
         match self {
-            Fault::Memory | Fault::Pack(LinesFault::Pack(PackFault::Memory)) => 6,
+            Fault::Memory
+            | Fault::Pack(LinesFault::Pack(PackFault::Memory))
+            | Fault::Keys(KeysFault::Memory) => 6,
             Fault::Run(fault) => run_status(fault),
-            Fault::Pack(_) | Fault::WrongBits | Fault::OtherHeader => 3,
+            Fault::Pack(_) | Fault::Keys(_) | Fault::WrongBits | Fault::OtherHeader => 3,
             Fault::Check(fault) | Fault::CheckOld(fault) | Fault::CheckNew(fault) => {
                 check_status(fault)
             }
@@ -132,6 +136,16 @@ impl From<LinesFault> for Fault {
     }
 }
 
+impl From<KeysFault> for Fault {
+    ghost use Rattle.prolly_tool.specs.declared.faults.fault.Fault.TheVariants.{Keys};
+
+    ghost from_gives = { λ keys fault. fault ≡ Keys keys };
+
+    fn from(keys: KeysFault) -> Self {
+        Fault::Keys(keys)
+    }
+}
+
 fn check_status(fault: CheckFault) -> u8
     ensures { result ≡ check_status fault }
 {
@@ -187,6 +201,7 @@ impl Display for Fault {
             Fault::Write => f.write_str("write failed"),
             Fault::Run(fault) => fault.fmt(f),
             Fault::Pack(fault) => fault.fmt(f),
+            Fault::Keys(fault) => fault.fmt(f),
             Fault::Check(fault) => fault.fmt(f),
             Fault::Stream(fault) => fault.fmt(f),
             Fault::CheckOld(fault) => SideText("old ", *fault).fmt(f),

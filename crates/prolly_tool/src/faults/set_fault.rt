@@ -1,9 +1,10 @@
-//! What commands tell of the faults of a proof of a set of keys.
+//! What commands tell of the faults of a set of keys, and of its proof.
 ghost use Rattle.std.specs.Prelude.{◌≡◌};
 
 use crate::faults::fault::Fault;
-use prolly_range::{ProveFault, SetFault};
+use prolly_range::{NotRising, ProveFault, SetFault};
 use prolly_root::ProofFault;
+use prolly_text::KeysFault;
 
 impl From<SetFault> for Fault {
     ghost use Rattle.prolly_tool.specs.SetProofs.{told_set};
@@ -31,5 +32,17 @@ impl From<ProveFault> for Fault {
             ProveFault::Chunks(fault) => Fault::Root(fault),
             ProveFault::Write => Fault::Write,
         }
+    }
+}
+
+impl From<NotRising> for Fault {
+    ghost use Rattle.prolly_text.specs.declared.lines.keys.KeysFault.TheVariants.{NotRising as Falls};
+    ghost use Rattle.prolly_tool.specs.declared.faults.fault.Fault.TheVariants.{Keys};
+
+    ghost from_gives = { λ falls fault. fault ≡ Keys (Falls falls.place) };
+
+    fn from(falls: NotRising) -> Self {
+        let line = falls.place as u64;
+        Fault::Keys(KeysFault::NotRising { line })
     }
 }
