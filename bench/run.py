@@ -36,6 +36,9 @@ PROOF_BITS = (12, 6)
 PROVED_KEYS = 25
 """Of how many keys proofs are made."""
 
+LISTED_KEYS = (1, 100, 200, 10_000)
+"""How many keys are asked for in one run."""
+
 ROOTED_KEYS = 25
 """How many keys are looked up by the root."""
 
@@ -417,6 +420,22 @@ def show_proofs(program):
             f" verify {median(done.seconds for done in verifying) * 1000:.1f} ms,"
             f" peak {max(done.peak for done in verifying) / 1e6:.1f} MB"
         )
+        show_key_lists(program, root, bits)
+
+
+def show_key_lists(program, root, bits):
+    """How large proofs of many keys are, of neighbours and of keys from all over the tree, and how long `get` of them takes."""
+    for count in LISTED_KEYS:
+        for name, numbers in (("neighbours", range(RECORDS // 2, RECORDS // 2 + count)), ("scattered", range(0, RECORDS, RECORDS // count))):
+            Path("keys").write_text("".join(f"{number.to_bytes(16, 'big').hex()}\n" for number in numbers))
+            making = Command([program, "prove", "--root", root, "--keys", "keys", "tree", "proof"]).run()
+            verifying = Command([program, "verify", "--keys", "keys", root, "proof"]).run()
+            getting = Command([program, "get", "--root", root, "--keys", "keys", "tree"]).run()
+            print(
+                f"{count} {name} keys of {RECORDS}, --bits {bits}: proof {os.path.getsize('proof') / 1e3:.1f} kB;"
+                f" prove --root {making.seconds:.3f} s, verify {verifying.seconds:.3f} s, get --root {getting.seconds:.3f} s,"
+                f" peak {verifying.peak / 1e6:.1f} MB"
+            )
     remove(["records", "tree", "proof"])
 
 

@@ -36,6 +36,7 @@ from cases import (
     files,
     growths,
     installed,
+    key_proofs,
     kept,
     library,
     links,
@@ -66,10 +67,10 @@ KNOWN_SIZES = [(0, 1, 45), (1, 1, 53), (2, 1, 127), (3, 1, 234), (1, 2, 53), (2,
 """Numbers of pairs, versions and sizes of chunk files, as docs/format.md gives them."""
 
 
-WITH_RUNS = (by_root, diffs_by_root, applies, growths, kept, files, links, as_text, dumps, diffs, proofs, range_proofs, readers, progress, examples, installed, streams, scale, library, python_package, demo, misuse, checked_by_root, named_root)
+WITH_RUNS = (by_root, diffs_by_root, applies, growths, kept, files, links, as_text, dumps, diffs, proofs, range_proofs, key_proofs, readers, progress, examples, installed, streams, scale, library, python_package, demo, misuse, checked_by_root, named_root)
 """The parts that have runs of their own, those first that take long."""
 
-WITH_CASES = (damaged, applies, build, random_runs, as_text, diffs, diffs_by_root, scratch, pack, command_line, look_ups, dumps, proofs, range_proofs, by_root_words, surveys, checked_by_root, named_root)
+WITH_CASES = (damaged, applies, build, random_runs, as_text, diffs, diffs_by_root, scratch, pack, command_line, look_ups, dumps, proofs, range_proofs, key_proofs, by_root_words, surveys, checked_by_root, named_root)
 """The parts that have cases."""
 
 PARTS = [(name_of(part), "all_runs") for part in WITH_RUNS] + [(name_of(part), "cases") for part in WITH_CASES]

@@ -7,6 +7,7 @@
     tree.nth(4)                    # the fifth pair, or None; in files of format 2
     verify(root, b"mon", proof)    # what a proof shows to who knows the root alone
     list(verify_range(root, b"a", b"c", proof))  # all pairs between two keys, by a proof of that
+    verify_keys(root, [b"a", b"b"], proof)  # the values of many keys, or None, by a proof of that
 
 As a program, `prolly_read.py FILE HEXKEY`, it prints the value of a key in hexadecimal.
 
@@ -133,32 +134,49 @@ def verify(root, key, proof, version=1):
     return value
 
 
-def met(children, first, end):
-    """The children in which keys from `first` on and before `end` may stand."""
-    for child in children:
-        if child.key >= first:
-            yield child
-        if end is not None and child.key >= end:
-            return
-
-
 def verify_range(root, first, end, proof, version=1):
     """The pairs of the tree with this root whose keys are not less than `first`, and less than `end` if that is not None.
 
     Each is right once it is given. That they are all, the end of the proof shows: where it is at fault, `Malformed` comes last.
     """
+    def met(children, sought):
+        """The children in which such keys may stand."""
+        for child in children:
+            if child.key >= first:
+                yield child, sought
+            if end is not None and child.key >= end:
+                return
+
+    return shown_by(root, None, met, lambda key: first <= key and (end is None or key < end), proof, version)
+
+
+def verify_keys(root, keys, proof, version=1):
+    """What the proof shows of each of these keys, which rise, in the tree with this root: its value, or None."""
+    def met(children, sought):
+        """The children in which keys are sought, each with those keys."""
+        for child in children:
+            own, sought = [key for key in sought if key <= child.key], [key for key in sought if key > child.key]
+            if own:
+                yield child, own
+
+    found = dict(shown_by(root, keys, met, set(keys).__contains__, proof, version))
+    return [found.get(key) for key in keys]
+
+
+def shown_by(root, sought, met, wants, proof, version):
+    """The pairs with wanted keys that a proof shows. Of a node's children `met` gives those to go on with, and what is sought there."""
     rest = Bytes(proof, "a proof")
     if rest.take(5) != b"PRLP" + bytes([16 + version]):
         raise Malformed("a proof: bad header, or wrong version")
-    due = [(root, None)]
+    due = [(root, None, sought)]
     while due:
-        (wanted, above), *due = due
+        (wanted, above, sought), *due = due
         chunk = rest.chunk()
         entries = linked_entries(chunk, wanted, above, version)
         if chunk[0] == 0:
-            yield from (pair for pair in entries if first <= pair.key and (end is None or pair.key < end))
+            yield from (pair for pair in entries if wants(pair.key))
         else:
-            due = [(child.reference, chunk[0]) for child in met(entries, first, end)] + due
+            due = [(child.reference, chunk[0], own) for child, own in met(entries, sought)] + due
     if not rest.is_at_end():
         raise Malformed("a proof: bytes after the end")
 

@@ -16,9 +16,19 @@ BESIDE_RANGE = "the argument '--from <KEY>' cannot be used with '<KEY>'"
 
 NO_FROM = "the following required arguments were not provided:\n  --from <KEY>"
 
-PROVE_USAGE = "prove [OPTIONS] <FILE> <KEY> <OUT>\n       prolly prove [OPTIONS] --from <KEY> [--to <KEY>] <FILE> <OUT>"
+BESIDE_KEYS = "the argument '--keys <FILE>' cannot be used with '{}'"
 
-VERIFY_USAGE = "verify [OPTIONS] <ROOT> <KEY> [PROOF]\n       prolly verify [OPTIONS] --from <KEY> [--to <KEY>] <ROOT> [PROOF]"
+GET_USAGE = "get [OPTIONS] <FILE> <KEY>\n       prolly get [OPTIONS] --keys <FILE> <FILE>"
+
+PROVE_USAGE = (
+    "prove [OPTIONS] <FILE> <KEY> <OUT>\n       prolly prove [OPTIONS] --from <KEY> [--to <KEY>] <FILE> <OUT>"
+    "\n       prolly prove [OPTIONS] --keys <FILE> <FILE> <OUT>"
+)
+
+VERIFY_USAGE = (
+    "verify [OPTIONS] <ROOT> <KEY> [PROOF]\n       prolly verify [OPTIONS] --from <KEY> [--to <KEY>] <ROOT> [PROOF]"
+    "\n       prolly verify [OPTIONS] --keys <FILE> <ROOT> [PROOF]"
+)
 
 
 def helped(words, text):
@@ -118,12 +128,12 @@ def usage_cases():
         wrong(["stat", "f", "x"], "unexpected argument 'x' found", "stat [OPTIONS] <FILE>"),
         unknown(["stat", "f", "--bits", "1"], "--bits", "stat <FILE>"),
         wrong(["stat", "--json", "--json", "f"], "the argument '--json' cannot be used multiple times", "stat [OPTIONS] <FILE>"),
-        missing(["get"], ["FILE", "KEY"], "get <FILE> <KEY>"),
-        missing(["get", "f"], ["KEY"], "get <FILE> <KEY>"),
-        wrong(["get", "f", "61", "x"], "unexpected argument 'x' found", "get [OPTIONS] <FILE> <KEY>"),
+        missing(["get"], ["FILE"], GET_USAGE),
+        missing(["get", "f"], ["KEY"], GET_USAGE),
+        wrong(["get", "f", "61", "x"], "unexpected argument 'x' found", GET_USAGE),
         wrong(["get", "f", "61", "--root"], "a value is required for '--root <ROOT>' but none was supplied"),
-        wrong(["get", "--root", "r", "--root", "r", "f", "61"], "the argument '--root <ROOT>' cannot be used multiple times", "get [OPTIONS] <FILE> <KEY>"),
-        missing(["get", "--root", "r", "f"], ["KEY"], "get --root <ROOT> <FILE> <KEY>"),
+        wrong(["get", "--root", "r", "--root", "r", "f", "61"], "the argument '--root <ROOT>' cannot be used multiple times", GET_USAGE),
+        missing(["get", "--root", "r", "f"], ["KEY"], GET_USAGE),
         missing(["scan"], ["FILE", "KEY", "LIMIT"], "scan <FILE> <KEY> <LIMIT>"),
         missing(["scan", "f", "61"], ["LIMIT"], "scan <FILE> <KEY> <LIMIT>"),
         wrong(["scan", "f", "61", "1", "x"], "unexpected argument 'x' found", "scan [OPTIONS] <FILE> <KEY> <LIMIT>"),
@@ -152,8 +162,13 @@ def usage_cases():
         wrong(["dump", "f", "--text", "--text"], "the argument '--text' cannot be used multiple times", "dump [OPTIONS] <FILE> [OUT]"),
         wrong(["dump", "f", "--hex", "--hex"], "the argument '--hex' cannot be used multiple times", "dump [OPTIONS] <FILE> [OUT]"),
         wrong(["pack", "--removals", "o", "--removals"], "the argument '--removals' cannot be used multiple times", "pack [OPTIONS] <OUT>"),
-        wrong(["get", "--text", "--text", "f", "a"], "the argument '--text' cannot be used multiple times", "get [OPTIONS] <FILE> <KEY>"),
-        missing(["get", "--text", "f"], ["KEY"], "get --text <FILE> <KEY>"),
+        wrong(["get", "--text", "--text", "f", "a"], "the argument '--text' cannot be used multiple times", GET_USAGE),
+        missing(["get", "--text", "f"], ["KEY"], GET_USAGE),
+        missing(["get", "--keys", "k"], ["FILE"], GET_USAGE),
+        wrong(["get", "--keys", "k", "f", "61"], BESIDE_KEYS.format("<KEY>"), GET_USAGE),
+        wrong(["get", "f", "6", "--keys", "k", "--root", "r"], BESIDE_KEYS.format("<KEY>"), GET_USAGE),
+        wrong(["get", "f", "--keys"], "a value is required for '--keys <FILE>' but none was supplied"),
+        wrong(["get", "--keys", "k", "--keys", "k", "f"], "the argument '--keys <FILE>' cannot be used multiple times", GET_USAGE),
         missing(["prove"], ["FILE"], PROVE_USAGE),
         missing(["prove", "f"], ["KEY"], PROVE_USAGE),
         missing(["prove", "f", "61"], ["OUT"], PROVE_USAGE),
@@ -166,7 +181,14 @@ def usage_cases():
         wrong(["prove", "--to", "61", "f", "61", "o"], NO_FROM, PROVE_USAGE),
         wrong(["prove", "f", "o", "--from"], "a value is required for '--from <KEY>' but none was supplied"),
         wrong(["prove", "--from", "61", "--from", "61", "f", "o"], "the argument '--from <KEY>' cannot be used multiple times", PROVE_USAGE),
+        missing(["prove", "--keys", "k", "f"], ["OUT"], PROVE_USAGE),
+        wrong(["prove", "--keys", "k", "f", "61", "o"], BESIDE_KEYS.format("<KEY>"), PROVE_USAGE),
+        wrong(["prove", "--keys", "k", "--from", "61", "f", "o"], BESIDE_KEYS.format("--from <KEY>"), PROVE_USAGE),
+        wrong(["prove", "--keys", "k", "--to", "61", "f", "o"], BESIDE_KEYS.format("--to <KEY>"), PROVE_USAGE),
         missing(["verify"], ["ROOT"], VERIFY_USAGE),
+        wrong(["verify", "--keys", "k", "r", "61", "p"], BESIDE_KEYS.format("<KEY>"), VERIFY_USAGE),
+        wrong(["verify", "--from", "61", "--keys", "k", "r"], BESIDE_KEYS.format("--from <KEY>"), VERIFY_USAGE),
+        wrong(["verify", "--to", "61", "--keys", "k", "r"], BESIDE_KEYS.format("--to <KEY>"), VERIFY_USAGE),
         missing(["verify", "r"], ["KEY"], VERIFY_USAGE),
         wrong(["verify", "r", "61", "p", "x"], "unexpected argument 'x' found", VERIFY_USAGE),
         wrong(["verify", "--from", "61", "r", "61", "p"], BESIDE_RANGE, VERIFY_USAGE),

@@ -69,6 +69,8 @@ def printed():
         "571",
         "571",
         *map(told, from_p),
+        "week\t571",
+        "year",
         f"prolly: proof: {another(0)}",
         *cut_short(words, cut),
     ]

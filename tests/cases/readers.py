@@ -11,11 +11,11 @@ EXAMPLE = Path(__file__).parent.parent.parent / "examples" / "python"
 
 sys.path.insert(0, str(EXAMPLE))
 
-from prolly_read import Malformed, Tree, reference_from, verify, verify_range  # noqa: E402
+from prolly_read import Malformed, Tree, reference_from, verify, verify_keys, verify_range  # noqa: E402
 from cases.scratch import ABC  # noqa: E402
 from oracle.trees import chunk_file, reference_text, tree  # noqa: E402
 
-MOST_LINES = 250
+MOST_LINES = 260
 """The reader is to be one that is read at a sitting."""
 
 
@@ -41,7 +41,7 @@ def all_runs(program, _):
         with tempfile.TemporaryDirectory() as folder:
             path = Path(folder) / "tree"
             path.write_bytes(chunk_file(pairs, bits, version))
-            for test in (look_ups, scans, places, proofs, range_proofs):
+            for test in (look_ups, scans, places, proofs, range_proofs, key_proofs):
                 yield f"the reader: {test.__name__}, {name}", list(test(partial(ask, program, folder), path, pairs, bits, version))
     yield "the reader: files that are none", list(refusals())
 
@@ -142,6 +142,23 @@ def range_proofs(asked, path, pairs, bits, version):
         for change in (proof[:-1], proof + b"\0", b"p" + proof[1:], proof[:-1] + bytes([proof[-1] ^ 1])):
             if not is_refused(lambda: list(verify_range(root, first, end, change, version))):
                 yield f"a changed proof of {words} is taken"
+
+
+def key_proofs(asked, path, pairs, bits, version):
+    """What proofs of many keys show, and what the reader says of changed ones."""
+    root = tree(pairs, bits, version).reference
+    keys = some_keys(pairs)
+    for some in (keys, keys[::3], keys[:1], []):
+        (path.parent / "keys").write_text("".join(f"{key.hex()}\n" for key in some))
+        yield from differs(f"prove {len(some)} keys", asked("prove", "--keys", "keys", "tree", "proof"), (0, b""))
+        proof = (path.parent / "proof").read_bytes()
+        found = verify_keys(root, some, proof, version)
+        lines = b"".join((key.hex() if value is None else f"{key.hex()} {value.hex()}").encode() + b"\n" for key, value in zip(some, found, strict=True))
+        yield from differs(f"the proof of {len(some)} keys", asked("verify", "--format", str(version), "--keys", "keys", reference_text(root), "proof"), (0, lines))
+        yield from differs(f"the map at {len(some)} keys", found, [dict(pairs).get(key) for key in some])
+        for change in (proof[:-1], proof + b"\0", b"p" + proof[1:], proof[:-1] + bytes([proof[-1] ^ 1])):
+            if not is_refused(lambda: verify_keys(root, some, change, version)):
+                yield f"a changed proof of {len(some)} keys is taken"
 
 
 def is_refused(read):
