@@ -21,7 +21,7 @@ OTHER_HEADER = b"prolly: OLD has other --bits or another --format\n"
 
 CHANGES_LIMIT = 15
 
-RANDOM_RUNS = 1_600
+RANDOM_RUNS = 2_000
 
 SPOILED = 80
 """Old files in which a byte of a chunk is turned, and as many in which frames stand in another order."""
