@@ -228,7 +228,7 @@ fn a_proof_of_keys_shows_a_line_for_each(rt: HostRuntime) -> Result<(), Fail> {
 fn a_proof_of_keys_shows_what_is_known_before_a_fault(rt: HostRuntime) -> Result<(), Fail> {
     let alloc = rt.alloc();
     let proof = proof(alloc, Version::Two)?;
-    let cut = &proof[..proof.len() - 1];
+    let cut = &proof[..proof.len().saturating_sub(1)];
     let (answer, sink) = verified(alloc, Notation::Text, cut, 0)?;
     expect_answer(&rt, &answer, 4, b"", b"prolly: proof: truncated\n");
     expect_bytes(&rt, sink.taken(), b"\na\t1\n");
