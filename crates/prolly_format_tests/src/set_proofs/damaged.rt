@@ -91,14 +91,25 @@ fn refuses_each_part_that_ends_early(rt: HostRuntime) -> Result<(), Fail> {
 /// Lengths of frames that no proof is as long as.
 const GREAT_LENGTHS: &[u64] = &[1 << 40, 1 << 63, u64::MAX - 9, u64::MAX - 8, u64::MAX];
 
+/// The proof, where the first frame says this length.
+fn with_length(alloc: Global, proof: &[u8], len: u64) -> Result<Vec<u8>, AllocError> {
+    let mut changed = Vec::new(alloc);
+    if START_SIZE + FRAME_START <= proof.len() {
+        changed.extend_from_slice(&proof[..START_SIZE + 1])?;
+        changed.extend_from_slice(&len.to_be_bytes())?;
+        changed.extend_from_slice(&proof[START_SIZE + FRAME_START..])?;
+    }
+    Ok(changed)
+}
+
 #[test]
 fn tells_a_frame_of_a_great_length_as_cut_short(rt: HostRuntime) -> Result<(), Fail> {
     let alloc = rt.alloc();
     let tree = Tree::of(alloc, Version::One, 0, KEYS)?;
     let proof = tree.proof(&rt, alloc, range(FROM, Some(TO)))?;
-    let (start, rest) = proof.split_at(START_SIZE + 1);
-    for len in GREAT_LENGTHS {
-        let changed = joined(alloc, &[start, &len.to_be_bytes(), &rest[8..]])?;
+    for &len in GREAT_LENGTHS {
+        let changed = with_length(alloc, &proof, len)?;
+        expect_eq(&rt, &changed.len(), &proof.len());
         expect_fault(&rt, alloc, &tree, changed, ProofFault::Truncated)?;
     }
     Ok(())
