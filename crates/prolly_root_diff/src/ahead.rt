@@ -11,7 +11,7 @@ use std::marker::Model;
 use std::num::NonZeroUsize;
 use std::thread::{Threads, for_each_mut};
 
-/// The fewest bytes for which a thread is made: to hash them takes some ten times as long.
+/// The fewest bytes for which a thread is made, since its start takes time, too.
 const THREAD_BYTES: usize = 131_072;
 
 /// A chunk that was read ahead, and the reference that it should have.
