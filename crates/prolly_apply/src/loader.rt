@@ -46,9 +46,9 @@ pub struct OldLoaded<S, O: Out<OldLeaf>> {
 /// refused, by a send too, the end says so; at any other fault it is a failed read of the file with
 /// the number [`OLD_TREE`].
 ///
-/// Each chunk of the tree is read once, and hashed once. Leaves are read ahead, 4 MiB of them or one
-/// that is larger, and hashed on all processors. Holds these, and the references of the children of
-/// the nodes above.
+/// Each chunk of a tree that the source has is read once, and hashed once. Leaves are read ahead, up
+/// to 4 MiB of them and one more, and hashed on all processors. Holds these, and the references of the
+/// children of the nodes above.
 pub fn load_old<S: ChunkSource, O: Out<OldLeaf>, R: Wait + Threads + Sync>(
     rt: &R,
     alloc: Global,

@@ -179,7 +179,8 @@ where
 /// loader of the old tree is to both the loader of number [`OLD_TREE`].
 ///
 /// Takes one hash of each chunk of the old tree, and for what changes those of a build. Takes the
-/// memory of a build, and that of a leaf and of the references of the nodes above it.
+/// memory of a build, and that of the leaves that [`load_old`](prolly_apply::load_old) reads ahead
+/// and of the references of the nodes above them.
 pub fn apply_changes_with<
     R: Wait + Threads + Sync,
     D: ChunkSource + Send + Drop,
