@@ -41,8 +41,8 @@ pub struct Applied<L, I, O: Out<ChunkEvent>> {
 /// A leaf of the old tree goes on whole where no leaf is open, it ends with a boundary, and the next
 /// change is in hand and stands behind it, or the changes ended clean. Its event carries its
 /// reference. Of it no pair is copied, and only the last one is hashed. The pairs of any other leaf
-/// are copied and merged with the changes. They are not hashed either: where a leaf has no boundary
-/// before its last pair, that test decides for all of them.
+/// are copied and merged with the changes. They are not hashed either: the last one was tested, and
+/// that no other one is a boundary is the premise.
 ///
 /// A tree of other bits is refused where that shows: where a leaf that another one follows does not
 /// end with a boundary, or one of the first 40 leaves has a boundary before its last pair. Then the
