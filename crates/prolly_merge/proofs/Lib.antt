@@ -18,5 +18,11 @@ pub mod Choices
 pub mod Peeks
 -- A round of a merger of many inputs.
 pub mod Rounds
+-- Keys that several heads have.
+pub mod Shared
+-- Keys that several inputs have, and records that none of them leaves out.
+pub mod Apart
+-- The steps of a merger that refuses shared keys, and what a merger of many sent.
+pub mod Alone
 -- The first heads of inputs, while they are received.
 pub mod Openings

@@ -3,9 +3,12 @@ use Rattle.std.proofs.Common.{◌≡◌, ℕ, zero, suc, ◌<◌, List, [], ◌�
 use Rattle.std.proofs.Common.{slice_set, get_or, take, drop, ◌++◌, refl, sym, ap, ◌∙◌, subst, arith}
 use Rattle.std.proofs.Math.Seq.{take-append_seam}
 use Rattle.std.proofs.lemmas.Option.{slice_get-get_or}
+use Rattle.prolly_entry.specs.Record.{Record}
+use Rattle.prolly_link.specs.declared.message.Progress.{Progress}
 use Rattle.prolly_merge.specs.declared.heads.Head.{Head}
 use Rattle.prolly_merge.specs.declared.heads.Peeked.{Peeked}
 use Rattle.prolly_merge.specs.Each.{Each}
+use Rattle.prolly_merge.specs.Inputs.{inputs_of}
 use Rattle.prolly_merge.specs.Peeked.{peeked_of, heads_in}
 use Rattle.prolly_merge.proofs.Equal.{none_some, some_same, suc_same, suc_zero, zero_suc}
 
@@ -60,6 +63,20 @@ module _ {I : Type 0} where
   heads_are (m ∷ ns) (h ∷ hs) e = ap (λ xs. h ∷ xs)
       (heads_are ns hs (suc_same (length hs) (length ns) e))
 
+  front_set : (ps : List (Peeked I)) (at : ℕ) (p : Peeked I) →
+      take at (heads_in (slice_set ps at p)) ≡ take at (heads_in ps)
+  front_set [] at p = refl
+  front_set (q ∷ ps) zero p = refl
+  front_set (q ∷ ps) (suc at) p = ap (λ hs. q.head ∷ hs) (front_set ps at p)
+
+  -- Where one was replaced, the heads before it stay.
+  pub front_stays : (ns : List I) (hs : List Head) (ns' : List I) (hs' : List Head) (at : ℕ)
+      (p : Peeked I) → length hs ≡ length ns → length hs' ≡ length ns' →
+      peeked_of ns' hs' ≡ slice_set (peeked_of ns hs) at p → take at hs' ≡ take at hs
+  front_stays ns hs ns' hs' at p e f is =
+      ap (take at) (sym (heads_are ns' hs' f) ∙ ap heads_in is)
+      ∙ front_set (peeked_of ns hs) at p ∙ ap (take at) (heads_are ns hs e)
+
   pub get_same : (xs : List (Peeked I)) (at : ℕ) (p q : Peeked I) → slice_get xs at ≡ Some p →
       slice_get xs at ≡ Some q → p ≡ q
   get_same xs at p q e f = some_same p q (sym e ∙ f)
@@ -82,3 +99,12 @@ pub written : {A : Type 0} (new old : List A) (len : ℕ) → length new ≡ len
     take len (new ++ drop (length new) old) ≡ new
 written new old len e = subst (λ k. take k (new ++ drop (length new) old) ≡ new) e
     (take-append_seam new (drop (length new) old))
+
+-- What inputs gave, where a vector of them was written.
+pub given_written : {I : Type 0} (progress : I → Progress) (received : I → I → List Record)
+    (es ds ns : List I) (len : ℕ) → ds ≡ es → length ns ≡ len →
+    inputs_of progress received es (take len (ns ++ drop (length ns) es)) ≡
+    inputs_of progress received ds ns
+given_written progress received es ds ns len e f =
+    ap (inputs_of progress received es) (written ns es len f)
+    ∙ ap (λ os. inputs_of progress received os ns) (sym e)

@@ -3,15 +3,15 @@ use Rattle.std.proofs.Common.{◌≡◌, ℕ, Bool, true, false, cond, List, [],
 use Rattle.std.proofs.Common.{Some, None, inl, inr, refl, sym, ap, ◌∙◌, subst, append_assoc}
 use Rattle.std.proofs.lemmas.List.{append-nil}
 use Rattle.std.specs.Ordering.{is_eq}
-use Rattle.std.specs.List.{AllByRecursion}
-use Rattle.prolly_entry.specs.Pair.{Pair}
+use Rattle.std.specs.List.{AllByRecursion, flat_map}
+use Rattle.std.proofs.lemmas.Grind.{flat_map-append}
 use Rattle.prolly_entry.specs.Record.{Record}
 use Rattle.prolly_entry.specs.Keys.{key_order, KeyBelow}
 use Rattle.prolly_entry.specs.Overlay.{change_of, or_else, last_change_of}
-use Rattle.prolly_entry.specs.Overlay.{pairs_of_change, pairs_put, AllRising, NotBelow}
+use Rattle.prolly_entry.specs.Overlay.{AllRising, NotBelow}
 use Rattle.prolly_entry.specs.Overlay.{rest_after}
 use Rattle.prolly_tree.specs.Merge.{Input, stop}
-use Rattle.prolly_tree.specs.Merge.{raw_merged_part, merged_part, stop_fault}
+use Rattle.prolly_tree.specs.Merge.{raw_merged_part, stop_fault}
 use Rattle.prolly_entry.specs.lemmas.RisingRecords.{IsRising, is_rising, rising_is, found_above}
 use Rattle.prolly_entry.specs.lemmas.RisingRecords.{above_trans}
 use Rattle.prolly_link.specs.declared.message.End.{End}
@@ -31,7 +31,8 @@ use Rattle.prolly_merge.specs.lemmas.Stops.{left_is}
 
 -- ---- the beginning
 
-begin_lists : (ps : List Place) (fs : List (Input RunFault)) →
+-- There, what is left is the whole.
+pub begin_lists : (ps : List Place) (fs : List (Input RunFault)) →
     AllByRecursion (λ p. p.received ≡ in_hand p.head) ps → wholes ps fs ≡ lefts ps fs
 begin_lists [] fs h = refl
 begin_lists (p ∷ ps) [] h = refl
@@ -61,7 +62,7 @@ AllMove key (p ∷ ps) (q ∷ qs) =
     AllMove key ps qs
 
 -- What the inputs gave and may still give, from before the step on.
-back : List ℕ → List Place → List Place → List (Input RunFault) → List (Input RunFault)
+pub back : List ℕ → List Place → List Place → List (Input RunFault) → List (Input RunFault)
 back key [] qs fs = []
 back key (p ∷ ps) [] fs = []
 back key (p ∷ ps) (q ∷ qs) [] = []
@@ -73,7 +74,8 @@ fit_one : (key : List ℕ) (h : Head) (got : List Record) (h' : Head) (f : Input
 fit_one key (Ended e) got h' f m fit = subst (λ x. Fits x f) m.1 fit
 fit_one key (Ready r) got h' f m fit = tt
 
-fit_back : (key : List ℕ) (ps qs : List Place) (fs : List (Input RunFault)) → AllMove key ps qs →
+-- It fits the heads before the step.
+pub fit_back : (key : List ℕ) (ps qs : List Place) (fs : List (Input RunFault)) → AllMove key ps qs →
     AllFit qs fs → AllFit ps (back key ps qs fs)
 unfolding back
 fit_back key [] [] fs m fit = tt
@@ -97,7 +99,8 @@ whole_one key xs ys h got h' f is m = go (has_key key h) m
         ap (λ g. (xs ++ g) ++ f.records) (sym m) ∙ ap (λ y. y ++ f.records) (sym is))
     go false m = ap (λ y. same (y ++ f.records)) (sym (is ∙ ap (λ g. xs ++ g) m.0 ∙ append-nil xs))
 
-wholes_back : (key : List ℕ) (ps qs : List Place) (fs : List (Input RunFault)) → AllMove key ps qs →
+-- It makes the same wholes.
+pub wholes_back : (key : List ℕ) (ps qs : List Place) (fs : List (Input RunFault)) → AllMove key ps qs →
     wholes ps (back key ps qs fs) ≡ wholes qs fs
 unfolding back
 wholes_back key [] [] fs m = refl
@@ -130,7 +133,8 @@ left_one key (Ready r) got h' f m fit = go (is_eq (key_order r.key key)) m
     go true m = refl
     go false m = ap (λ x. after (in_hand x) f) m.1
 
-lefts_back : (key : List ℕ) (ps qs : List Place) (fs : List (Input RunFault)) → AllMove key ps qs →
+-- What is left is what was left before the step, without the key.
+pub lefts_back : (key : List ℕ) (ps qs : List Place) (fs : List (Input RunFault)) → AllMove key ps qs →
     AllFit qs fs → lefts qs fs ≡ rests key (lefts ps (back key ps qs fs))
 unfolding back
 lefts_back key [] [] fs m fit = refl
@@ -163,7 +167,8 @@ lefts_live key (p ∷ ps) [] allows fit = tt
 lefts_live key (p ∷ ps) (f ∷ fs) allows fit =
     (live_one key p.head f allows.0 fit.0, lefts_live key ps fs allows.1 fit.1)
 
-lefts_not_below : (key : List ℕ) (ps : List Place) (fs : List (Input RunFault)) →
+-- Nothing that is left is below the key.
+pub lefts_not_below : (key : List ℕ) (ps : List Place) (fs : List (Input RunFault)) →
     AllByRecursion (Allows key) (heads_of ps) → AllFit ps fs →
     AllByRecursion (NotBelow key) (lists_of (lefts ps fs))
 lefts_not_below key [] fs allows fit = tt
@@ -257,61 +262,51 @@ stops ps xs end first at fs fit rising =
 
 -- ---- what was sent
 
--- Where a merger of records halts, it sent what is to be sent and its end, or memory was refused
+-- The items of records are those of a first part, and then those of one record more.
+pub items_more : {T : Type 0} (items_of : Record → List T) (xs : List Record) (r : Record) →
+    flat_map items_of (xs ++ r ∷ []) ≡ flat_map items_of xs ++ items_of r
+items_more items_of xs r = flat_map-append items_of xs (r ∷ []) ∙
+    ap (λ ys. flat_map items_of xs ++ ys) (append-nil (items_of r))
+
+-- Where a merger halts, it sent the items of what is to be sent, and its end; or memory was refused
 -- and it sent a prefix.
-pub sends_records : (ps : List Place) (before sent xs : List Record) (end end_sent : End) →
-    Halts ps xs end → sent ≡ before ++ xs → end_sent ≡ end →
+pub sends_items : {T : Type 0} (items_of : Record → List T) (ps : List Place)
+    (before sent : List T) (xs : List Record) (end end_sent : End) → Halts ps xs end →
+    sent ≡ before ++ flat_map items_of xs → end_sent ≡ end →
     (fs : List (Input RunFault)) → AllFit ps fs → AllRising (lists_of (wholes ps fs)) →
-    SendsAll before (raw_merged_part (wholes ps fs)) (stop_end (wholes ps fs)) sent end_sent
-sends_records ps before sent xs end end_sent (inl h) is is' fs fit rising =
+    SendsAll before (flat_map items_of (raw_merged_part (wholes ps fs))) (stop_end (wholes ps fs))
+    sent end_sent
+sends_items items_of ps before sent xs end end_sent (inl h) is is' fs fit rising =
     let all = stops ps xs end h.0 h.1 fs fit rising in
-    inl (is ∙ ap (λ s. before ++ s) (sym all.0), is' ∙ all.1)
-sends_records ps before sent xs end end_sent (inr h) is is' fs fit rising =
-    let c = h.1.1 fs fit rising in
-    inr (
-      is' ∙ h.0,
-      (
-        xs,
-        (
-          h.1.0 ++ raw_merged_part (lefts ps fs),
-          c.merged ∙ append_assoc xs h.1.0 (raw_merged_part (lefts ps fs)),
-        ),
-        is,
-      ),
-    )
-
--- The pairs that records put are those of a first part, and then those of the rest.
-pub pairs_append : (xs ys : List Record) → pairs_put (xs ++ ys) ≡ pairs_put xs ++ pairs_put ys
-pairs_append [] ys = refl
-pairs_append (x ∷ xs) ys = ap (λ ps. pairs_of_change x.key x.value ++ ps) (pairs_append xs ys) ∙
-    sym (append_assoc (pairs_of_change x.key x.value) (pairs_put xs) (pairs_put ys))
-
-pub pairs_more : (xs : List Record) (r : Record) → pairs_put (xs ++ r ∷ []) ≡ pairs_put xs ++
-    pairs_of_change r.key r.value
-pairs_more xs r = pairs_append xs (r ∷ []) ∙ ap (λ ps. pairs_put xs ++ ps)
-    (append-nil (pairs_of_change r.key r.value))
-
--- Where a merger of pairs halts, it sent what is to be sent and its end, or memory was refused and
--- it sent a prefix.
-pub sends_pairs : (ps : List Place) (before sent : List Pair) (xs : List Record)
-    (end end_sent : End) → Halts ps xs end → sent ≡ before ++ pairs_put xs → end_sent ≡ end →
-    (fs : List (Input RunFault)) → AllFit ps fs → AllRising (lists_of (wholes ps fs)) →
-    SendsAll before (merged_part (wholes ps fs)) (stop_end (wholes ps fs)) sent end_sent
-sends_pairs ps before sent xs end end_sent (inl h) is is' fs fit rising =
-    let all = stops ps xs end h.0 h.1 fs fit rising in
-    inl (is ∙ ap (λ s. before ++ pairs_put s) (sym all.0), is' ∙ all.1)
-sends_pairs ps before sent xs end end_sent (inr h) is is' fs fit rising =
+    inl (is ∙ ap (λ s. before ++ flat_map items_of s) (sym all.0), is' ∙ all.1)
+sends_items items_of ps before sent xs end end_sent (inr h) is is' fs fit rising =
     let c = h.1.1 fs fit rising in
     let rest = h.1.0 ++ raw_merged_part (lefts ps fs) in
     inr (
       is' ∙ h.0,
       (
-        pairs_put xs,
+        flat_map items_of xs,
         (
-          pairs_put rest,
-          ap pairs_put (c.merged ∙ append_assoc xs h.1.0 (raw_merged_part (lefts ps fs))) ∙
-              pairs_append xs rest,
+          flat_map items_of rest,
+          ap (flat_map items_of) (c.merged ∙ append_assoc xs h.1.0
+              (raw_merged_part (lefts ps fs))) ∙ flat_map-append items_of xs rest,
         ),
         is,
       ),
     )
+
+-- Each record is its own item.
+pub own_items : (xs : List Record) → flat_map (λ r. r ∷ []) xs ≡ xs
+own_items [] = refl
+own_items (x ∷ xs) = ap (λ ys. x ∷ ys) (own_items xs)
+
+-- The same where the records themselves are sent.
+pub sends_records : (ps : List Place) (before sent xs : List Record) (end end_sent : End) →
+    Halts ps xs end → sent ≡ before ++ xs → end_sent ≡ end →
+    (fs : List (Input RunFault)) → AllFit ps fs → AllRising (lists_of (wholes ps fs)) →
+    SendsAll before (raw_merged_part (wholes ps fs)) (stop_end (wholes ps fs)) sent end_sent
+sends_records ps before sent xs end end_sent h is is' fs fit rising =
+    subst (λ ms. SendsAll before ms (stop_end (wholes ps fs)) sent end_sent)
+    (own_items (raw_merged_part (wholes ps fs)))
+    (sends_items (λ r. r ∷ []) ps before sent xs end end_sent h
+    (is ∙ ap (λ s. before ++ s) (sym (own_items xs))) is' fs fit rising)

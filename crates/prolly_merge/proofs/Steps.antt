@@ -63,7 +63,8 @@ module _ {I : Type 0} (link : I → LinkId) (progress : I → Progress) (Follows
     all_stay [] held = tt
     all_stay (o ∷ os) held = (one_stays o held.0, all_stay os held.1)
 
-    place_start : (os : List (Peeked I)) → AllByRecursion (λ p. p.received ≡ in_hand p.head)
+    -- At the start no more than the heads was received.
+    pub place_start : (os : List (Peeked I)) → AllByRecursion (λ p. p.received ≡ in_hand p.head)
         (places os os)
     place_start [] = tt
     place_start (o ∷ os) = (
@@ -87,7 +88,7 @@ module _ {I : Type 0} (link : I → LinkId) (progress : I → Progress) (Follows
     }
 
     -- Inputs went on, and their places move.
-    all_go_on : (key : List ℕ) (os ms ns : List (Peeked I)) → Advance os ms →
+    pub all_go_on : (key : List ℕ) (os ms ns : List (Peeked I)) → Advance os ms →
         Each (Move key) ms ns → Advance os ns × AllMove key (places os ms) (places os ns)
     all_go_on key [] [] [] a b = (tt, tt)
     all_go_on key [] [] (n ∷ ns) a b = absurd b

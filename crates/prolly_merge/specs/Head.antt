@@ -1,5 +1,5 @@
 -- The heads of inputs: what each of them gave last.
-use Rattle.std.specs.Prelude.{◌≡◌, ℕ, Bool, true, false, List, [], ◌∷◌, ◌⊎◌}
+use Rattle.std.specs.Prelude.{◌≡◌, ℕ, Bool, true, false, List, [], ◌∷◌, ◌⊎◌, Option, Some, None}
 use Rattle.std.specs.List.{AllByRecursion}
 use Rattle.std.specs.Ordering.{is_lt, is_eq}
 use Rattle.prolly_entry.specs.Record.{Record}
@@ -18,6 +18,11 @@ use Rattle.prolly_merge.specs.declared.heads.Head.TheVariants.{Ready, Ended}
 abbrev pub in_hand : Head → List Record
 in_hand (Ready r) = r ∷ []
 in_hand (Ended e) = []
+
+-- The record of a head; none of an end.
+abbrev pub record_in : Head → Option Record
+record_in (Ready r) = Some r
+record_in (Ended e) = None
 
 -- A head that is an end is the end that its input gave.
 abbrev pub IsHeld : Head → Progress → Type 0

@@ -16,5 +16,9 @@ pub mod MergeStep
 pub mod Turn
 -- Which of many inputs is next.
 pub mod Choice
+-- Keys that stand in one of several lists only, and keys that stand in two.
+pub mod Unique
+-- How a merger of many goes on, and what it knows of keys that several inputs have.
+pub mod Many
 -- Lemmas for the crates above, by subject.
 pub mod lemmas

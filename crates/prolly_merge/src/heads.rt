@@ -18,6 +18,20 @@ pub enum Head {
     Ended(End),
 }
 
+impl Head {
+    ghost use Rattle.prolly_merge.specs.Head.{record_in};
+
+    /// The record; none of an end.
+    pub(crate) fn into_record(self) -> Option<Record>
+        ensures { result ≡ record_in self }
+    {
+        match self {
+            Head::Ready(record) => Some(record),
+            Head::Ended(_) => None,
+        }
+    }
+}
+
 /// Receives the next head. An input that is lost counts as one that ended with a fault.
 pub(crate) fn receive<I: In<Record>, R: Wait>(rt: &R, input: &mut I) -> Head
     ensures link { I.link input.new ≡ I.link input.old }

@@ -5,9 +5,12 @@ ghost use Rattle.prolly_merge.specs.Head.{in_hand, has_key};
 ghost use Rattle.prolly_merge.specs.Peeked.{peeked_of, Advances};
 ghost use Rattle.prolly_merge.specs.MergeStep.{IsStep, MovesOn};
 ghost use Rattle.prolly_merge.specs.Choice.{IsLeast, IsChoice};
+ghost use Rattle.prolly_merge.specs.Many.{last_with, IsLeftOut, IsStepWith, IsManyStep};
+ghost use Rattle.prolly_merge.specs.declared.heads.MergeStep.TheVariants.{Send};
 ghost use Rattle.prolly_merge.specs.declared.heads.Peeked.{Peeked};
 
-use crate::heads::{Head, MergeStep, receive};
+use crate::heads::{Head, receive};
+use crate::unique::Doubled;
 use prolly_entry::{Record, key_order};
 use prolly_link::{End, In};
 use std::cmp::Ordering;
@@ -38,63 +41,103 @@ fn has_key(head: &Head, sent: &Record) -> bool
 }
 
 // Lets the inputs before number `at` that have the key of the record that is sent move on: theirs
-// are left out.
+// are left out. Gives the last one of them.
 fn skip_key<I: In<Record>, R: Wait>(
     rt: &R,
     inputs: &mut [I],
     heads: &mut [Head],
     at: usize,
     sent: &Record,
-)
+) -> Option<Record>
     requires input { at ≤ length inputs.old }
     requires head { at ≤ length heads.old }
-    ensures { EachUpto (MovesOn I.link I.progress I.Follows I.received sent.now.key)
+    ensures left_out { result ≡ last_with sent.now.key (take at heads.old) }
+    ensures moves { EachUpto (MovesOn I.link I.progress I.Follows I.received sent.now.key)
         (λ old new. new ≡ old) at
         (peeked_of inputs.old heads.old) (peeked_of inputs.new heads.new) }
 {
+    let mut left_out = None;
     for i in 0..at {
         if has_key(&heads[i], sent) {
-            drop(next_of(rt, inputs, heads, i));
+            left_out = next_of(rt, inputs, heads, i).into_record();
         }
     }
+    left_out
+}
+
+// A record that is sent, and the last one of those with its key that are left out for it.
+#[derive(Drop)]
+struct Taken {
+    record: Record,
+    left_out: Option<Record>,
 }
 
 // Takes the record of the chosen input. The others that have its key move on too.
-fn take<I: In<Record>, R: Wait>(
-    rt: &R,
-    least: Least,
-    inputs: &mut [I],
-    heads: &mut [Head],
-) -> Record
+fn take<I: In<Record>, R: Wait>(rt: &R, least: Least, inputs: &mut [I], heads: &mut [Head]) -> Taken
     requires inputs { length heads.old ≡ length inputs.old }
     requires least { IsLeast heads.old (Some least) }
-    ensures { IsStep I.link I.progress I.Follows I.received (peeked_of inputs.old heads.old)
-        (MergeStep.Send result)
-        (peeked_of inputs.new heads.new) }
+    ensures step { IsStep I.link I.progress I.Follows I.received (peeked_of inputs.old heads.old)
+        (Send result.record) (peeked_of inputs.new heads.new) }
+    ensures left_out { IsLeftOut heads.old result.record result.left_out }
 {
     let record = match next_of(rt, inputs, heads, least.at) {
         Head::Ready(record) => record,
         Head::Ended(_) => unreachable!(),
     };
     if least.is_shared {
-        skip_key(rt, inputs, heads, least.at, &record);
+        let left_out = skip_key(rt, inputs, heads, least.at, &record);
+        return Taken { record, left_out };
     }
-    record
+    Taken {
+        record,
+        left_out: None,
+    }
+}
+
+/// What comes of a key that several inputs have.
+#[derive(Clone, Copy)]
+pub(crate) enum SharedKey {
+    /// The record of the last input is sent, and the others are left out.
+    LastWins,
+    /// It stops the merger.
+    Refused,
+}
+
+/// A merger of many sends a record, stops with an end, or refuses a key that several inputs have.
+#[derive(Drop)]
+pub(crate) enum ManyStep {
+    Send(Record),
+    Stop(End),
+    Refuse(Doubled),
+}
+
+// What is done with a record that was taken.
+fn step_with(taken: Taken, shared: SharedKey) -> ManyStep
+    ensures { IsStepWith taken shared result }
+{
+    match (shared, taken.left_out) {
+        (SharedKey::Refused, Some(first)) => ManyStep::Refuse(Doubled {
+            first,
+            second: taken.record,
+        }),
+        _ => ManyStep::Send(taken.record),
+    }
 }
 
 /// The next record of the inputs, which they give away, or why there is none.
 pub(crate) fn next_of_many<I: In<Record>, R: Wait>(
     rt: &R,
+    shared: SharedKey,
     inputs: &mut [I],
     heads: &mut [Head],
-) -> MergeStep
+) -> ManyStep
     requires { length heads.old ≡ length inputs.old }
-    ensures { IsStep I.link I.progress I.Follows I.received (peeked_of inputs.old heads.old) result
-        (peeked_of inputs.new heads.new) }
+    ensures { IsManyStep I.link I.progress I.Follows I.received shared
+        (peeked_of inputs.old heads.old) result (peeked_of inputs.new heads.new) }
 {
     match choose(heads) {
-        Choice::Take(least) => MergeStep::Send(take(rt, least, inputs, heads)),
-        Choice::Stop(end) => MergeStep::Stop(end),
+        Choice::Take(least) => step_with(take(rt, least, inputs, heads), shared),
+        Choice::Stop(end) => ManyStep::Stop(end),
     }
 }
 

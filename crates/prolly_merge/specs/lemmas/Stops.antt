@@ -78,16 +78,18 @@ no_records : (m : List Record) → filter (λ r. false) m ≡ []
 no_records [] = refl
 no_records (r ∷ m) = no_records m
 
-record Nothing (is : List (Input RunFault)) : Type 0 where
-  records : flat_map (λ records. records) (lists_of is) ≡ []
-  stop : stop is ≡ None
+-- Nothing is left, and no fault is named.
+pub record Nothing (is : List (Input RunFault)) : Type 0 where
+  pub records : flat_map (λ records. records) (lists_of is) ≡ []
+  pub stop : stop is ≡ None
 
 done_one : (h : Head) (f : Input RunFault) → h ≡ Ended Clean → Fits h f →
     after (in_hand h) f ≡ input_of [] Clean
 done_one (Ended e) f is fit = fit ∙ ap (input_of []) (ended_same e Clean is)
 done_one (Ready r) f is fit = absurd (ready_ended r Clean is)
 
-done_all : (ps : List Place) (fs : List (Input RunFault)) →
+-- Where all heads are clean ends, nothing is left.
+pub done_all : (ps : List Place) (fs : List (Input RunFault)) →
     AllByRecursion (λ h. h ≡ Ended Clean) (heads_of ps) → AllFit ps fs → Nothing (lefts ps fs)
 done_all [] fs done fit = record { records = refl; stop = refl }
 done_all (p ∷ ps) [] done fit = absurd fit

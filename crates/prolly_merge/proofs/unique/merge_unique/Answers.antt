@@ -1,0 +1,13 @@
+use Rattle.std.proofs.Common.{arith}
+use Rattle.prolly_merge.proofs.Alone.{sent_apart}
+use Rattle.prolly_merge.proofs.Peeks.{given_written}
+use Rattle.prolly_merge.proofs.unique.merge_unique.Goals as goal
+
+pub returns-clause-merged : goal.returns-clause-merged
+returns-clause-merged g c =
+    let m = c.merge_all-out in
+    sent_apart (g.O.Out.sent c.args.out) (g.O.Out.all_sent m.result.1)
+    (g.O.Out.end_sent m.result.1) m.result.2 _ _
+    (given_written g.I.In.progress g.I.In.received c.args.inputs.items c.deref_mut.result.now
+    m.new.inputs c.args.inputs.len c.deref_mut.ensures.value
+    (omega (arith, m.auto.inputs, c.deref_mut.ensures.len))) m.ensures.merged
