@@ -1,5 +1,6 @@
 -- Which link an end is of.
 use denote.RawPtr.{Ptr}
+use Rattle.std.specs.Prelude.{ℕ, Bool, List}
 use Rattle.std.specs.declared.alloc.Global.{Global}
 use Rattle.rtrb.specs.Shared.{Names}
 use Rattle.rtrb.specs.declared.AnyItems.{AnyItems}
@@ -13,9 +14,11 @@ pub record RingId : Type 0 where
   pub names : Names
   pub heap : Global
 
--- the link of a ring; an end over a list is of none
+-- the link of a ring; or a sink, by what it was at first: whether it kept what it took, what it had
+-- taken, and how many of its calls had failed. An end over a list is of none
 pub data LinkId : Type 0 where
   ring_link : RingId → LinkId
+  sink_link : Bool → List ℕ → ℕ → LinkId
   no_link : LinkId
 
 module _ {M : Type 0} where

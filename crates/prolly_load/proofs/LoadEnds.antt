@@ -10,13 +10,14 @@ use Rattle.prolly_entry.specs.Reading.{Begins, IsReading}
 use Rattle.prolly_entry.specs.NextRecord.{IsUndecided, IsFlawed}
 use Rattle.prolly_laws.specs.Readings.{ends_clean, ends_flawed, ends_cut, first_are_good}
 use Rattle.prolly_laws.specs.Readings.{begins_all}
+use Rattle.prolly_link.specs.declared.message.End.{End}
 use Rattle.prolly_link.specs.declared.message.End.TheVariants.{Clean, Fault}
 use Rattle.prolly_link.specs.declared.fault.RunFault.{RunFault}
 use Rattle.prolly_link.specs.declared.fault.RunFault.TheVariants as faults
 use Rattle.prolly_load.specs.Buffer.{Buffered}
-use Rattle.prolly_load.specs.Fault.{fault_of}
+use Rattle.prolly_load.specs.Fault.{end_in, fault_of}
 use Rattle.prolly_load.specs.Loaded.{IsReadTo, AreFirstGood, FailsAs, IsLoaded}
-use Rattle.prolly_load.proofs.UnderWay.{IsUnderWay}
+use Rattle.prolly_load.specs.Loading.{IsUnderWay}
 
 -- ---- first records
 
@@ -44,12 +45,6 @@ module _ (file limit : ℕ) (honest : Bool) (count : ℕ) (buffered : Buffered) 
     whole = λ o _. first_good bytes limit h.records (buffered.unparsed ++ left)
         (begins_all bytes h.handed left limit h.records buffered.unparsed h.begins (h.kept o));
   }
-
-  pub refused_ends : (after' : List Record) →
-      IsUnderWay honest limit count buffered bytes left before after → after' ≡ after →
-      IsLoaded file limit honest bytes left before after' (Fault faults.Memory)
-  refused_ends after' h e = subst (λ (xs : List Record). IsLoaded file limit honest bytes left
-      before xs (Fault faults.Memory)) (sym e) (memory_ends h)
 
   -- A flaw is told by its fault.
   flaw_fails : (xs : List ℕ) (records : List Record) (flaw : Flaw) → count ≡ length records →
@@ -95,7 +90,7 @@ module _ (file limit : ℕ) (honest : Bool) (count : ℕ) (buffered : Buffered) 
   all_handed h over o = sym (h.kept o ∙ (ap (λ (x : List ℕ). h.handed ++ x) (over o) ∙
       append-nil h.handed))
 
-  pub clean_ends : IsUnderWay honest limit count buffered bytes left before after →
+  clean_ends : IsUnderWay honest limit count buffered bytes left before after →
       buffered.unparsed ≡ [] → (honest ≡ true → left ≡ []) →
       IsLoaded file limit honest bytes left before after Clean
   clean_ends h e over = record {
@@ -119,13 +114,12 @@ module _ (file limit : ℕ) (honest : Bool) (count : ℕ) (buffered : Buffered) 
   cut_reading h k some = ends_cut h.handed limit h.records buffered.unparsed h.begins some
       (rw (← h.count_is, ← h.position_is) k)
 
-  pub cut_ends : (told : RunFault) → IsUnderWay honest limit count buffered bytes left before
-      after →
+  cut_ends : IsUnderWay honest limit count buffered bytes left before after →
       IsUndecided limit count buffered.last_key buffered.unparsed → 0 < length buffered.unparsed →
       (honest ≡ true → left ≡ []) →
-      told ≡ fault_of file count flaws.Truncated →
-      IsLoaded file limit honest bytes left before after (Fault told)
-  cut_ends told h k some over e = told_as told (fault_of file count flaws.Truncated) e (record {
+      IsLoaded file limit honest bytes left before after (Fault (fault_of file count
+      flaws.Truncated))
+  cut_ends h k some over = record {
     handed = h.handed;
     records = h.records;
     kept = h.kept;
@@ -134,7 +128,26 @@ module _ (file limit : ℕ) (honest : Bool) (count : ℕ) (buffered : Buffered) 
     whole = λ o _. flaw_fails bytes h.records flaws.Truncated h.count_is
         (subst (λ (x : List ℕ). IsReading x limit h.records (Some flaws.Truncated))
         (all_handed h over o) (cut_reading h k some));
-  })
+  }
+
+  -- Where no more bytes come, the end is clean, or tells that the file is cut.
+  pub over_ends : (told : End) → IsUnderWay honest limit count buffered bytes left before after →
+      IsUndecided limit count buffered.last_key buffered.unparsed → (honest ≡ true → left ≡ []) →
+      told ≡ end_in file buffered.unparsed count →
+      IsLoaded file limit honest bytes left before after told
+  over_ends told h k over e = go buffered.unparsed refl
+    where
+      ended_as : (end : End) → told ≡ end →
+          IsLoaded file limit honest bytes left before after end →
+          IsLoaded file limit honest bytes left before after told
+      ended_as end same = subst (λ x. IsLoaded file limit honest bytes left before after x)
+          (sym same)
+
+      go : (unparsed : List ℕ) → buffered.unparsed ≡ unparsed →
+          IsLoaded file limit honest bytes left before after told
+      go [] i = ended_as Clean (e ∙ ap (λ u. end_in file u count) i) (clean_ends h i over)
+      go (b ∷ unparsed) i = ended_as (Fault (fault_of file count flaws.Truncated))
+          (e ∙ ap (λ u. end_in file u count) i) (cut_ends h k (omega (arith, ap length i)) over)
 
   pub read_ends : IsUnderWay honest limit count buffered bytes left before after →
       IsUndecided limit count buffered.last_key buffered.unparsed →

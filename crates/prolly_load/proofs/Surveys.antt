@@ -23,7 +23,8 @@ use Rattle.prolly_load.specs.Tally.{HasToldKey, Tells, cut_in}
 use Rattle.prolly_load.proofs.Tallies.{IsTallyOf, Counts, one_counted, bytes_bound, record_bound}
 use Rattle.prolly_load.proofs.Tallies.{removals_bound}
 use Rattle.prolly_load.proofs.ToldKeys.{has_told_key, told_stays}
-use Rattle.prolly_load.proofs.UnderWay.{IsUnderWay, none_sent, one_sent, more_read}
+use Rattle.prolly_load.specs.Loading.{IsUnderWay}
+use Rattle.prolly_load.proofs.UnderWay.{none_sent, one_sent, more_read}
 
 -- Some records are passed as if they were sent, and the tally is theirs.
 pub record IsSurveying (honest : Bool) (limit : ℕ) (tally : Tally) (buffered : Buffered)

@@ -1,6 +1,6 @@
 -- A loading under way: the records that were sent, the unparsed bytes and those that the source has
 -- left.
-use Rattle.std.proofs.Common.{◌≡◌, ℕ, ◌+◌, Bool, true, List, [], ◌∷◌, ◌++◌, length, drop, None}
+use Rattle.std.proofs.Common.{◌≡◌, ℕ, ◌+◌, ◌≤◌, Bool, true, List, [], ◌∷◌, ◌++◌, length, drop, None}
 use Rattle.std.proofs.Common.{refl, sym, ap, ◌∙◌, subst, arith, append_assoc, length-append}
 use Rattle.std.proofs.lemmas.List.{append-nil, nil_from_length}
 use Rattle.std.specs.List.{flat_map}
@@ -13,21 +13,10 @@ use Rattle.prolly_entry.specs.NextRecord.{IsNext, IsUndecided, IsFlawed}
 use Rattle.prolly_laws.specs.Readings.{begins_more, begins_none, last_more}
 use Rattle.prolly_load.specs.Buffer.{Buffered}
 use Rattle.prolly_load.specs.Fill.{Gains, GainsNothing}
+use Rattle.prolly_load.specs.Loading.{IsUnderWay}
 use Rattle.prolly_load.specs.declared.loader.Taken.{Taken}
 use Rattle.prolly_load.specs.declared.loader.Taken.TheVariants as takes
 use Rattle.prolly_load.specs.Taken.{TakesRecord, TakesNext}
-
--- Some records are sent: they begin the bytes that were handed out, and behind them are the
--- unparsed ones.
-pub record IsUnderWay (honest : Bool) (limit count : ℕ) (buffered : Buffered) (bytes left : List ℕ)
-    (before after : List Record) : Type 0 where
-  pub handed : List ℕ
-  pub records : List Record
-  pub kept : honest ≡ true → bytes ≡ handed ++ left
-  pub sent : after ≡ before ++ records
-  pub begins : Begins handed limit records buffered.unparsed
-  pub count_is : count ≡ length records
-  pub position_is : buffered.last_key ≡ last_position records
 
 pub none_sent : (honest : Bool) (limit : ℕ) (buffered : Buffered) (bytes : List ℕ)
     (before : List Record) → buffered.last_key ≡ None → buffered.unparsed ≡ [] →
@@ -109,6 +98,16 @@ nothing_read honest honest' limit count buffered old new bytes left left' before
       count_is = h.count_is;
       position_is = e ∙ (ap (λ (x : Buffered). x.last_key) same ∙ h.position_is);
     }
+
+-- The records that were sent are within the limit.
+pub within : (honest : Bool) (limit count : ℕ) (buffered : Buffered) (bytes left : List ℕ)
+    (before after : List Record) →
+    IsUnderWay honest limit count buffered bytes left before after → count ≤ limit
+within honest limit count buffered bytes left before after h = omega (
+  arith,
+  h.count_is,
+  h.begins.few,
+)
 
 -- ---- what was taken
 

@@ -4,9 +4,14 @@
 
 mod buffer;
 mod loader;
+mod passed;
+mod reader;
 mod surveyor;
 mod tally;
+mod writer;
 
 pub use loader::{Loaded, fault_of, load};
+pub use reader::RecordReader;
 pub use surveyor::survey;
 pub use tally::{FlawedRecord, Survey};
+pub use writer::{RecordWriter, WrittenRecords};

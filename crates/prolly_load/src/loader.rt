@@ -1,12 +1,13 @@
 //! Loading a record file.
-ghost use Rattle.std.specs.Prelude.{◌≡◌, ◌≢◌, ◌↔◌, true, IfOk};
+ghost use Rattle.std.specs.Prelude.{◌≡◌, ◌≢◌, ◌↔◌, true, IfOk, IsErrOf};
 ghost use Rattle.prolly_entry.specs.Record.{IsRecord};
 ghost use Rattle.prolly_entry.specs.RecordAt.{LiesIn, record_at};
 ghost use Rattle.prolly_link.specs.declared.message.End.TheVariants.{Fault};
 ghost use Rattle.prolly_link.specs.declared.fault.RunFault.TheVariants.{Read};
 ghost use Rattle.prolly_load.specs.Loaded.{IsLoaded};
+ghost use Rattle.prolly_load.specs.Loading.{GoesOn};
 ghost use Rattle.prolly_load.specs.Taken.{TakesNext};
-ghost use Rattle.prolly_load.specs.Fault.{fault_of};
+ghost use Rattle.prolly_load.specs.Fault.{end_in, fault_of};
 
 use crate::buffer::Buffer;
 use prolly_entry::{Flaw, NextRecord, Pair, Record, RecordAt, next_record};
@@ -90,27 +91,60 @@ pub(crate) fn send_records<R: Wait, S: Source, O: Out<Record>>(
     };
     let mut count = 0;
     loop {
-        match take_record(alloc, &mut buffer, limit, count) {
-            Ok(Taken::Record(record)) => {
+        match next_of(alloc, file, source, &mut buffer, limit, count) {
+            Ok(record) => {
                 let size = record.size();
                 if let Err(_) = out.send_sized(rt, prepared(record, out.is_ahead()), size) {
                     return End::Fault(RunFault::Memory);
                 }
                 count += 1;
             }
-            Ok(Taken::Nothing) => match buffer.fill(source) {
-                Ok(0) => {
-                    if buffer.unparsed().is_empty() {
-                        return End::Clean;
-                    }
-                    return End::Fault(fault_of(file, count, Flaw::Truncated));
-                }
-                Ok(_) => {}
-                Err(_) => return End::Fault(RunFault::Read { file }),
-            },
-            Ok(Taken::Flawed(flaw)) => return End::Fault(fault_of(file, count, flaw)),
-            Err(_) => return End::Fault(RunFault::Memory),
+            Err(end) => return end,
         }
+    }
+}
+
+/// The record behind `count` good ones of a record file, of which at most `limit` are allowed, or
+/// the end that is due there. Reads where the bytes in the buffer decide nothing.
+pub(crate) fn next_of<S: Source>(
+    alloc: Global,
+    file: u32,
+    source: &mut S,
+    buffer: &mut Buffer,
+    limit: u32,
+    count: u32,
+) -> Result<Record, End>
+    ensures goes_on { GoesOn file limit count (S.seen source.old).is_honest
+        (S.seen source.old).left (S.seen source.new).left buffer.old buffer.new result }
+    ensures read { IsErrOf result (Fault (Read file)) ↔
+        ((S.seen source.new).failures ≢ (S.seen source.old).failures) }
+    ensures never { (S.seen source.old).is_steady ≡ true →
+        (S.seen source.new).failures ≡ (S.seen source.old).failures }
+    ensures honest { (S.seen source.old).is_honest ≡ true → (S.seen source.new).is_honest ≡ true }
+    ensures steady { (S.seen source.old).is_steady ≡ true → (S.seen source.new).is_steady ≡ true }
+{
+    loop {
+        match take_record(alloc, buffer, limit, count) {
+            Ok(Taken::Record(record)) => return Ok(record),
+            Ok(Taken::Nothing) => match buffer.fill(source) {
+                Ok(0) => return Err(end_in(file, buffer, count)),
+                Ok(_) => {}
+                Err(_) => return Err(End::Fault(RunFault::Read { file })),
+            },
+            Ok(Taken::Flawed(flaw)) => return Err(End::Fault(fault_of(file, count, flaw))),
+            Err(_) => return Err(End::Fault(RunFault::Memory)),
+        }
+    }
+}
+
+/// The end of a file of which no more bytes come: it is cut where some are not parsed.
+fn end_in(file: u32, buffer: &Buffer, count: u32) -> End
+    ensures { result ≡ end_in file buffer.now.unparsed count }
+{
+    if buffer.unparsed().is_empty() {
+        End::Clean
+    } else {
+        End::Fault(fault_of(file, count, Flaw::Truncated))
     }
 }
 

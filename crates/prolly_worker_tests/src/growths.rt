@@ -5,6 +5,7 @@
 //! test's own values, the test ends in want of memory; where it is one of the calls that are
 //! tested, the test goes on.
 use crate::applying::apply_one;
+use crate::files::{read_rest, write_all_of};
 use crate::links::comparing::{expect_bytes, expect_eq};
 use crate::loading::{THREE_PUTS, bytes_of, load_all};
 use crate::merging::{bytes_of_pairs, bytes_of_records, list_of, lists_of};
@@ -12,9 +13,10 @@ use crate::old_trees::load_three;
 use crate::stages::lists::{leaves_of, two_stages};
 use crate::stages::{KEYS, levels_of};
 use prolly_entry::{KeyCut, Version};
-use prolly_file::FromRead;
+use prolly_file::{FromRead, ScriptSink};
 use prolly_link::{End, In, LinkFault, ListOut, Next, Out, RunFault, batch_link, link};
-use prolly_merge::{merge, merge_two};
+use prolly_load::RecordReader;
+use prolly_merge::{merge, merge_records, merge_two, merge_unique};
 use prolly_root::RootFault;
 use prolly_test_parts::pairs_of;
 use std::alloc::Global;
@@ -91,6 +93,32 @@ fn a_loader_sends_a_first_part(rt: HostRuntime) -> Result<(), Fail> {
 }
 
 #[test]
+fn a_reader_gives_a_first_part(rt: HostRuntime) -> Result<(), Fail> {
+    let Ok(mut reader) = RecordReader::new(rt.alloc(), 0, FromRead::new(THREE_PUTS), 1_000) else {
+        return Ok(());
+    };
+    let given = read_rest(&rt, rt.alloc(), &mut reader)?;
+    let bytes = bytes_of(rt.alloc(), &given.items)?;
+    expect_front(&rt, &bytes, given.last, THREE_PUTS);
+    Ok(())
+}
+
+// A record that was handed back is not written, and no one after it is lost. The sink takes memory
+// too, and fails where that is refused.
+#[test]
+fn a_writer_hands_records_back(rt: HostRuntime) -> Result<(), Fail> {
+    let mut reader = RecordReader::new(rt.alloc(), 0, FromRead::new(THREE_PUTS), 1_000)?;
+    let records = read_rest(&rt, rt.alloc(), &mut reader)?.items;
+    let sink = ScriptSink::new(rt.alloc(), 4_096, None);
+    let (written, refused) = write_all_of(&rt, rt.alloc(), sink, records);
+    expect_eq(&rt, &written.count().saturating_add(refused), &3);
+    if refused == 0 && !written.has_failed() {
+        expect_bytes(&rt, written.into_sink().taken(), THREE_PUTS);
+    }
+    Ok(())
+}
+
+#[test]
 fn a_merger_sends_a_first_part(rt: HostRuntime) -> Result<(), Fail> {
     let alloc = rt.alloc();
     let files = [
@@ -102,6 +130,33 @@ fn a_merger_sends_a_first_part(rt: HostRuntime) -> Result<(), Fail> {
     expect_eq(&rt, &merged.inputs.len(), &3);
     let bytes = bytes_of_pairs(alloc, &merged.out.items)?;
     expect_front(&rt, &bytes, merged.out.last, b"a3b2c1");
+    Ok(())
+}
+
+#[test]
+fn a_merger_of_records_sends_a_first_part(rt: HostRuntime) -> Result<(), Fail> {
+    let alloc = rt.alloc();
+    let files = [
+        (b"a1c1".as_slice(), End::Clean),
+        (b"b2", End::Clean),
+        (b"a-", End::Clean),
+    ];
+    let merged = merge_records(&rt, alloc, lists_of(alloc, &files)?, ListOut::new(alloc));
+    expect_eq(&rt, &merged.inputs.len(), &3);
+    let bytes = bytes_of_records(alloc, &merged.out.items)?;
+    expect_front(&rt, &bytes, merged.out.last, b"a-b2c1");
+    Ok(())
+}
+
+#[test]
+fn a_merger_of_unique_keys_sends_a_first_part(rt: HostRuntime) -> Result<(), Fail> {
+    let alloc = rt.alloc();
+    let files = [(b"a1c-".as_slice(), End::Clean), (b"b2", End::Clean)];
+    let merged = merge_unique(&rt, alloc, lists_of(alloc, &files)?, ListOut::new(alloc));
+    expect_eq(&rt, &merged.inputs.len(), &2);
+    expect_eq(&rt, &merged.doubled.is_none(), &true);
+    let bytes = bytes_of_records(alloc, &merged.out.items)?;
+    expect_front(&rt, &bytes, merged.out.last, b"a1b2c-");
     Ok(())
 }
 

@@ -6,6 +6,8 @@
 #[cfg(test)]
 mod applying;
 #[cfg(test)]
+mod files;
+#[cfg(test)]
 mod growths;
 #[cfg(test)]
 mod links;

@@ -38,7 +38,7 @@ pub(crate) fn bytes_of(alloc: Global, records: &[Record]) -> Result<Vec<u8>, All
 }
 
 /// Fails unless the first records of a file were sent, so many of them, and then this end.
-fn expect_records(
+pub(crate) fn expect_records(
     rt: &impl Abort,
     alloc: Global,
     sent: &ClosedList<Record>,
@@ -86,10 +86,10 @@ const OUT_OF_ORDER: End = End::Fault(RunFault::OutOfOrder { file: 0, place: 1 })
 
 const TOO_MANY: End = End::Fault(RunFault::TooManyRecords { file: 0 });
 
-const READ_FAILED: End = End::Fault(RunFault::Read { file: 0 });
+pub(crate) const READ_FAILED: End = End::Fault(RunFault::Read { file: 0 });
 
 /// Record files, the limit of records, how many are sent, and the end.
-const FILES: [(&[u8], u32, usize, End); 17] = [
+pub(crate) const FILES: [(&[u8], u32, usize, End); 17] = [
     (
         b"\0\x01a\0\0\0\x011\0\x01a\0\0\0\x012",
         1000,

@@ -1,4 +1,6 @@
 //! The mergers, over lists and over links.
+pub(crate) mod records;
+
 use crate::links::comparing::{expect_all_taken, expect_bytes, expect_eq, expect_sent};
 use prolly_entry::{Pair, Record};
 use prolly_file::FromRead;
@@ -10,9 +12,9 @@ use std::process::Abort;
 use std::sync::Wait;
 use std::test::Fail;
 
-const CLEAN: End = End::Clean;
+pub(crate) const CLEAN: End = End::Clean;
 
-const FIRST_FAULT: End = End::Fault(RunFault::OutOfOrder { file: 0, place: 1 });
+pub(crate) const FIRST_FAULT: End = End::Fault(RunFault::OutOfOrder { file: 0, place: 1 });
 
 const SECOND_FAULT: End = End::Fault(RunFault::OutOfOrder { file: 1, place: 1 });
 

@@ -1,5 +1,5 @@
-use Rattle.std.proofs.Common.{◌≡◌, ◌+◌, ◌-◌, ◌*◌, true, length}
-use Rattle.prolly_load.proofs.UnderWay.{IsUnderWay}
+use Rattle.std.proofs.Common.{◌≡◌, ◌-◌, true}
+use Rattle.prolly_load.specs.Loading.{IsUnderWay}
 use Rattle.prolly_load.proofs.loader.send_records.Given as goal
 
 abbrev pub invariant-loop-record : goal.invariant-loop-record
@@ -15,7 +15,6 @@ invariant-loop-record g l = record {
   failures : (g.S.Source.seen l.source).failures ≡ (g.S.Source.seen l.initial.source).failures;
 }
 
--- A record is one more of the limit, and a read is one byte more in unparsed, where there are less
--- than a record's.
+-- A record is one more of the limit.
 abbrev pub decreases-loop-record : goal.decreases-loop-record
-decreases-loop-record g l = (l.limit - l.count) * 66567 + (66566 - length l.buffer.unparsed)
+decreases-loop-record g l = l.limit - l.count
