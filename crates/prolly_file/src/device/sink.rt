@@ -79,6 +79,14 @@ impl<W: Write> ToWrite<W> {
             failures: 0,
         }
     }
+
+    /// The writer.
+    pub fn writer(&self) -> &W
+        ensures { known_bytes (W.contents result.now) ≡
+            (⟦<ToWrite<W> as Sink>⟧.seen self.now).taken }
+    {
+        &self.writer
+    }
 }
 
 impl<W: Write> Sink for ToWrite<W> {
