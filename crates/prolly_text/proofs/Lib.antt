@@ -10,10 +10,28 @@ pub mod Columns
 pub mod Commas
 -- A key that is too long to be shown whole.
 pub mod Shown
+-- The first place of a byte.
+pub mod Places
 -- Lines of text, and the split of a line at its first space.
 pub mod LineLemmas
+-- Parts of bytes.
+pub mod PartLemmas
+-- What a read behind some bytes puts there.
+pub mod FillLemmas
+-- Looking for the line that a text begins with.
+pub mod Looking
+-- Passing a line that is too long.
+pub mod Skipping
+-- A line that is refused.
+pub mod Refusing
 -- Lines that are written, and what they stand for.
 pub mod WrittenLines
+-- No line that stands for a record is longer than the limit.
+pub mod LineLengths
+-- What is wrong with a line that stands for no record.
+pub mod DefectLemmas
+-- Explaining the faulty lines of a text, one after another.
+pub mod Explaining
 -- Packing a text line by line.
 pub mod PackSteps
 -- Reading keys line by line.

@@ -11,7 +11,7 @@ use Rattle.std.proofs.lemmas.Option.{slice_get_within, unwrap_or-slice_get}
 use Rattle.std.proofs.lemmas.Bool.Decides.{nat_tests}
 use Rattle.prolly_entry.specs.Record.{Record}
 use Rattle.prolly_entry.specs.lemmas.Lists.{rest_is}
-use Rattle.prolly_text.specs.Notations.{IsWritten, StandsWithin, separator}
+use Rattle.prolly_text.specs.Notations.{IsTextFault, IsWritten, StandsWithin, separator}
 use Rattle.prolly_text.specs.declared.notation.Notation.{Notation}
 use Rattle.prolly_text.specs.declared.notation.Notation.TheVariants.{Hex, Text}
 use Rattle.prolly_text.specs.lemmas.Notations.{texts_stand_apart}
@@ -20,11 +20,11 @@ use Rattle.prolly_tree.specs.Split.{in_front}
 use Rattle.prolly_text.specs.Lines.{lines_of, reads_bare_keys, CutsAt, IsBadLine, IsDashLine}
 use Rattle.prolly_text.specs.Lines.{IsLineOf, IsPairLine, IsRemovalLine}
 use Rattle.prolly_text.specs.declared.lines.line.LineFlaw.{LineFlaw}
-use Rattle.prolly_text.specs.declared.lines.line.LineFlaw.TheVariants as flaws
 use Rattle.prolly_text.specs.declared.lines.form.LineForm.{LineForm}
-use Rattle.prolly_text.specs.PackedLines.{IsChangeOf, IsLongKey, IsLongPair, IsNotWritten}
-use Rattle.prolly_text.specs.PackedLines.{IsWrongLine}
+use Rattle.prolly_text.specs.PackedLines.{IsChangeOf, IsLongChange, IsUnreadLine, IsWrongLine}
 use Rattle.prolly_text.specs.PackedLines.{MarksRemoval, StandsFor}
+use Rattle.prolly_text.specs.declared.notation.TextFault.{TextFault}
+use Rattle.prolly_text.specs.declared.notation.TextFault.TheVariants as texts
 
 -- no place of the list has the byte
 abbrev pub Lacks : ℕ → List ℕ → Type 0
@@ -38,7 +38,7 @@ lacks byte xs h = recursion_from_All (λ b. b ≢ byte) xs h
 other : (b : ℕ) → b ≢ 0x0A → (b == 0x0A) ≡ false
 other b h = grind (arith, nat_tests)
 
-lines_in_front : (x : ℕ) (text : List ℕ) → x ≢ 0x0A →
+pub lines_in_front : (x : ℕ) (text : List ℕ) → x ≢ 0x0A →
     lines_of (x ∷ text) ≡ in_front x (lines_of text)
 lines_in_front x text h = rw (other x h) refl
 
@@ -165,14 +165,12 @@ bare_refused form line lacks e = bad_bare form line lacks
     (λ key h. bare_removes form.notation form.removals line key lacks e h)
 
 -- It is not written as a key is.
-pub wrong_bare : (form : LineForm) (line : List ℕ) (flaw : LineFlaw) →
+pub unread_bare : (form : LineForm) (line : List ℕ) (fault : TextFault) →
     Lacks (separator form.notation) line → reads_bare_keys form.notation form.removals ≡ true →
-    IsNotWritten form.notation line flaw → IsWrongLine form line flaw
-wrong_bare form line flaws.Memory lacks e h = tt
-wrong_bare form line flaws.Bad lacks e h = bad_bare form line lacks
+    IsTextFault form.notation line fault → IsUnreadLine form line fault
+unread_bare form line texts.Memory lacks e h = tt
+unread_bare form line texts.Bad lacks e h = bad_bare form line lacks
     (λ key k. bare_unread form.notation form.removals line key e h k)
-wrong_bare form line flaws.KeyTooLong lacks e h = absurd h
-wrong_bare form line flaws.ValueTooLong lacks e h = absurd h
 
 pub bare_line : (form : LineForm) (line key : List ℕ) →
     reads_bare_keys form.notation form.removals ≡ true → IsWritten form.notation line key →
@@ -222,23 +220,19 @@ no_change form line key_text change_text c other none key (Some value) h =
     none value (subst (λ t. IsWritten form.notation t value)
     (pair_texts form.notation line key_text change_text key value c h).1 h.value_is)
 
-pub wrong_key : (form : LineForm) (line key_text change_text : List ℕ) (flaw : LineFlaw) →
+pub unread_key : (form : LineForm) (line key_text change_text : List ℕ) (fault : TextFault) →
     CutsAt (separator form.notation) line key_text change_text →
-    IsNotWritten form.notation key_text flaw → IsWrongLine form line flaw
-wrong_key form line key_text change_text flaws.Memory c h = tt
-wrong_key form line key_text change_text flaws.Bad c h = no_key form line key_text change_text c h
-wrong_key form line key_text change_text flaws.KeyTooLong c h = absurd h
-wrong_key form line key_text change_text flaws.ValueTooLong c h = absurd h
+    IsTextFault form.notation key_text fault → IsUnreadLine form line fault
+unread_key form line key_text change_text texts.Memory c h = tt
+unread_key form line key_text change_text texts.Bad c h = no_key form line key_text change_text c h
 
-pub wrong_change : (form : LineForm) (line key_text change_text : List ℕ) (flaw : LineFlaw) →
+pub unread_change : (form : LineForm) (line key_text change_text : List ℕ) (fault : TextFault) →
     CutsAt (separator form.notation) line key_text change_text →
     (MarksRemoval form.notation change_text → ⊥) →
-    IsNotWritten form.notation change_text flaw → IsWrongLine form line flaw
-wrong_change form line key_text change_text flaws.Memory c other h = tt
-wrong_change form line key_text change_text flaws.Bad c other h =
+    IsTextFault form.notation change_text fault → IsUnreadLine form line fault
+unread_change form line key_text change_text texts.Memory c other h = tt
+unread_change form line key_text change_text texts.Bad c other h =
     no_change form line key_text change_text c other h
-wrong_change form line key_text change_text flaws.KeyTooLong c other h = absurd h
-wrong_change form line key_text change_text flaws.ValueTooLong c other h = absurd h
 
 removed_is : (notation : Notation) (removals : Bool) (line key_text change_text key : List ℕ) →
     CutsAt (separator notation) line key_text change_text → IsWritten notation key_text key →
@@ -271,46 +265,37 @@ line_put form line key_text change_text key value c h k = record {
 
 -- ---- the record of a line
 
-stands : (form : LineForm) (line key : List ℕ) (change : Option (List ℕ)) (r : Record) →
-    IsLineOf form line key change → IsChangeOf key change r → StandsFor form line r
-stands form line key change r h k = (
+pub record_stands : (form : LineForm) (line key : List ℕ) (change : Option (List ℕ))
+    (result : Result Record LineFlaw) → IsLineOf form line key change →
+    IfOk result (λ r. IsChangeOf key change r) → IfOk result (λ r. StandsFor form line r)
+record_stands form line key change (Ok r) h k = (
   subst (λ x. IsLineOf form line x r.value) (sym k.0)
       (subst (λ v. IsLineOf form line key v) (sym k.1) h),
   k.2,
 )
-
-long_pair : (form : LineForm) (line key value : List ℕ) (flaw : LineFlaw) →
-    IsLineOf form line key (Some value) → IsLongPair key value flaw → IsWrongLine form line flaw
-long_pair form line key value flaw h (inl k) = subst (IsWrongLine form line) (sym k.0)
-    (record { key = key; change = Some value; is = h; over = k.1 })
-long_pair form line key value flaw h (inr k) = subst (IsWrongLine form line) (sym k.0)
-    (record { key = key; value = value; is = h; within = k.1; over = k.2 })
-
-pub record_stands : (form : LineForm) (line key : List ℕ) (change : Option (List ℕ))
-    (result : Result Record LineFlaw) → IsLineOf form line key change →
-    IfOk result (λ r. IsChangeOf key change r) → IfOk result (λ r. StandsFor form line r)
-record_stands form line key change (Ok r) h k = stands form line key change r h k
 record_stands form line key change (Err flaw) h k = tt
 
--- What is wrong with a part of a line is wrong with the line.
-pub part_wrong : (form : LineForm) (line : List ℕ) (P : LineFlaw → Type 0)
-    (result : Result Record LineFlaw) → ((flaw : LineFlaw) → P flaw → IsWrongLine form line flaw) →
-    IfErr result P → IfErr result (λ flaw. IsWrongLine form line flaw)
-part_wrong form line P (Ok r) so h = tt
-part_wrong form line P (Err flaw) so h = so flaw h
-
-pub removal_wrong : (form : LineForm) (line key : List ℕ) (result : Result Record LineFlaw) →
-    IsLineOf form line key None → IfErr result (λ flaw. IsLongKey key flaw) →
-    IfErr result (λ flaw. IsWrongLine form line flaw)
-removal_wrong form line key (Ok r) h k = tt
-removal_wrong form line key (Err flaw) h k = subst (IsWrongLine form line) (sym k.0)
+long_change : (form : LineForm) (line key : List ℕ) (change : Option (List ℕ)) (flaw : LineFlaw) →
+    IsLineOf form line key change → IsLongChange key change flaw → IsWrongLine form line flaw
+long_change form line key None flaw h k = subst (IsWrongLine form line) (sym k.0)
     (record { key = key; change = None; is = h; over = k.1 })
+long_change form line key (Some value) flaw h (inl k) = subst (IsWrongLine form line) (sym k.0)
+    (record { key = key; change = Some value; is = h; over = k.1 })
+long_change form line key (Some value) flaw h (inr k) = subst (IsWrongLine form line) (sym k.0)
+    (record { key = key; value = value; is = h; within = k.1; over = k.2 })
 
-pub put_wrong : (form : LineForm) (line key value : List ℕ) (result : Result Record LineFlaw) →
-    IsLineOf form line key (Some value) → IfErr result (λ flaw. IsLongPair key value flaw) →
-    IfErr result (λ flaw. IsWrongLine form line flaw)
-put_wrong form line key value (Ok r) h k = tt
-put_wrong form line key value (Err flaw) h k = long_pair form line key value flaw h k
+pub record_wrong : (form : LineForm) (line key : List ℕ) (change : Option (List ℕ))
+    (result : Result Record LineFlaw) → IsLineOf form line key change →
+    IfErr result (IsLongChange key change) → IfErr result (λ flaw. IsWrongLine form line flaw)
+record_wrong form line key change (Ok r) h k = tt
+record_wrong form line key change (Err flaw) h k = long_change form line key change flaw h k
+
+-- What is wrong with a part of a line is wrong with the line.
+pub part_unread : {T : Type 0} (form : LineForm) (line : List ℕ) (P : TextFault → Type 0)
+    (result : Result T TextFault) → ((fault : TextFault) → P fault → IsUnreadLine form line fault) →
+    IfErr result P → IfErr result (IsUnreadLine form line)
+part_unread form line P (Ok r) so h = tt
+part_unread form line P (Err fault) so h = so fault h
 
 -- ---- slices behind a place
 

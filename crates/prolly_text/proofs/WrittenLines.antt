@@ -215,17 +215,20 @@ same_records form (r ∷ records) (s ∷ others) h k =
     let rest = same_records form records others h.1 k.1 in cc
 
 pub lines_are_packed : LinesArePacked
-lines_are_packed form records old new count h k l =
+lines_are_packed form records old new count h k l unmarked =
     let lines = lines_are form.notation records k in (
       λ packs. let same = same_records form records packs.records k
-          (subst (λ ls. AllZip (StandsFor form) ls packs.records) lines packs.stand) in (
+          (subst (λ ls. AllZip (StandsFor form) ls packs.records) lines packs.are.stand) in (
             packs.appended ∙ ap (λ rs. old ++ flat_map record_spelling rs) same,
             packs.count_is ∙ ap length same,
           ),
       λ is. record {
         records = records;
-        stand = subst (λ ls. AllZip (StandsFor form) ls records) (sym lines)
-            (all_stand form records h k l);
+        are = record {
+          unmarked = unmarked;
+          stand = subst (λ ls. AllZip (StandsFor form) ls records) (sym lines)
+              (all_stand form records h k l);
+        };
         appended = is.0;
         count_is = is.1;
       },

@@ -26,6 +26,20 @@ pub mod Lines
 pub mod RecordForms
 -- What packing a text comes to: the record file of its lines, or the first line at fault.
 pub mod PackedLines
+-- Places of bytes.
+pub mod Span
+-- What a buffer of lines holds.
+pub mod Buffered
+-- What a read adds to the unparsed bytes.
+pub mod Fill
+-- The line that a text begins with, seen from the bytes of it that are at hand.
+pub mod Ahead
+-- Records out of the lines of a text, one after another.
+pub mod RecordLines
+-- What is wrong with a line that stands for no record.
+pub mod Defects
+-- The faulty lines of a text, explained. (This project's texts.)
+pub mod FaultyLines
 -- Lines of keys that rise. (This project's format.)
 pub mod KeyLines
 -- What is said of a text that is not packed, and of one that is no list of keys. (This project's

@@ -18,6 +18,11 @@ lines_of (b ∷ text) = if b == 0x0A then [] ∷ lines_of text else in_front b (
 abbrev pub hex_lines : LineForm
 hex_lines = record { notation = Hex; removals = false }
 
+-- A text begins with a byte order mark, which is looked for in text alone.
+abbrev pub IsMarked : Notation → List ℕ → Type 0
+IsMarked Hex text = ⊥
+IsMarked Text text = (rest : List ℕ) × (text ≡ 0xEF ∷ 0xBB ∷ 0xBF ∷ rest)
+
 -- The line is a key and a value, with a separator between them. Neither has one within, so the line
 -- has no other one.
 pub record IsPairLine (notation : Notation) (line key value : List ℕ) : Type 0 where

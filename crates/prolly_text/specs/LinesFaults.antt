@@ -8,6 +8,8 @@ use Rattle.prolly_text.specs.declared.lines.pack.LinesFault.{LinesFault}
 use Rattle.prolly_text.specs.declared.lines.pack.LinesFault.TheVariants as lines
 use Rattle.prolly_text.specs.declared.lines.pack.PackFault.{PackFault}
 use Rattle.prolly_text.specs.declared.lines.pack.PackFault.TheVariants as packs
+use Rattle.prolly_text.specs.declared.lines.reader.ReadLinesFault.{ReadLinesFault}
+use Rattle.prolly_text.specs.declared.lines.reader.ReadLinesFault.TheVariants as readers
 
 -- What is said of a line in hexadecimal.
 abbrev pub pack_text : PackFault → List ℕ
@@ -21,6 +23,15 @@ pack_text (packs.ValueTooLong line) = codes "line " ++ decimal line ++ codes ": 
 abbrev pub lines_text : LinesFault → List ℕ
 lines_text (lines.Pack fault) = pack_text fault
 lines_text (lines.BadText line) = codes "line " ++ decimal line ++ codes ": not a pair of text"
+lines_text lines.ByteOrderMark = codes "line 0: begins with a byte order mark"
+
+-- What is said of lines that are read one after another.
+abbrev pub read_lines_text : ReadLinesFault → List ℕ
+read_lines_text readers.Read = codes "read failed"
+read_lines_text (readers.Line fault) = lines_text fault
+read_lines_text (readers.LineTooLong line) = codes "line " ++ decimal line ++
+    codes ": line too long"
+read_lines_text readers.TooManyLines = codes "too many lines"
 
 -- What is said of a line of a list of keys.
 abbrev pub keys_text : KeysFault → List ℕ

@@ -18,3 +18,7 @@ pub mod Spelled
 pub mod Writing
 -- What holds of both notations.
 pub mod Notations
+-- A byte order mark, of a text and of its first line.
+pub mod Marks
+-- The records of the first lines of a text, one after another: what a loop over them may cite.
+pub mod RecordLines

@@ -3,7 +3,7 @@
 ghost use Rattle.prolly_text.specs.Names.{NamesShow};
 ghost use Rattle.prolly_text.specs.Notations.{OneTextReading, TextsStandApart, WrittenIsRead};
 ghost use Rattle.prolly_text.specs.Notations.{WrittenShows};
-ghost use Rattle.prolly_text.specs.PackedLines.{LinesArePacked};
+ghost use Rattle.prolly_text.specs.PackedLines.{LinesArePacked, LinesAreShort};
 
 /// What is written for bytes stands for them.
 pub fn written_is_read()
@@ -30,7 +30,13 @@ pub fn names_show()
     ensures { NamesShow }
 {}
 
-/// What `pack` makes of lines that were written is the record file of the same records.
+/// No line that stands for a record is longer than [`LINE_LIMIT`](crate::LINE_LIMIT).
+pub fn lines_are_short()
+    ensures { LinesAreShort }
+{}
+
+/// What `pack` makes of lines that were written is the record file of the same records, where the
+/// text does not begin with a byte order mark.
 pub fn lines_are_packed()
     ensures { LinesArePacked }
 {}

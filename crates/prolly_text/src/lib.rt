@@ -9,11 +9,13 @@ mod notation;
 mod numbers;
 
 pub use laws::{
-    lines_are_packed, names_show, one_reading, texts_stand_apart, written_is_read, written_shows,
+    lines_are_packed, lines_are_short, names_show, one_reading, texts_stand_apart, written_is_read,
+    written_shows,
 };
 pub use lines::{
-    KeysFault, LineForm, LinesFault, PackFault, RecordForm, append_change, append_line,
-    keys_of_lines, pack_lines, pack_lines_in,
+    KeysFault, LINE_LIMIT, LineCounts, LineForm, LinesFault, PackFault, ReadLinesFault, RecordForm,
+    RecordLines, append_change, append_faulty_lines, append_line, keys_of_lines, pack_lines,
+    pack_lines_in,
 };
 pub use notation::{Notation, TextFault, append_hex, append_name};
 pub use numbers::{

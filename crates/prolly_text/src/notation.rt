@@ -12,6 +12,7 @@ use crate::notation::unescape::unescaped;
 use hex::FromHexError;
 pub use name::append_name;
 use std::alloc::{AllocError, Global};
+pub(crate) use unescape::split_piece;
 
 /// How the bytes of keys and values are written.
 #[derive(Clone, Copy, Debug)]

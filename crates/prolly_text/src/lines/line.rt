@@ -4,12 +4,15 @@ ghost use Rattle.std.specs.Prelude.{Some, None, slice_get, IfOk, IfErr, IfSome, 
 ghost use Rattle.std.specs.Prelude.{◌↔◌};
 ghost use Rattle.std.specs.List.{AllByRecursion};
 ghost use Rattle.prolly_text.specs.Notations.{IsWritten, separator};
-ghost use Rattle.prolly_text.specs.Lines.{CutsAt, lines_of};
-ghost use Rattle.prolly_text.specs.PackedLines.{IsChangeOf, IsLongKey, IsLongPair, IsNotWritten};
+ghost use Rattle.prolly_text.specs.Lines.{CutsAt, IsMarked, lines_of};
+ghost use Rattle.prolly_text.specs.PackedLines.{IsChangeOf, IsLongChange, IsLongKey, IsLongPair};
+ghost use Rattle.prolly_text.specs.PackedLines.{IsNotWritten, IsUnreadLine, IsWrittenFor};
 ghost use Rattle.prolly_text.specs.PackedLines.{IsWrongLine, MarksRemoval, StandsFor, flaw_of};
+ghost use Rattle.prolly_text.specs.PackedLines.{value_in};
 
 use crate::lines::form::LineForm;
 use crate::notation::{Notation, TextFault};
+use memchr::memchr;
 use prolly_entry::{EntryFault, Pair, Record};
 use std::alloc::Global;
 
@@ -41,29 +44,75 @@ pub(crate) fn record_of(alloc: Global, form: LineForm, line: &[u8]) -> Result<Re
     ensures ok { IfOk result (λ r. StandsFor form line.now r) }
     ensures err { IfErr result (λ flaw. IsWrongLine form line.now flaw) }
 {
-    let notation = form.notation;
-    let Some((key, change)) = split_at(line, notation.separator()) else {
-        return bare_record(alloc, form, line);
-    };
-    let key = bytes_of(alloc, notation, key)?;
-    if is_removal(notation, change) {
-        return removal(key);
+    match change_of(alloc, form, line) {
+        Ok(change) => lawful_record(change),
+        Err(TextFault::Memory) => Err(LineFlaw::Memory),
+        Err(TextFault::Bad) => Err(LineFlaw::Bad),
     }
-    let value = bytes_of(alloc, notation, change)?;
-    put(key, value)
 }
 
-/// The record of a line without a separator: in text a removal, where removals are looked for.
-fn bare_record(alloc: Global, form: LineForm, line: &[u8]) -> Result<Record, LineFlaw>
+/// A key, and the value that a line puts there; with none the key is removed. Either may be too
+/// long.
+#[derive(Drop)]
+pub(crate) struct Change {
+    pub(crate) key: Vec<u8>,
+    pub(crate) value: Option<Vec<u8>>,
+}
+
+/// The change that a line is written for.
+pub(crate) fn change_of(alloc: Global, form: LineForm, line: &[u8]) -> Result<Change, TextFault>
+    ensures ok { IfOk result (IsWrittenFor form line.now) }
+    ensures err { IfErr result (IsUnreadLine form line.now) }
+{
+    let notation = form.notation;
+    let Some((key, change)) = split_at(line, notation.separator()) else {
+        return bare_change(alloc, form, line);
+    };
+    let key = notation.bytes_of(alloc, key)?;
+    if is_removal(notation, change) {
+        return Ok(Change { key, value: None });
+    }
+    let value = notation.bytes_of(alloc, change)?;
+    Ok(Change {
+        key,
+        value: Some(value),
+    })
+}
+
+/// The change of a line without a separator: in text a removal, where removals are looked for.
+fn bare_change(alloc: Global, form: LineForm, line: &[u8]) -> Result<Change, TextFault>
     requires { AllByRecursion (λ b. b ≢ separator form.notation) line.now }
-    ensures ok { IfOk result (λ r. StandsFor form line.now r) }
-    ensures err { IfErr result (λ flaw. IsWrongLine form line.now flaw) }
+    ensures ok { IfOk result (IsWrittenFor form line.now) }
+    ensures err { IfErr result (IsUnreadLine form line.now) }
 {
     if !form.reads_bare_keys() {
-        return Err(LineFlaw::Bad);
+        return Err(TextFault::Bad);
     }
-    let key = bytes_of(alloc, form.notation, line)?;
-    removal(key)
+    let key = form.notation.bytes_of(alloc, line)?;
+    Ok(Change { key, value: None })
+}
+
+/// The record of a change, where neither its key nor its value is too long.
+fn lawful_record(change: Change) -> Result<Record, LineFlaw>
+    ensures ok { IfOk result (λ r. IsChangeOf change.key.items (value_in change) r) }
+    ensures err { IfErr result (IsLongChange change.key.items (value_in change)) }
+{
+    let Change { key, value } = change;
+    match value {
+        None => removal(key),
+        Some(value) => put(key, value),
+    }
+}
+
+/// Whether a text begins with a byte order mark. In hexadecimal none is looked for, since no line
+/// begins so that stands for anything.
+pub(crate) fn is_marked(notation: Notation, text: &[u8]) -> bool
+    ensures { IsTrue result ↔ IsMarked notation text.now }
+{
+    match notation {
+        Notation::Hex => false,
+        Notation::Text => matches!(text, [0xEF, 0xBB, 0xBF, ..]),
+    }
 }
 
 /// Whether what is behind the separator marks a removal.
@@ -108,7 +157,7 @@ fn flaw_of(fault: EntryFault) -> LineFlaw
 }
 
 /// The text before the first byte of this value, and the text behind it.
-fn split_at(line: &[u8], byte: u8) -> Option<(&[u8], &[u8])>
+pub(crate) fn split_at(line: &[u8], byte: u8) -> Option<(&[u8], &[u8])>
     ensures some { IfSome result (λ texts. CutsAt byte line.now texts.0.now texts.1.now) }
     ensures none { IfNone result (AllByRecursion (λ b. b ≢ byte) line.now) }
 {
@@ -133,15 +182,13 @@ pub(crate) fn bytes_of(alloc: Global, notation: Notation, text: &[u8]) -> Result
 }
 
 /// The first place of a byte, or the number of bytes where it is not among them.
-fn first_place(bytes: &[u8], byte: u8) -> usize
+pub(crate) fn first_place(bytes: &[u8], byte: u8) -> usize
     ensures bound { result ≤ length bytes.now }
     ensures none { All (λ b. b ≢ byte) (take result bytes.now) }
     ensures there { result < length bytes.now → slice_get bytes.now result ≡ Some byte }
 {
-    for place in 0..bytes.len() {
-        if bytes[place] == byte {
-            return place;
-        }
+    match memchr(byte, bytes) {
+        Some(place) => place,
+        None => bytes.len(),
     }
-    bytes.len()
 }

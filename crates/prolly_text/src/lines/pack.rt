@@ -2,14 +2,14 @@
 ghost use Rattle.std.specs.Prelude.{◌≡◌, ◌++◌, IfOk, IfErr, OnOk, OnErr};
 ghost use Rattle.prolly_text.specs.Lines.{hex_lines};
 ghost use Rattle.prolly_text.specs.PackedLines.{IsLineFault, IsLinesFault, IsPackFault, Packs};
-ghost use Rattle.prolly_text.specs.PackedLines.{PacksLine};
+ghost use Rattle.prolly_text.specs.PackedLines.{PacksLine, StandsAt};
 ghost use Rattle.prolly_text.specs.PackedLines.{fault_at};
 ghost use Rattle.std.specs.Prelude.{◌≡◌, Some};
 
 use crate::lines::form::LineForm;
-use crate::lines::line::{LineFlaw, record_of, split_line};
+use crate::lines::line::{LineFlaw, is_marked, record_of, split_line};
 use crate::notation::Notation;
-use prolly_entry::append_record;
+use prolly_entry::{Record, append_record};
 use std::alloc::Global;
 use std::fmt;
 use std::fmt::{Display, Formatter};
@@ -52,6 +52,9 @@ pub enum LinesFault {
     /// The line is not a key and a value of text with one tab between them, and no key alone where
     /// removals are looked for.
     BadText { line: u64 },
+    /// The text begins with a byte order mark. It would be a part of the first key, which is
+    /// hardly meant; such a key is written with escapes, `\xEF\xBB\xBF`.
+    ByteOrderMark,
 }
 
 impl From<PackFault> for LinesFault {
@@ -73,6 +76,7 @@ impl Display for LinesFault {
         match self {
             LinesFault::Pack(fault) => fault.fmt(f),
             LinesFault::BadText { line } => write!(f, "line {line}: not a pair of text"),
+            LinesFault::ByteOrderMark => f.write_str("line 0: begins with a byte order mark"),
         }
     }
 }
@@ -88,7 +92,7 @@ pub fn pack_lines(alloc: Global, text: &[u8], out: &mut Vec<u8>) -> Result<u64, 
     match pack_lines_in(alloc, LineForm::hex(), text, out) {
         Ok(count) => Ok(count),
         Err(LinesFault::Pack(fault)) => Err(fault),
-        Err(LinesFault::BadText { .. }) => unreachable!(),
+        Err(LinesFault::BadText { .. } | LinesFault::ByteOrderMark) => unreachable!(),
     }
 }
 
@@ -129,17 +133,33 @@ fn pack_line(
     number: u64,
     out: &mut Vec<u8>,
 ) -> Result<(), LinesFault>
-    ensures ok { OnOk result (PacksLine form line.now out.old.items out.new.items) }
+    ensures ok { OnOk result (PacksLine form line.now number out.old.items out.new.items) }
     ensures err { IfErr result (λ fault. IsLineFault form line.now number fault) }
     ensures unchanged { OnErr result (out.new.items ≡ out.old.items) }
 {
-    let record = match record_of(alloc, form, line) {
-        Ok(record) => record,
-        Err(flaw) => return Err(fault_at(form.notation, flaw, number)),
-    };
+    let record = record_at(alloc, form, line, number)?;
     match append_record(out, &record) {
         Ok(()) => Ok(()),
         Err(_) => Err(PackFault::Memory.into()),
+    }
+}
+
+/// The record that the line of this number stands for.
+pub(crate) fn record_at(
+    alloc: Global,
+    form: LineForm,
+    line: &[u8],
+    number: u64,
+) -> Result<Record, LinesFault>
+    ensures ok { IfOk result (λ r. StandsAt form number line.now r) }
+    ensures err { IfErr result (λ fault. IsLineFault form line.now number fault) }
+{
+    if number == 0 && is_marked(form.notation, line) {
+        return Err(LinesFault::ByteOrderMark);
+    }
+    match record_of(alloc, form, line) {
+        Ok(record) => Ok(record),
+        Err(flaw) => Err(fault_at(form.notation, flaw, number)),
     }
 }
 
