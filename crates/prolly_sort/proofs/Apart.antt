@@ -22,7 +22,8 @@ none_above key (r ∷ records) h =
     ap (λ b. cond b (r ∷ filter (has key) records) (filter (has key) records))
     (not_eq_above key r.key h.0) ∙ none_above key records h.1
 
-one_at_most : (key : List ℕ) (records : List Record) → IsRising records →
+-- Of records that rise at most one has the key.
+pub one_at_most : (key : List ℕ) (records : List Record) → IsRising records →
     length (filter (has key) records) ≤ 1
 one_at_most key [] h = omega arith
 one_at_most key (r ∷ records) h = go (has key r) refl (one_at_most key records h.1)
@@ -68,7 +69,8 @@ two_kept f (r ∷ records) (suc i) (suc j) d o l e k =
     go true m = omega arith
     go false m = m
 
-apart : (records : List Record) (i j : ℕ) → AreDoubled records i j →
+-- Where of each key there is at most one record, no two records have one key.
+pub apart : (records : List Record) (i j : ℕ) → AreDoubled records i j →
     ((key : List ℕ) → length (filter (has key) records) ≤ 1) → ⊥
 apart records i j two few =
     let d : Record = record { key = []; value = None } in

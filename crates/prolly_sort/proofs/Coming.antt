@@ -53,7 +53,7 @@ said_by_those (r ∷ records) key = go (has key r) refl (said_by_those records k
 
 -- ---- all records, put one after another
 
-flat_singles : (records : List Record) → flat_map (λ rs. rs) (singles records) ≡ records
+pub flat_singles : (records : List Record) → flat_map (λ rs. rs) (singles records) ≡ records
 flat_singles [] = refl
 flat_singles (r ∷ records) = ap (λ rs. r ∷ rs) (flat_singles records)
 

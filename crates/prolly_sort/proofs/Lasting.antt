@@ -154,9 +154,9 @@ module _ (bytes : List ℕ) (places : List Place) where
 -- ---- a record more behind places
 
 -- A place ends the places, behind these.
-record EndsIn (places : List Place) (p : Place) : Type 0 where
-  front : List Place
-  is : places ≡ front ++ p ∷ []
+pub record EndsIn (places : List Place) (p : Place) : Type 0 where
+  pub front : List Place
+  pub is : places ≡ front ++ p ∷ []
 
 ends : (places : List Place) (k : ℕ) (p : Place) → suc k ≡ length places →
     slice_get places k ≡ Some p → EndsIn places p
@@ -171,7 +171,7 @@ ends (x ∷ y ∷ places) (suc k) p l e =
     let more = ends (y ∷ places) k p (omega (arith, l)) e in
     record { front = x ∷ more.front; is = ap (λ ps. x ∷ ps) more.is }
 
-last_ends : (places : List Place) (p : Place) → slice_get places (length places - 1) ≡ Some p →
+pub last_ends : (places : List Place) (p : Place) → slice_get places (length places - 1) ≡ Some p →
     EndsIn places p
 last_ends [] p e = absurd (none_some e)
   where

@@ -10,7 +10,19 @@ mod Sorting
 mod Numbering
 -- Records of which no two have one key.
 mod Apart
+-- The first bytes of keys as numbers, and places in the order of these.
+mod Prefixes
 -- Where records lie among bytes.
 mod Lying
 -- A record file that is written record by record.
 mod Writing
+-- A sorted run behind records whose keys are less.
+mod Behind
+-- Records of which each key comes once.
+mod Once
+-- Two records with one key, and the numbers that they carry.
+mod Telling
+-- Runs in files, one after another.
+mod Storing
+-- What readers of stored runs gave a merger.
+mod Readers

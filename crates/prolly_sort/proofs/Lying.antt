@@ -16,8 +16,8 @@ use Rattle.prolly_entry.specs.Spelling.{change_spelling, record_spelling}
 use Rattle.prolly_entry.specs.lemmas.Spellings.{after_two, key_there, record_size, value_size}
 use Rattle.prolly_sort.specs.declared.place.Place.{Place}
 use Rattle.prolly_sort.specs.Overlaid.{written}
-use Rattle.prolly_sort.specs.Place.{StandsIn, key_in, part_in, place_of, record_in, records_in}
-use Rattle.prolly_sort.specs.Place.{value_in}
+use Rattle.prolly_sort.specs.Place.{StandsIn, key_in, part_in, place_of, prefix_of, record_in}
+use Rattle.prolly_sort.specs.Place.{records_in, value_in}
 use Rattle.prolly_sort.specs.Run.{IsHeld, cost_of}
 use Rattle.prolly_sort.proofs.Numbering.{numbered_more}
 
@@ -76,6 +76,7 @@ stands_more bytes more p h = let same = record_more bytes more p h in record {
   spelled = range_more bytes more p.start p.end (omega (arith, h.ordered)) h.within ∙ h.spelled ∙
       ap record_spelling (sym same);
   lawful = subst IsRecord (sym same) h.lawful;
+  begins = h.begins ∙ ap (prefix_of 8) (sym (key_more bytes more p h));
 }
 
 records_more : (bytes more : List ℕ) (places : List Place) → AllByRecursion (StandsIn bytes) places →
@@ -132,6 +133,7 @@ module _ (bytes : List ℕ) (number : ℕ) (r : Record) where
         (omega (arith, length-append bytes (record_spelling r))) ∙
         ap record_spelling (sym new_record);
     lawful = subst IsRecord (sym new_record) h;
+    begins = ap (prefix_of 8) (sym new_key);
   }
 
 -- ---- what a run holds
@@ -141,9 +143,9 @@ written_more : (records : List Record) (r : Record) →
 written_more records r = flat_map-append record_spelling records (r ∷ []) ∙
     ap (λ xs. written records ++ xs) (append-nil (record_spelling r))
 
--- One record more takes its spelling and 32 bytes more.
+-- One record more takes its spelling and 48 bytes more.
 pub cost_more : (records : List Record) (r : Record) →
-    cost_of (records ++ r ∷ []) ≡ cost_of records + (32 + length (record_spelling r))
+    cost_of (records ++ r ∷ []) ≡ cost_of records + (48 + length (record_spelling r))
 cost_more records r = omega (
   arith,
   ap length (written_more records r),
@@ -168,7 +170,7 @@ records_with bytes places number r h =
 -- A run holds one record more.
 pub held_more : (bytes : List ℕ) (places : List Place) (is_rising rises : Bool) (budget : ℕ)
     (r : Record) → IsHeld bytes places is_rising budget → IsRecord r →
-    length bytes + 32 * length places + (32 + length (record_spelling r)) ≤ budget →
+    length bytes + 48 * length places + (48 + length (record_spelling r)) ≤ budget →
     ((rises ≡ true) ↔ Rising (keys_of (records_in bytes places ++ r ∷ []))) →
     IsHeld (bytes ++ record_spelling r)
     (places ++ place_of (length places) (length bytes) (length (bytes ++ record_spelling r)) r ∷ [])
@@ -197,7 +199,7 @@ held_more bytes places is_rising rises budget r h lawful room rising =
 -- How much of the budget the records take.
 pub cost_is : (bytes : List ℕ) (places : List Place) (is_rising : Bool) (budget : ℕ) →
     IsHeld bytes places is_rising budget →
-    cost_of (records_in bytes places) ≡ length bytes + 32 * length places
+    cost_of (records_in bytes places) ≡ length bytes + 48 * length places
 cost_is bytes places is_rising budget h = omega (
   arith,
   ap length h.spelled,
@@ -220,7 +222,7 @@ module _ (bytes all : List ℕ) (places more : List Place) (place : Place) (numb
   more_is = pushed ∙ ap (λ p. places ++ p ∷ []) place_is
 
   pub held_pushed : (is_rising rises : Bool) (budget : ℕ) → IsHeld bytes places is_rising budget →
-      IsRecord r → length bytes + 32 * length places + (32 + length (record_spelling r)) ≤ budget →
+      IsRecord r → length bytes + 48 * length places + (48 + length (record_spelling r)) ≤ budget →
       ((rises ≡ true) ↔ Rising (keys_of (records_in bytes places ++ r ∷ []))) →
       IsHeld all more rises budget
   held_pushed is_rising rises budget h lawful room rising =

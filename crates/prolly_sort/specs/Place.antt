@@ -1,6 +1,6 @@
 -- Where a record lies among the bytes of a run.
-use Rattle.std.specs.Prelude.{◌≡◌, ℕ, ◌+◌, ◌≤◌, nat_lt, Bool, List, [], ◌∷◌, ◌++◌, length, map, Option, Some}
-use Rattle.std.specs.Prelude.{None, is_some, slice_range, if◌then◌else◌}
+use Rattle.std.specs.Prelude.{◌≡◌, ℕ, zero, suc, ◌+◌, ◌*◌, ◌^◌, ◌≤◌, nat_lt, Bool, List, [], ◌∷◌}
+use Rattle.std.specs.Prelude.{◌++◌, length, map, Option, Some, None, is_some, slice_range, if◌then◌else◌}
 use Rattle.std.specs.Ordering.{is_lt}
 use Rattle.prolly_entry.specs.Keys.{key_order}
 use Rattle.prolly_entry.specs.Record.{Record, IsRecord}
@@ -14,6 +14,17 @@ part_in bytes from to = if nat_lt (length bytes) to then [] else slice_range byt
 -- The key that stands behind its length.
 abbrev pub key_in : List ℕ → Place → List ℕ
 key_in bytes p = part_in bytes (p.start + 2) (p.start + 2 + p.key_len)
+
+-- The first n bytes of a list as a number in base 256, the first one the weightiest, with zeros
+-- behind the list's end.
+abbrev pub prefix_of : ℕ → List ℕ → ℕ
+prefix_of zero bytes = 0
+prefix_of (suc n) [] = 0
+prefix_of (suc n) (byte ∷ bytes) = byte * 256 ^ n + prefix_of n bytes
+
+-- The number that stands for the key's first bytes, and the key behind it.
+abbrev pub ranked_in : List ℕ → Place → List ℕ
+ranked_in bytes p = p.prefix ∷ key_in bytes p
 
 -- The value that stands behind the key and the value's length; none where the key is removed.
 abbrev pub value_in : List ℕ → Place → Option (List ℕ)
@@ -34,6 +45,7 @@ pub record StandsIn (bytes : List ℕ) (p : Place) : Type 0 where
   pub within : p.end ≤ length bytes
   pub spelled : slice_range bytes p.start p.end ≡ record_spelling (record_in bytes p)
   pub lawful : IsRecord (record_in bytes p)
+  pub begins : p.prefix ≡ prefix_of 8 (key_in bytes p)
 
 -- The one place's key is less than the other's.
 abbrev pub is_below : List ℕ → Place → Place → Bool
@@ -42,6 +54,7 @@ is_below bytes p q = is_lt (key_order (key_in bytes p) (key_in bytes q))
 -- The place of a record of this number, whose spelling lies from `start` up to `stop`.
 abbrev pub place_of : ℕ → ℕ → ℕ → Record → Place
 place_of number start stop r = record {
+  prefix = prefix_of 8 r.key;
   number = number;
   start = start;
   end = stop;

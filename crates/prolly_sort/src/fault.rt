@@ -1,5 +1,6 @@
-//! Why a run does not take a record, and why it is not put in order.
+//! Why a run does not take a record, why it is not put in order, and why a sorter is not done.
 
+use crate::store::StoreFault;
 use std::alloc::AllocError;
 use std::error::Error;
 use std::fmt;
@@ -76,5 +77,56 @@ impl From<AllocError> for SortFault {
 
     fn from(_: AllocError) -> Self {
         SortFault::Memory
+    }
+}
+
+/// Why a sorter does not take a record, or does not put those that came in order.
+#[derive(Clone, Copy, Debug, PartialEq, Eq)]
+pub enum SorterFault {
+    /// Runs can't wait, or can't be merged.
+    Store(StoreFault),
+    /// The records of these two numbers have one key, and each key is to come once. The first that
+    /// came has number 0.
+    Doubled { first: u64, second: u64 },
+}
+
+impl Display for SorterFault {
+    ghost use Rattle.std.specs.Prelude.{Some};
+    ghost use Rattle.prolly_sort.specs.FaultTexts.{sorter_text};
+
+    ghost output = { λ fault. Some (sorter_text fault) };
+
+    fn fmt<W: fmt::Write>(&self, f: &mut Formatter<W>) -> fmt::Result {
+        match self {
+            SorterFault::Store(fault) => fault.fmt(f),
+            SorterFault::Doubled { first, second } => {
+                write!(f, "records {first} and {second} have one key")
+            }
+        }
+    }
+}
+
+impl Error for SorterFault {}
+
+impl From<StoreFault> for SorterFault {
+    ghost use Rattle.std.specs.Prelude.{◌≡◌};
+    ghost use Rattle.prolly_sort.specs.declared.fault.SorterFault.TheVariants.{Store};
+
+    ghost from_gives = { λ store fault. fault ≡ Store store };
+
+    fn from(store: StoreFault) -> Self {
+        SorterFault::Store(store)
+    }
+}
+
+impl From<AllocError> for SorterFault {
+    ghost use Rattle.std.specs.Prelude.{◌≡◌};
+    ghost use Rattle.prolly_sort.specs.declared.fault.SorterFault.TheVariants.{Store};
+    ghost use Rattle.prolly_sort.specs.declared.store.StoreFault.TheVariants.{Memory};
+
+    ghost from_gives = { λ _ fault. fault ≡ Store Memory };
+
+    fn from(_: AllocError) -> Self {
+        SorterFault::Store(StoreFault::Memory)
     }
 }

@@ -7,18 +7,19 @@ ghost use Rattle.prolly_sort.specs.Overlaid.{overlaid};
 ghost use Rattle.prolly_sort.specs.Place.{StandsIn, is_below, kept_before, records_in};
 ghost use Rattle.prolly_sort.specs.Run.{AreNeighbours};
 
-use crate::place::{Place, is_below};
-use prolly_entry::key_order;
+use crate::place::{Place, is_below, place_order};
 use std::alloc::{AllocError, Global};
 
 /// Puts places in the order of their keys; those of one key stay in their order. Takes memory for
-/// as many places, unless they are few or in order already.
+/// as many places, unless they are few or in order already. The bytes are looked at only for keys
+/// that begin alike.
 pub(crate) fn sort_places(bytes: &[u8], places: &mut Vec<Place>) -> Result<(), AllocError>
+    requires { All (StandsIn bytes.now) places.old.items }
     ensures same { IsPermutation places.old.items places.new.items }
     ensures sorted { OnOk result (IsSortedBy (is_below bytes.now) places.new.items) }
     ensures stable { IsStableBy (is_below bytes.now) places.old.items places.new.items }
 {
-    places.sort_by(|one, other| key_order(one.key(bytes), other.key(bytes)))
+    places.sort_by(|one, other| place_order(bytes, *one, *other))
 }
 
 /// Of places in the order of their keys, the last one of each key. Takes memory for as many places.
@@ -49,6 +50,8 @@ pub(crate) fn last_of_each(
 
 /// Keeps a place where the next one's key is greater.
 fn keep(bytes: &[u8], kept: &mut Vec<Place>, place: Place, next: Place) -> Result<(), AllocError>
+    requires place { StandsIn bytes.now place }
+    requires next { StandsIn bytes.now next }
     ensures { OnOk result (kept.new.items ≡
         kept_before bytes.now kept.old.items place next) }
 {
@@ -60,7 +63,8 @@ fn keep(bytes: &[u8], kept: &mut Vec<Place>, place: Place, next: Place) -> Resul
 
 /// The first two neighbours with one key among places in the order of their keys, if there are two.
 pub(crate) fn first_doubled(bytes: &[u8], places: &[Place]) -> Option<(Place, Place)>
-    requires { IsSortedBy (is_below bytes.now) places.now }
+    requires sorted { IsSortedBy (is_below bytes.now) places.now }
+    requires stand { All (StandsIn bytes.now) places.now }
     ensures none { IfNone result (Rising (keys_of (records_in bytes.now places.now))) }
     ensures some { IfSome result (λ two. AreNeighbours bytes.now places.now two.0 two.1) }
 {

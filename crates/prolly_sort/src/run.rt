@@ -7,20 +7,20 @@ ghost use Rattle.prolly_sort.specs.Place.{place_of, records_in};
 
 use crate::fault::{PushFault, SortFault};
 use crate::order::{first_doubled, last_of_each, sort_places};
-use crate::place::{LENGTHS_SIZE, Place};
+use crate::place::{LENGTHS_SIZE, Place, prefix_of};
 use crate::sorted_run::SortedRun;
 use prolly_entry::{Record, append_record, key_order};
 use std::alloc::{AllocError, Global};
 use std::marker::Model;
 
-/// How much of a budget a record takes beside its spelling: the 16 bytes of its place, and as many
+/// How much of a budget a record takes beside its spelling: the 24 bytes of its place, and as many
 /// while the places are put in order.
-const PLACE_COST: usize = 32;
+const PLACE_COST: usize = 48;
 
 /// Records in memory, in the order in which they came, up to a budget.
 ///
 /// Their spellings stand in one block of memory and their places in another, so a record takes no
-/// memory of its own. A record takes its spelling and 32 bytes of the budget. A block that is too
+/// memory of its own. A record takes its spelling and 48 bytes of the budget. A block that is too
 /// small is copied into one of twice its size, so for a moment a run takes up to three times its
 /// budget.
 #[derive(Drop)]
@@ -81,6 +81,7 @@ impl Run {
     pub fn push(&mut self, record: &Record) -> Result<(), PushFault>
         ensures ok { OnOk result (self.new ≡ with_more self.old «record».now) }
         ensures err { OnErr result (self.new ≡ self.old) }
+        ensures lawful { OnOk result (IsRecord «record».now) }
         ensures full { (result ≡ Err PushFault.Full) ↔
             (self.old.budget < cost_of (with_more self.old «record».now).records) }
     {
@@ -162,8 +163,8 @@ impl Run {
 
 /// How much of a budget a record takes.
 fn cost(record: &Record) -> usize
-    ensures cost { result ≡ 32 + length (record_spelling «record».now) }
-    ensures few { result ≤ 66598 }
+    ensures cost { result ≡ 48 + length (record_spelling «record».now) }
+    ensures few { result ≤ 66614 }
     ensures lawful { IsRecord «record».now }
 {
     let key = record.key();
@@ -195,11 +196,13 @@ fn place_of(record: &Record, number: usize, start: usize, end: usize) -> Place
     requires end { end < 2 ^ 32 }
     ensures { result ≡ place_of number start end «record».now }
 {
+    let key = record.key();
     Place {
+        prefix: prefix_of(key),
         number: number as u32,
         start: start as u32,
         end: end as u32,
-        key_len: record.key().len() as u16,
+        key_len: key.len() as u16,
         is_put: record.value().is_some(),
     }
 }

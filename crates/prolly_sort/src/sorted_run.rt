@@ -32,6 +32,9 @@ impl SortedRun {
     ghost use Rattle.prolly_file.specs.Writes.{Writes};
     ghost use Rattle.prolly_sort.specs.Overlaid.{written};
     ghost use Rattle.prolly_sort.specs.Shown.{shown_record};
+    ghost use Rattle.prolly_sort.specs.Shelf.{first_position};
+    ghost use Rattle.prolly_entry.specs.Position.{last_position};
+    ghost use Rattle.std.specs.Option.{option_copied};
 
     /// How many records there are.
     pub fn len(&self) -> usize
@@ -48,6 +51,26 @@ impl SortedRun {
         match self.places.get(number) {
             None => None,
             Some(place) => Some((place.key(&self.bytes), place.value(&self.bytes))),
+        }
+    }
+
+    /// The first key; none where there are no records. Takes no memory.
+    pub(crate) fn first_key(&self) -> Option<&[u8]>
+        ensures { option_copied result ≡ first_position self.now }
+    {
+        match self.places.first() {
+            None => None,
+            Some(place) => Some(place.key(&self.bytes)),
+        }
+    }
+
+    /// The last key; none where there are no records. Takes no memory.
+    pub(crate) fn last_key(&self) -> Option<&[u8]>
+        ensures { option_copied result ≡ last_position self.now }
+    {
+        match self.places.last() {
+            None => None,
+            Some(place) => Some(place.key(&self.bytes)),
         }
     }
 

@@ -1,16 +1,31 @@
-//! Runs of records that are drawn, beside what a table of their keys has at last.
+//! Runs and sorters of records that are drawn, beside what a table of their keys has at last.
 ghost use Rattle.std.specs.Prelude.{◌<◌};
 
-use crate::expect::expect_bytes;
+use crate::expect::{expect_bytes, expect_eq};
+use crate::files::{Failing, Files};
 use crate::runs::{AMPLE, file_of, record_of};
-use prolly_sort::Run;
+use crate::sorters::{TWO_A_HALF, records_at, sorted};
+use prolly_entry::Record;
+use prolly_sort::{Run, Sorter, SorterFault};
 use std::alloc::Global;
 use std::process::Abort;
+use std::sync::Wait;
 use std::test::Fail;
 
 /// Keys that rise.
 const KEYS: [&[u8]; 12] = [
-    b"", b"\0", b"\0\0", b"\0\x01", b"\x01", b"a", b"a\0", b"aa", b"ab", b"b", b"\x80", b"\xFF",
+    b"",
+    b"\0",
+    b"\0\0",
+    b"\0\x01",
+    b"\x01",
+    b"a",
+    b"a\0",
+    b"aaaaaaaa",
+    b"aaaaaaaab",
+    b"b",
+    b"\x80",
+    b"\xFF",
 ];
 
 /// Numbers that are drawn.
@@ -30,6 +45,21 @@ impl Drawn {
             .wrapping_mul(6_364_136_223_846_793_005)
             .wrapping_add(1_442_695_041);
         (self.state >> 33) % bound
+    }
+
+    /// A record of one of the keys, and what the keys have at last with it.
+    fn record(
+        &mut self,
+        alloc: Global,
+        last: &mut [Option<Option<u8>>; 12],
+    ) -> Result<Record, Fail> {
+        let number = self.below(12) as usize;
+        let value = match self.below(4) {
+            0 => None,
+            _ => Some(self.below(256) as u8),
+        };
+        last[number] = Some(value);
+        record_of(alloc, KEYS[number], value)
     }
 }
 
@@ -56,13 +86,7 @@ fn expect_drawn(rt: &impl Abort, alloc: Global, seed: u64) -> Result<(), Fail> {
     let mut run = Run::new(alloc, AMPLE);
     let mut last = [None; 12];
     for _ in 0..drawn.below(100) {
-        let number = drawn.below(12) as usize;
-        let value = match drawn.below(4) {
-            0 => None,
-            _ => Some(drawn.below(256) as u8),
-        };
-        run.push(&record_of(alloc, KEYS[number], value)?)?;
-        last[number] = Some(value);
+        run.push(&drawn.record(alloc, &mut last)?)?;
     }
     let sorted = run.sort(alloc)?;
     expect_bytes(
@@ -77,6 +101,63 @@ fn expect_drawn(rt: &impl Abort, alloc: Global, seed: u64) -> Result<(), Fail> {
 fn drawn_records_come_in_order(rt: HostRuntime) -> Result<(), Fail> {
     for seed in 0..300u64 {
         expect_drawn(&rt, rt.alloc(), seed)?;
+    }
+    Ok(())
+}
+
+/// The same of a sorter of up to 199 records, of which its budget holds one or some.
+fn expect_sorted(rt: &(impl Abort + Wait), alloc: Global, seed: u64) -> Result<(), Fail> {
+    let mut drawn = Drawn { state: seed };
+    let mut files = Files::new(alloc, Failing::Nothing);
+    let mut sorter = Sorter::new(alloc, 64 + drawn.below(400) as u32);
+    let mut last = [None; 12];
+    for _ in 0..drawn.below(200) {
+        let record = drawn.record(alloc, &mut last)?;
+        sorter.push(rt, &mut files, &record)?;
+    }
+    let sorted = sorter.finish(rt, &mut files)?;
+    expect_bytes(rt, sorted.file.taken(), &expected_file(alloc, &last)?);
+    Ok(())
+}
+
+#[test]
+fn drawn_records_are_merged_in_order(rt: HostRuntime) -> Result<(), Fail> {
+    for seed in 0..60u64 {
+        expect_sorted(&rt, rt.alloc(), seed)?;
+    }
+    Ok(())
+}
+
+/// Draws up to 99 keys below 2,000, and puts records at them in order where each is to come once. So
+/// in about half of the cases all keys differ.
+fn expect_unique(rt: &(impl Abort + Wait), alloc: Global, seed: u64) -> Result<(), Fail> {
+    let mut drawn = Drawn { state: seed };
+    let mut keys = Vec::new(alloc);
+    for _ in 0..drawn.below(100) {
+        keys.push(drawn.below(2_000) as u16)?;
+    }
+    let mut files = Files::new(alloc, Failing::Nothing);
+    let records = records_at(alloc, &keys)?;
+    match sorted(rt, &mut files, Sorter::unique(alloc, TWO_A_HALF), &records) {
+        Ok(sorted) => {
+            keys.sort()?;
+            keys.dedup();
+            expect_eq(rt, &sorted.len, &(keys.len() as u64));
+            expect_eq(rt, &keys.len(), &records.len());
+        }
+        Err(SorterFault::Doubled { first, second }) => {
+            expect_eq(rt, &(first < second), &true);
+            expect_eq(rt, &keys.get(first as usize), &keys.get(second as usize));
+        }
+        Err(SorterFault::Store(fault)) => return Err(Fail::from(fault)),
+    }
+    Ok(())
+}
+
+#[test]
+fn drawn_keys_that_come_twice_are_told(rt: HostRuntime) -> Result<(), Fail> {
+    for seed in 0..100u64 {
+        expect_unique(&rt, rt.alloc(), seed)?;
     }
     Ok(())
 }

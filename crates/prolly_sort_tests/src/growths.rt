@@ -4,11 +4,17 @@
 //! test's own values, the test ends in want of memory; where it is one of the calls that are
 //! tested, the test goes on.
 use crate::expect::{expect_bytes, expect_eq};
+use crate::files::{Failing, Files};
 use crate::runs::{AMPLE, record_of};
+use crate::sorters::{
+    TWO_A_HALF, TWO_A_RUN, falling as falling_numbers, file_below, records_at, sorted,
+};
 use prolly_entry::Record;
-use prolly_sort::{PushFault, Run, SortFault};
+use prolly_file::{ScriptSink, ScriptSource};
+use prolly_sort::{PushFault, Run, SortFault, Sorter, SorterFault, StoreFault};
 use std::alloc::Global;
 use std::process::Abort;
+use std::sync::Wait;
 use std::test::Fail;
 
 /// Takes a record, at a second try where memory was refused.
@@ -71,4 +77,32 @@ fn keys_that_rise_take_no_memory_to_sort(rt: HostRuntime) -> Result<(), Fail> {
     }
     expect_eq(&rt, &run.sort(rt.alloc()).is_ok(), &true);
     Ok(())
+}
+
+/// Puts records at six falling keys in order, in three runs. A sink in memory that is refused some
+/// tells a failed write.
+fn expect_sorted(
+    rt: &(impl Abort + Wait),
+    alloc: Global,
+    sorter: Sorter<ScriptSink, ScriptSource>,
+) -> Result<(), Fail> {
+    let records = records_at(alloc, &falling_numbers(alloc, 0, 6)?)?;
+    let expected = file_below(alloc, 6)?;
+    let mut files = Files::new(alloc, Failing::Nothing);
+    match sorted(rt, &mut files, sorter, &records) {
+        Ok(sorted) => expect_bytes(rt, sorted.file.taken(), &expected),
+        Err(SorterFault::Store(StoreFault::Write)) => {}
+        Err(fault) => expect_eq(rt, &fault, &SorterFault::Store(StoreFault::Memory)),
+    }
+    Ok(())
+}
+
+#[test]
+fn a_sorter_puts_records_in_order_or_wants_memory(rt: HostRuntime) -> Result<(), Fail> {
+    expect_sorted(&rt, rt.alloc(), Sorter::new(rt.alloc(), TWO_A_RUN))
+}
+
+#[test]
+fn a_unique_sorter_puts_records_in_order_or_wants_memory(rt: HostRuntime) -> Result<(), Fail> {
+    expect_sorted(&rt, rt.alloc(), Sorter::unique(rt.alloc(), TWO_A_HALF))
 }

@@ -139,7 +139,7 @@ fn keys_that_came_once_are_put_in_order(rt: HostRuntime) -> Result<(), Fail> {
     Ok(())
 }
 
-/// Pushes a=1 and then b=1, which take 40 bytes of the budget each, and compares the answers.
+/// Pushes a=1 and then b=1, which take 56 bytes of the budget each, and compares the answers.
 fn expect_pushed(
     rt: &impl Abort,
     alloc: Global,
@@ -160,10 +160,10 @@ fn expect_pushed(
 #[test]
 fn a_run_is_full_where_its_budget_ends(rt: HostRuntime) -> Result<(), Fail> {
     let full = Err(PushFault::Full);
-    expect_pushed(&rt, rt.alloc(), 80, [Ok(()), Ok(())])?;
-    expect_pushed(&rt, rt.alloc(), 79, [Ok(()), full])?;
-    expect_pushed(&rt, rt.alloc(), 40, [Ok(()), full])?;
-    expect_pushed(&rt, rt.alloc(), 39, [full, full])?;
+    expect_pushed(&rt, rt.alloc(), 112, [Ok(()), Ok(())])?;
+    expect_pushed(&rt, rt.alloc(), 111, [Ok(()), full])?;
+    expect_pushed(&rt, rt.alloc(), 56, [Ok(()), full])?;
+    expect_pushed(&rt, rt.alloc(), 55, [full, full])?;
     expect_pushed(&rt, rt.alloc(), 0, [full, full])
 }
 

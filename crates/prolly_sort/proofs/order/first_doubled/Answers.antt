@@ -8,7 +8,7 @@ returns-then-not-is_below-clause-some c =
     let at = c.loop-behind.behind in
     neighbours c.args.bytes.now places at [] _ _ (omega arith) (omega arith)
     (λ d. same_there places at d _ (omega arith)) (λ d. same_there places (at - 1) d _ (omega arith))
-    c.requires (sym c.is_below.ensures ∙ c.if-not-is_below.true)
+    c.requires.sorted (sym c.is_below.ensures ∙ c.if-not-is_below.true)
 
 pub loop-behind-preserved : goal.loop-behind-preserved
 loop-behind-preserved c =

@@ -17,6 +17,12 @@ returns-then-is_rising-clause-records c =
     (c.self.invariant.rising.0 c.if-is_rising.true)) ∙
     ap (λ (h : Held). overlaid h.records) c.self.view_is
 
+pub first_doubled-requires-clause-stand : goal.first_doubled-requires-clause-stand
+first_doubled-requires-clause-stand c =
+    rw (c.deref-2.ensures.value, c.deref-3.ensures.value)
+    (All-permutation (StandsIn c.self.inside.bytes.items) _ _ c.sort_places.ensures.same
+    c.self.invariant.stand)
+
 pub invariant_of-result-in-None : goal.invariant_of-result-in-None
 invariant_of-result-in-None c = All-permutation (StandsIn c.self.inside.bytes.items) _ _
     c.sort_places.ensures.same c.self.invariant.stand

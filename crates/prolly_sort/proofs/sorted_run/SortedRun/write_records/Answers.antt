@@ -7,7 +7,7 @@ use Rattle.prolly_sort.proofs.Writing.{left_at, one_written, write_failed}
 use Rattle.prolly_sort.proofs.sorted_run.SortedRun.write_records.Goals as goal
 
 abbrev no_place : Place
-no_place = record { number = 0; start = 0; end = 0; key_len = 0; is_put = false }
+no_place = record { prefix = 0; number = 0; start = 0; end = 0; key_len = 0; is_put = false }
 
 pub loop-place-preserved : goal.loop-place-preserved
 loop-place-preserved g c =
