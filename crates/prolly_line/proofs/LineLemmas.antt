@@ -1,6 +1,6 @@
 -- What clap's clauses say of the program's command line.
 use Rattle.std.proofs.Common.{◌≡◌, ◌∙◌, ◌≤◌, ℕ, Bool, List, [], Option, Some, None, true, refl, sym, ap}
-use Rattle.std.proofs.Common.{subst, inl, inr, codes}
+use Rattle.std.proofs.Common.{arith, subst, inl, inr, codes}
 use Rattle.std.specs.Prelude.{IfErr, IfOk, IfSome, Result, Ok, Err}
 use Rattle.clap.specs.Words.{App, HasKind, HasMatchesOf, Row, Text, app_of, fault_of}
 use Rattle.clap.specs.Words.{is_simple, is_simple_and_free, kind_of, subcommand_of}
@@ -13,14 +13,16 @@ use Rattle.clap.proofs.OnLiterals.{clap_on_literals}
 use Rattle.prolly_entry.specs.declared.reference.Ref.{Ref}
 use Rattle.prolly_line.specs.AcceptedWords.{Answers, IsRefusedAt}
 use Rattle.prolly_line.specs.GivenCommand.{GivesTrust, HasFields, IsAskedFor, IsGivenBy}
-use Rattle.prolly_line.specs.GivenCommand.{AreLawfulRoots, GivesSought, IsLawfulSought, IsLawfulTrust}
-use Rattle.prolly_line.specs.GivenCommand.{MayGiveNumber, MayGiveRoots}
+use Rattle.prolly_line.specs.GivenCommand.{AreLawfulBytes, AreLawfulRoots, GivesNumberOr}
+use Rattle.prolly_line.specs.GivenCommand.{GivesSought, IsLawfulSought, IsLawfulTrust}
+use Rattle.prolly_line.specs.GivenCommand.{MayGiveChunkBytes, MayGiveNumber, MayGiveRoots}
 use Rattle.prolly_line.specs.GivenCommand.{IsRefusalOf, IsRefusedBy, IsWithinLimits}
 use Rattle.prolly_line.specs.Line.{line_faults, line_given, program_line}
 use Rattle.prolly_line.specs.declared.command.Command.{Command}
-use Rattle.prolly_line.specs.declared.command.Command.TheVariants.{Pack, Scratch, Build, Apply}
-use Rattle.prolly_line.specs.declared.command.Command.TheVariants.{Explain, Check, Root, Stat, Get}
-use Rattle.prolly_line.specs.declared.command.Command.TheVariants.{GetKeys, Scan, Nth, Dump, Diff}
+use Rattle.prolly_line.specs.declared.command.Command.TheVariants.{Pack, PackSorted, Scratch, Build}
+use Rattle.prolly_line.specs.declared.command.Command.TheVariants.{Apply, Explain, ExplainLines}
+use Rattle.prolly_line.specs.declared.command.Command.TheVariants.{Check, CheckFiles, Root, Stat}
+use Rattle.prolly_line.specs.declared.command.Command.TheVariants.{Get, GetKeys, Scan, Nth, Dump, Diff}
 use Rattle.prolly_line.specs.declared.command.Command.TheVariants.{Prove, Verify}
 use Rattle.prolly_line.specs.declared.command.ParseFault.{ParseFault}
 use Rattle.prolly_line.specs.declared.command.RootPair.{RootPair}
@@ -151,6 +153,20 @@ lawful_roots : (rows : List Row) (roots : Option RootPair) → MayGiveRoots rows
 lawful_roots rows None h = tt
 lawful_roots rows (Some roots) h = (h.0.1, h.1.1)
 
+-- a number of which there is a default lies as that and the number do
+default_kept : (rows : List Row) (name : Text) (least most default n : ℕ) → least ≤ default →
+    default ≤ most → GivesNumberOr rows name least most default n → (least ≤ n) × (n ≤ most)
+default_kept rows name least most default n low high (None, h, is) =
+    (subst (λ n. least ≤ n) (sym is) low, subst (λ n. n ≤ most) (sym is) high)
+default_kept rows name least most default n low high (Some given, h, is) =
+    (subst (λ n. least ≤ n) (sym is) h.1, subst (λ n. n ≤ most) (sym is) h.2)
+
+-- the bytes that a chunk is to have are within their limits
+bytes_kept : (rows : List Row) (bytes : Option ℕ) → MayGiveChunkBytes rows bytes →
+    AreLawfulBytes bytes
+bytes_kept rows None h = tt
+bytes_kept rows (Some bytes) h = (h.1, h.2)
+
 -- bits that may be missing are within their limits
 bits_kept : (rows : List Row) (bits : Option ℕ) → MayGiveNumber rows (codes "bits") 0 24 bits →
     IfSome bits (λ bits. bits ≤ 24)
@@ -171,19 +187,40 @@ limits_kept given (Ok command) fields = go command fields
   where
     go : (command : Command) → HasFields command given → IsWithinLimits command
     go (Pack out notation removals mode) h = tt
-    go (Scratch bits version out mode) h = (h.1.2, h.2.1, h.2.2)
-    go (Build bits stages capacity max_records batch version out files quiet mode) h =
-        (h.1.2, h.2.1, h.2.2, h.3.1, h.3.2, h.4.1, h.4.2, h.5.1, h.5.2, h.6.1, h.6.2)
+    go (PackSorted out notation removals unique memory mode) h =
+        default_kept given.1 (codes "memory") 16 4000 256 memory (omega arith) (omega arith) h.6
+    go (Scratch bits chunk_bytes version out mode) h = (
+      (default_kept given.1 (codes "bits") 0 24 12 bits (omega arith) (omega arith) h.1).1,
+      bytes_kept given.1 chunk_bytes h.2,
+      h.4.1,
+      h.4.2,
+    )
+    go (Build bits chunk_bytes stages capacity max_records batch version out files quiet mode) h = (
+      (default_kept given.1 (codes "bits") 0 24 12 bits (omega arith) (omega arith) h.1).1,
+      bytes_kept given.1 chunk_bytes h.2,
+      h.4.1,
+      h.4.2,
+      h.5.1,
+      h.5.2,
+      h.6.1,
+      h.6.2,
+      h.7.1,
+      h.7.2,
+      h.8.1,
+      h.8.2,
+    )
     go (Apply root bits version old out changes quiet mode) h = (
       h.1.1,
       bits_kept given.1 bits h.2,
       version_kept given.1 version h.3,
     )
     go (Explain file notation) h = tt
+    go (ExplainLines notation removals all) h = tt
     go (Check file root version) h = lawful_trust given.1 root version h.2
+    go (CheckFiles files root version quiet) h = lawful_trust given.1 root version h.2
     go (Root file) h = tt
     go (Stat file json notation) h = tt
-    go (Get file key root version notation) h =
+    go (Get file key root version notation raw) h =
         (h.3.1.2.1, lawful_trust given.1 root version h.4)
     go (GetKeys file keys root version notation) h = lawful_trust given.1 root version h.5
     go (Scan file from limit root version notation) h =

@@ -9,7 +9,7 @@ use Rattle.prolly_line.proofs.Passes.{Each, IsSound}
 use Rattle.prolly_line.proofs.Sound.{all_sound}
 use Rattle.prolly_line.specs.AcceptedWords.{HasNumber, HasWord, IsAccepted}
 use Rattle.prolly_line.specs.AcceptedWords.{MayHaveNumber}
-use Rattle.prolly_line.specs.Line.{apply_line, build_line, check_line, diff_line, dump_line, explain_line}
+use Rattle.prolly_line.specs.Line.{apply_line, build_line, check_line, diff_line, dump_line}
 use Rattle.prolly_line.specs.Line.{get_line, nth_line, pack_line, program_line, prove_line, root_line}
 use Rattle.prolly_line.specs.Line.{scan_line, scratch_line, stat_line, verify_line}
 
@@ -40,6 +40,7 @@ pack_sound = all_sound pack_shape.rules refl
 
 pub record TakesPack (rows : List Row) : Type 0 where
   pub out : HasWord (codes "out") rows
+  pub memory : MayHaveNumber (codes "memory") 16 4000 rows
 
 pub takes_pack : (rows : List Row) → IsAccepted (codes "pack", rows) → TakesPack rows
 unfolding clap_on_literals pack_shape
@@ -47,6 +48,7 @@ takes_pack rows accepted =
     let level = level_at (codes "pack") pack_shape rows pack_found accepted in
     record {
       out = word_at pack_shape rows (codes "out") pack_sound level refl refl;
+      memory = number_if_any pack_shape rows (codes "memory") 16 4000 pack_sound level refl;
     }
 
 -- ---- scratch
@@ -63,7 +65,8 @@ unfolding clap_on_literals scratch_shape
 scratch_sound = all_sound scratch_shape.rules refl
 
 pub record TakesScratch (rows : List Row) : Type 0 where
-  pub bits : HasNumber (codes "bits") 0 24 rows
+  pub bits : MayHaveNumber (codes "bits") 0 24 rows
+  pub chunk_bytes : MayHaveNumber (codes "chunk-bytes") 1 1073741824 rows
   pub format : HasNumber (codes "format") 1 2 rows
 
 pub takes_scratch : (rows : List Row) → IsAccepted (codes "scratch", rows) → TakesScratch rows
@@ -71,7 +74,9 @@ unfolding clap_on_literals scratch_shape
 takes_scratch rows accepted =
     let level = level_at (codes "scratch") scratch_shape rows scratch_found accepted in
     record {
-      bits = number_at scratch_shape rows (codes "bits") 0 24 scratch_sound level refl refl;
+      bits = number_if_any scratch_shape rows (codes "bits") 0 24 scratch_sound level refl;
+      chunk_bytes = number_if_any scratch_shape rows (codes "chunk-bytes") 1 1073741824
+          scratch_sound level refl;
       format = number_at scratch_shape rows (codes "format") 1 2 scratch_sound level refl refl;
     }
 
@@ -89,7 +94,8 @@ unfolding clap_on_literals build_shape
 build_sound = all_sound build_shape.rules refl
 
 pub record TakesBuild (rows : List Row) : Type 0 where
-  pub bits : HasNumber (codes "bits") 0 24 rows
+  pub bits : MayHaveNumber (codes "bits") 0 24 rows
+  pub chunk_bytes : MayHaveNumber (codes "chunk-bytes") 1 1073741824 rows
   pub stages : HasNumber (codes "stages") 1 12 rows
   pub capacity : HasNumber (codes "capacity") 1 4096 rows
   pub max_records : HasNumber (codes "max-records") 1 16777216 rows
@@ -102,7 +108,9 @@ unfolding clap_on_literals build_shape
 takes_build rows accepted =
     let level = level_at (codes "build") build_shape rows build_found accepted in
     record {
-      bits = number_at build_shape rows (codes "bits") 0 24 build_sound level refl refl;
+      bits = number_if_any build_shape rows (codes "bits") 0 24 build_sound level refl;
+      chunk_bytes = number_if_any build_shape rows (codes "chunk-bytes") 1 1073741824 build_sound
+          level refl;
       stages = number_at build_shape rows (codes "stages") 1 12 build_sound level refl refl;
       capacity = number_at build_shape rows (codes "capacity") 1 4096 build_sound level refl refl;
       max_records = number_at build_shape rows (codes "max-records") 1 16777216 build_sound level
@@ -142,30 +150,6 @@ takes_apply rows accepted =
       format = number_if_any apply_shape rows (codes "format") 1 2 apply_sound level refl;
       old = word_at apply_shape rows (codes "old") apply_sound level refl refl;
       out = word_at apply_shape rows (codes "out") apply_sound level refl refl;
-    }
-
--- ---- explain
-
-unfoldable explain_shape : Shape
-explain_shape = built_of explain_line
-
-explain_found : shape_at (codes "explain") ≡ Some explain_shape
-unfolding clap_on_literals explain_shape
-explain_found = refl
-
-explain_sound : IsSoundShape explain_shape
-unfolding clap_on_literals explain_shape
-explain_sound = all_sound explain_shape.rules refl
-
-pub record TakesExplain (rows : List Row) : Type 0 where
-  pub file : HasWord (codes "file") rows
-
-pub takes_explain : (rows : List Row) → IsAccepted (codes "explain", rows) → TakesExplain rows
-unfolding clap_on_literals explain_shape
-takes_explain rows accepted =
-    let level = level_at (codes "explain") explain_shape rows explain_found accepted in
-    record {
-      file = word_at explain_shape rows (codes "file") explain_sound level refl refl;
     }
 
 -- ---- check

@@ -1,13 +1,16 @@
 -- What the getters of clap's matches give, by the rows of the subcommand.
-use Rattle.std.proofs.Common.{◌<◌, ◌≤◌, ◌^◌, ◌≡◌, ◌∙◌, ℕ, List, Option, Some, None, refl, sym, ap}
+use Rattle.std.proofs.Common.{◌<◌, ◌≤◌, ◌^◌, ◌≡◌, ◌∙◌, ◌∷◌, [], ℕ, List, Option, Some, None, refl}
+use Rattle.std.proofs.Common.{length, map, nat_lt, rules, sym, ap}
+use Rattle.std.proofs.lemmas.List.{length-map}
 use Rattle.std.proofs.Common.{subst, arith, option_map, string_bytes, true, false, inl, inr, codes}
-use Rattle.std.specs.Prelude.{is_some}
+use Rattle.std.specs.Prelude.{find, is_some, option_and_then, slice_get, unwrap_or}
+use Rattle.std.specs.Str.{bytes_eq}
 use Rattle.std.specs.Prelude.{Result, Ok}
 use Rattle.std.specs.Borrow.{Bor}
 use Rattle.std.specs.Str.Parse.{ParsesUnsigned}
 use Rattle.std.proofs.lemmas.Int.{ints}
 use Rattle.clap.specs.Matches.{ReadsOne, first_value}
-use Rattle.clap.specs.Words.{Row, Text, first_of, one_text, rows_of, without_minus}
+use Rattle.clap.specs.Words.{Row, Text, all_of, first_of, one_text, rows_of, without_minus}
 use Rattle.clap.specs.declared.parser.matches.Found.{Found}
 use Rattle.clap.proofs.CallerReads.{signed_reads}
 use Rattle.clap.proofs.WalkLemmas.{first_value-rows, one_text-rows}
@@ -105,6 +108,53 @@ pub word_given : (f : Found) (id : Text) (r : Option (Bor Text)) →
     (is_some r ≡ true → HasWord id (rows_of f)) × (is_some r ≡ false → first_of id (rows_of f) ≡ None)
 word_given f id None e = (λ yes. cc, λ no. sym (first_value-rows f id) ∙ sym e)
 word_given f id (Some s) e = (λ yes. (s.now, sym (first_value-rows f id) ∙ sym e), λ no. cc)
+
+-- the first word under a name leads all of them
+pub first_leads : (name : Text) (rows : List Row) (word : Text) → first_of name rows ≡ Some word →
+    (rest : List Text) × (unwrap_or (all_of name rows) [] ≡ word ∷ rest)
+first_leads name rows word is = of_row (find (λ r. bytes_eq r.id name) rows) is
+  where
+    of_values : (values : List Text) → slice_get values 0 ≡ Some word →
+        (rest : List Text) × (values ≡ word ∷ rest)
+    of_values [] h = cc
+    of_values (v ∷ rest) h = let same : v ≡ word = cc in (rest, ap (λ w. w ∷ rest) same)
+
+    of_row : (row : Option Row) → option_and_then (λ r. slice_get r.values 0) row ≡ Some word →
+        (rest : List Text) × (unwrap_or (option_map (λ r. r.values) row) [] ≡ word ∷ rest)
+    of_row None h = cc
+    of_row (Some row) h = of_values row.values h
+
+-- and it is the only one where there are no two
+pub only_word : (name : Text) (rows : List Row) (word : Text)
+    → length (unwrap_or (all_of name rows) []) < 2 → first_of name rows ≡ Some word
+    → unwrap_or (all_of name rows) [] ≡ word ∷ []
+only_word name rows word few is =
+    let leads = first_leads name rows word is in
+    leads.1 ∙ ap (λ rest. word ∷ rest)
+    (none leads.0 (subst (λ words. length words < 2) leads.1 few))
+  where
+    none : (rest : List Text) → length (word ∷ rest) < 2 → rest ≡ []
+    none [] h = refl
+    none (x ∷ rest) h = absurd (omega arith)
+
+-- the words under a name are as many as their getter gave
+pub counted_words : (name : Text) (rows : List Row) (words : List (Bor Text))
+    → all_of name rows ≡ Some (map (λ w. w.now) words)
+    → (nat_lt 1 (length words) ≡ true → 2 ≤ length (unwrap_or (all_of name rows) []))
+    × (nat_lt 1 (length words) ≡ false → length (unwrap_or (all_of name rows) []) < 2)
+counted_words name rows words is = (
+  λ several. let more = two (length words) several in omega (arith, long),
+  λ few. let less = one (length words) few in omega (arith, long),
+)
+  where
+    long : length (unwrap_or (all_of name rows) []) ≡ length words
+    long = ap (λ o. length (unwrap_or o [])) is ∙ length-map words (λ w. w.now)
+
+    two : (n : ℕ) → nat_lt 1 n ≡ true → 2 ≤ n
+    two n e = search rules
+
+    one : (n : ℕ) → nat_lt 1 n ≡ false → n < 2
+    one n e = search rules
 
 -- the last word is there, where it is needed and the words fit
 pub last_there : (rows : List Row) (notation : Notation) (sought : Sought) (last : Text) →

@@ -1,5 +1,5 @@
 -- What stands in the rows of a subcommand whose words clap takes, and what is made of them.
-use Rattle.std.specs.Prelude.{◌≡◌, ◌≤◌, ⊤, ℕ, ◌⊎◌, pos, Bool, true, Result, MatchResult}
+use Rattle.std.specs.Prelude.{◌≡◌, ◌≤◌, ⊤, ℕ, ◌⊎◌, pos, Bool, true, false, Result, MatchResult}
 use Rattle.std.specs.Prelude.{Option, Some, None, List, [], codes}
 use Rattle.clap.specs.Values.{IsSignedIn}
 use Rattle.clap.specs.Words.{Row, Text, found_of, one_of, rows_of, without_minus}
@@ -8,7 +8,7 @@ use Rattle.prolly_line.specs.Line.{line_faults, line_given}
 use Rattle.prolly_entry.specs.declared.reference.Ref.{Ref}
 use Rattle.prolly_line.specs.GivenCommand.{GivesBadKey, GivesBadKeyAs, GivesBadRange, GivesBadRoot}
 use Rattle.prolly_line.specs.GivenCommand.{GivesBadSought, GivesNumber, HasBadKey, HasMisfit}
-use Rattle.prolly_line.specs.GivenCommand.{HasNone}
+use Rattle.prolly_line.specs.GivenCommand.{GivesFlag, HasNone}
 pub use Rattle.prolly_line.specs.GivenCommand.{HasWord}
 use Rattle.prolly_line.specs.GivenCommand.{HasSet}
 use Rattle.prolly_line.specs.GivenCommand.{GivesBadPair, GivesLoneRoot, HasBadRoot, HasLoneRoot}
@@ -64,6 +64,23 @@ pub record DoFit (last : Text) (needs_last : Bool) (rows : List Row) : Type 0 wh
 pub record DoesKeyFit (rows : List Row) : Type 0 where
   pub key : HasNone (codes "keys") rows → HasWord (codes "key") rows
   pub no_key : HasWord (codes "keys") rows → HasNone (codes "key") rows
+  pub no_raw : HasWord (codes "keys") rows → GivesFlag rows (codes "raw") false
+
+-- what follows of words that fit where lines are packed
+pub record DoesSortFit (rows : List Row) : Type 0 where
+  pub no_unique : GivesFlag rows (codes "sort") false → GivesFlag rows (codes "unique") false
+  pub no_memory : GivesFlag rows (codes "sort") false → HasNone (codes "memory") rows
+
+-- what follows of words that fit where a file or lines are explained
+pub record DoLinesFit (rows : List Row) : Type 0 where
+  pub no_file : GivesFlag rows (codes "lines") true → HasNone (codes "file") rows
+  pub file : GivesFlag rows (codes "lines") false → HasWord (codes "file") rows
+  pub no_removals : GivesFlag rows (codes "lines") false → GivesFlag rows (codes "removals") false
+  pub no_all : GivesFlag rows (codes "lines") false → GivesFlag rows (codes "all") false
+
+-- what follows of words that fit where a tree is cut
+abbrev pub DoesCutFit : List Row → Type 0
+DoesCutFit rows = HasWord (codes "chunk-bytes") rows → HasNone (codes "bits") rows
 
 -- an accepted subcommand is refused in this way
 abbrev pub IsRefusedAt : Text × List Row → ParseFault → Type 0

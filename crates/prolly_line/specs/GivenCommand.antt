@@ -1,6 +1,6 @@
 -- Which command the words give, and how they are refused.
 use Rattle.std.specs.Prelude.{◌≡◌, ◌≢◌, ◌≤◌, ◌↔◌, Bool, true, false, IsTrue, ⊤, ℕ, ◌⊎◌}
-use Rattle.std.specs.Prelude.{Option, Some, None, List, [], IfSome}
+use Rattle.std.specs.Prelude.{Option, Some, None, List, [], ◌∷◌, IfSome}
 use Rattle.std.specs.Prelude.{length, map, option_map, string_bytes, codes, unwrap_or}
 use Rattle.std.specs.Global.{Vec}
 use Rattle.std.specs.Str.Parse.{digits_value, without_leading_plus}
@@ -16,9 +16,10 @@ use Rattle.prolly_text.specs.declared.notation.Notation.TheVariants.{Hex, Text a
 use Rattle.prolly_line.specs.Line.{line_faults, line_given}
 use Rattle.prolly_line.specs.declared.command.Command.{Command}
 use Rattle.prolly_line.specs.declared.command.WriteMode.{WriteMode}
-use Rattle.prolly_line.specs.declared.command.Command.TheVariants.{Pack, Scratch, Build, Apply}
-use Rattle.prolly_line.specs.declared.command.Command.TheVariants.{Explain, Check, Root, Stat, Get}
-use Rattle.prolly_line.specs.declared.command.Command.TheVariants.{GetKeys, Scan, Nth, Dump, Diff}
+use Rattle.prolly_line.specs.declared.command.Command.TheVariants.{Pack, PackSorted, Scratch, Build}
+use Rattle.prolly_line.specs.declared.command.Command.TheVariants.{Apply, Explain, ExplainLines}
+use Rattle.prolly_line.specs.declared.command.Command.TheVariants.{Check, CheckFiles, Root, Stat}
+use Rattle.prolly_line.specs.declared.command.Command.TheVariants.{Get, GetKeys, Scan, Nth, Dump, Diff}
 use Rattle.prolly_line.specs.declared.command.Command.TheVariants.{Prove, Verify}
 use Rattle.prolly_line.specs.declared.command.Sought.{Sought}
 use Rattle.prolly_line.specs.declared.command.Sought.TheVariants.{Key, Keys, Range}
@@ -46,6 +47,19 @@ GivesNumber rows name least most n = (number_given name rows ≡ Some n) × (lea
 abbrev pub MayGiveNumber : List Row → Text → ℕ → ℕ → Option ℕ → Type 0
 MayGiveNumber rows name least most None = number_given name rows ≡ None
 MayGiveNumber rows name least most (Some n) = GivesNumber rows name least most n
+
+-- the number under a name, which lies from least to most, or a default where the words have none
+abbrev pub GivesNumberOr : List Row → Text → ℕ → ℕ → ℕ → ℕ → Type 0
+GivesNumberOr rows name least most default n =
+    (given : Option ℕ) × MayGiveNumber rows name least most given × (n ≡ unwrap_or given default)
+
+-- the bits by which a tree is cut: 12 where the words have no `--bits`
+abbrev pub GivesBits : List Row → ℕ → Type 0
+GivesBits rows bits = GivesNumberOr rows (codes "bits") 0 24 12 bits
+
+-- the bytes that a chunk is to have, or none where the words have no `--chunk-bytes`
+abbrev pub MayGiveChunkBytes : List Row → Option ℕ → Type 0
+MayGiveChunkBytes rows bytes = MayGiveNumber rows (codes "chunk-bytes") 1 1073741824 bytes
 
 -- the word under a name, as it stands
 abbrev pub GivesWord : List Row → Text → Text → Type 0
@@ -173,10 +187,27 @@ AreMisfit last needs_last rows =
     ⊎ (HasWord (codes "keys") rows × (HasWord (codes "from") rows ⊎ HasWord (codes "to") rows))
 
 -- the words do not fit where a key or a list of keys is sought, and no word stands behind the key: there
--- is neither, or there are both
+-- is neither, or there is a list and beside it a key or `--raw`
 abbrev pub IsMisfitKey : List Row → Type 0
 IsMisfitKey rows = (HasNone (codes "keys") rows × HasNone (codes "key") rows)
-    ⊎ (HasWord (codes "keys") rows × HasWord (codes "key") rows)
+    ⊎ (HasWord (codes "keys") rows
+    × (HasWord (codes "key") rows ⊎ GivesFlag rows (codes "raw") true))
+
+-- the words do not fit where lines are packed: there is no `--sort`, and what needs it is there
+abbrev pub IsMisfitSort : List Row → Type 0
+IsMisfitSort rows = GivesFlag rows (codes "sort") false
+    × (GivesFlag rows (codes "unique") true ⊎ HasWord (codes "memory") rows)
+
+-- the words do not fit where a file or lines are explained: with `--lines` there is a file, or without
+-- it there is none, or there is what needs `--lines`
+abbrev pub IsMisfitLines : List Row → Type 0
+IsMisfitLines rows = (GivesFlag rows (codes "lines") true × HasWord (codes "file") rows)
+    ⊎ (GivesFlag rows (codes "lines") false × (HasNone (codes "file") rows
+    ⊎ GivesFlag rows (codes "removals") true ⊎ GivesFlag rows (codes "all") true))
+
+-- the words do not fit where a tree is cut: they have the bits, and what is to tell the bits
+abbrev pub IsMisfitCut : List Row → Type 0
+IsMisfitCut rows = HasWord (codes "bits") rows × HasWord (codes "chunk-bytes") rows
 
 -- how a bad word for a key is told
 abbrev pub bad_key : Notation → ParseFault
@@ -245,15 +276,32 @@ HasFields (Pack out notation removals mode) given =
     × GivesNotation given.1 notation
     × GivesFlag given.1 (codes "removals") removals
     × GivesMode given.1 mode
-HasFields (Scratch bits version out mode) given =
+    × GivesFlag given.1 (codes "sort") false
+    × GivesFlag given.1 (codes "unique") false
+    × HasNone (codes "memory") given.1
+HasFields (PackSorted out notation removals unique memory mode) given =
+    (given.0 ≡ codes "pack")
+    × GivesWord given.1 (codes "out") (string_bytes out)
+    × GivesNotation given.1 notation
+    × GivesFlag given.1 (codes "removals") removals
+    × GivesFlag given.1 (codes "sort") true
+    × GivesFlag given.1 (codes "unique") unique
+    × GivesNumberOr given.1 (codes "memory") 16 4000 256 memory
+    × GivesMode given.1 mode
+HasFields (Scratch bits chunk_bytes version out mode) given =
     (given.0 ≡ codes "scratch")
-    × GivesNumber given.1 (codes "bits") 0 24 bits
+    × GivesBits given.1 bits
+    × MayGiveChunkBytes given.1 chunk_bytes
+    × (HasWord (codes "chunk-bytes") given.1 → HasNone (codes "bits") given.1)
     × GivesNumber given.1 (codes "format") 1 2 version
     × GivesOption given.1 (codes "out") (option_map string_bytes out)
     × GivesMode given.1 mode
-HasFields (Build bits stages capacity max_records batch version out files quiet mode) given =
+HasFields (Build bits chunk_bytes stages capacity max_records batch version out files quiet mode)
+    given =
     (given.0 ≡ codes "build")
-    × GivesNumber given.1 (codes "bits") 0 24 bits
+    × GivesBits given.1 bits
+    × MayGiveChunkBytes given.1 chunk_bytes
+    × (HasWord (codes "chunk-bytes") given.1 → HasNone (codes "bits") given.1)
     × GivesNumber given.1 (codes "stages") 1 12 stages
     × GivesNumber given.1 (codes "capacity") 1 4096 capacity
     × GivesNumber given.1 (codes "max-records") 1 16777216 max_records
@@ -277,10 +325,28 @@ HasFields (Explain file notation) given =
     (given.0 ≡ codes "explain")
     × GivesWord given.1 (codes "file") (string_bytes file)
     × GivesNotation given.1 notation
+    × GivesFlag given.1 (codes "lines") false
+    × GivesFlag given.1 (codes "removals") false
+    × GivesFlag given.1 (codes "all") false
+HasFields (ExplainLines notation removals all) given =
+    (given.0 ≡ codes "explain")
+    × GivesFlag given.1 (codes "lines") true
+    × HasNone (codes "file") given.1
+    × GivesNotation given.1 notation
+    × GivesFlag given.1 (codes "removals") removals
+    × GivesFlag given.1 (codes "all") all
 HasFields (Check file root version) given =
     (given.0 ≡ codes "check")
-    × GivesWord given.1 (codes "file") (string_bytes file)
+    × GivesWords given.1 (codes "file") (string_bytes file ∷ [])
     × GivesTrust given.1 root version
+    × GivesFlag given.1 (codes "quiet") false
+HasFields (CheckFiles files root version quiet) given =
+    (given.0 ≡ codes "check")
+    × GivesWords given.1 (codes "file") (map string_bytes files.items)
+    × GivesTrust given.1 root version
+    × GivesFlag given.1 (codes "quiet") quiet
+    × (1 ≤ length files.items)
+    × (quiet ≡ false → 2 ≤ length files.items)
 HasFields (Root file) given =
     (given.0 ≡ codes "root")
     × GivesWord given.1 (codes "file") (string_bytes file)
@@ -289,12 +355,13 @@ HasFields (Stat file json notation) given =
     × GivesWord given.1 (codes "file") (string_bytes file)
     × GivesFlag given.1 (codes "json") json
     × GivesNotation given.1 notation
-HasFields (Get file key root version notation) given =
+HasFields (Get file key root version notation raw) given =
     (given.0 ≡ codes "get")
     × GivesWord given.1 (codes "file") (string_bytes file)
     × HasNone (codes "keys") given.1
     × GivesKey given.1 notation key.items
     × GivesTrust given.1 root version
+    × GivesFlag given.1 (codes "raw") raw
 HasFields (GetKeys file keys root version notation) given =
     (given.0 ≡ codes "get")
     × GivesWord given.1 (codes "file") (string_bytes file)
@@ -302,6 +369,7 @@ HasFields (GetKeys file keys root version notation) given =
     × HasNone (codes "key") given.1
     × GivesNotation given.1 notation
     × GivesTrust given.1 root version
+    × GivesFlag given.1 (codes "raw") false
 HasFields (Scan file from limit root version notation) given =
     (given.0 ≡ codes "scan")
     × GivesWord given.1 (codes "file") (string_bytes file)
@@ -360,6 +428,10 @@ IsLawfulTrust root version =
 abbrev pub AreLawfulRoots : Option RootPair → Type 0
 AreLawfulRoots roots = IfSome roots (λ roots. IsReference roots.old.0 × IsReference roots.new.0)
 
+-- the bytes that a chunk is to have, which may be missing, are within their limits
+abbrev pub AreLawfulBytes : Option ℕ → Type 0
+AreLawfulBytes bytes = IfSome bytes (λ bytes. (1 ≤ bytes) × (bytes ≤ 1073741824))
+
 -- the keys that are sought are not too long
 abbrev pub IsLawfulSought : Sought → Type 0
 IsLawfulSought (Key key) = length key.items ≤ 1024
@@ -371,9 +443,14 @@ IsLawfulSought (Keys keys) = ⊤
 -- a reference
 abbrev pub IsWithinLimits : Command → Type 0
 IsWithinLimits (Pack out notation removals mode) = ⊤
-IsWithinLimits (Scratch bits version out mode) = (bits ≤ 24) × (1 ≤ version) × (version ≤ 2)
-IsWithinLimits (Build bits stages capacity max_records batch version out files quiet mode) =
+IsWithinLimits (PackSorted out notation removals unique memory mode) =
+    (16 ≤ memory) × (memory ≤ 4000)
+IsWithinLimits (Scratch bits chunk_bytes version out mode) =
+    (bits ≤ 24) × AreLawfulBytes chunk_bytes × (1 ≤ version) × (version ≤ 2)
+IsWithinLimits
+    (Build bits chunk_bytes stages capacity max_records batch version out files quiet mode) =
     (bits ≤ 24)
+    × AreLawfulBytes chunk_bytes
     × (1 ≤ stages) × (stages ≤ 12)
     × (1 ≤ capacity) × (capacity ≤ 4096)
     × (1 ≤ max_records) × (max_records ≤ 16777216)
@@ -384,10 +461,12 @@ IsWithinLimits (Apply root bits version old out changes quiet mode) =
     × IfSome bits (λ bits. bits ≤ 24)
     × IfSome version (λ version. (1 ≤ version) × (version ≤ 2))
 IsWithinLimits (Explain file notation) = ⊤
+IsWithinLimits (ExplainLines notation removals all) = ⊤
 IsWithinLimits (Check file root version) = IsLawfulTrust root version
+IsWithinLimits (CheckFiles files root version quiet) = IsLawfulTrust root version
 IsWithinLimits (Root file) = ⊤
 IsWithinLimits (Stat file json notation) = ⊤
-IsWithinLimits (Get file key root version notation) =
+IsWithinLimits (Get file key root version notation raw) =
     (length key.items ≤ 1024) × IsLawfulTrust root version
 IsWithinLimits (GetKeys file keys root version notation) = IsLawfulTrust root version
 IsWithinLimits (Scan file from limit root version notation) =
@@ -444,11 +523,15 @@ abbrev pub HasBadKey : Text × List Row → Notation → Type 0
 HasBadKey given notation = (ReadsKey given × GivesBadKey given.1 notation)
     ⊎ (ReadsSought given × GivesBadSought given.1 notation)
 
--- the subcommand takes a key, or a set of keys in its place, and its words do not fit
+-- the words of the subcommand do not fit: of one that takes a key, or a set of keys in its place; of
+-- `pack`, of `explain`, or of one that makes a tree of records
 abbrev pub HasMisfit : Text × List Row → Type 0
 HasMisfit given = ((given.0 ≡ codes "prove") × AreMisfit (codes "out") true given.1)
     ⊎ ((given.0 ≡ codes "verify") × AreMisfit (codes "proof") false given.1)
     ⊎ ((given.0 ≡ codes "get") × IsMisfitKey given.1)
+    ⊎ ((given.0 ≡ codes "pack") × IsMisfitSort given.1)
+    ⊎ ((given.0 ≡ codes "explain") × IsMisfitLines given.1)
+    ⊎ (((given.0 ≡ codes "scratch") ⊎ (given.0 ≡ codes "build")) × IsMisfitCut given.1)
 
 -- an error of clap's of this kind is what the words ask for: help, or the version
 abbrev pub IsAskedFor : ErrorKind → Type 0

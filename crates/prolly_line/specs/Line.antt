@@ -49,8 +49,20 @@ words_rule name = record (new_rule name) {
   value_names = 1;
 }
 
+-- any number of words, at least one
+abbrev pub some_words_rule : Text → Rule
+some_words_rule name = record (word_rule name) {
+  range = Some (record { start_inclusive = 1; end_inclusive = usize_max });
+}
+
 abbrev pub bits_option : Rule
-bits_option = number_option (codes "bits") 0 24 (codes "12")
+bits_option = optional_number_option (codes "bits") 0 24
+
+abbrev pub chunk_bytes_option : Rule
+chunk_bytes_option = optional_number_option (codes "chunk-bytes") 1 1073741824
+
+abbrev pub memory_option : Rule
+memory_option = optional_number_option (codes "memory") 16 4000
 
 abbrev pub stages_option : Rule
 stages_option = number_option (codes "stages") 1 12 (codes "12")
@@ -66,9 +78,6 @@ batch_option = number_option (codes "batch") 1 1024 (codes "16")
 
 abbrev pub format_option : Rule
 format_option = number_option (codes "format") 1 2 (codes "1")
-
-abbrev pub old_bits_option : Rule
-old_bits_option = optional_number_option (codes "bits") 0 24
 
 abbrev pub old_format_option : Rule
 old_format_option = optional_number_option (codes "format") 1 2
@@ -112,6 +121,21 @@ text_flag = flag (codes "text")
 abbrev pub removals_flag : Rule
 removals_flag = flag (codes "removals")
 
+abbrev pub sort_flag : Rule
+sort_flag = flag (codes "sort")
+
+abbrev pub unique_flag : Rule
+unique_flag = flag (codes "unique")
+
+abbrev pub lines_flag : Rule
+lines_flag = flag (codes "lines")
+
+abbrev pub all_flag : Rule
+all_flag = flag (codes "all")
+
+abbrev pub raw_flag : Rule
+raw_flag = flag (codes "raw")
+
 abbrev pub hex_flag : Rule
 hex_flag = flag (codes "hex")
 
@@ -132,6 +156,12 @@ optional_out_word = optional_word (codes "out")
 
 abbrev pub file_word : Rule
 file_word = word_rule (codes "file")
+
+abbrev pub optional_file_word : Rule
+optional_file_word = optional_word (codes "file")
+
+abbrev pub file_words : Rule
+file_words = some_words_rule (codes "file")
 
 abbrev pub proof_word : Rule
 proof_word = optional_word (codes "proof")
@@ -185,38 +215,43 @@ with_range app = with_rule (with_rule (with_rule app from_option) to_option) key
 abbrev pub look_up_line : Text → App
 look_up_line name = with_rule (with_trust (with_rule (new_app name) text_flag)) file_word
 
--- `pack [--text] [--removals] [--atomic] [--sync] [--force] OUT`
+-- the options that let lines come in any order
+abbrev pub with_sort : App → App
+with_sort app = with_rule (with_rule (with_rule app sort_flag) unique_flag) memory_option
+
+-- `pack [--text] [--removals] [--sort] [--unique] [--memory MB] [--atomic] [--sync] [--force] OUT`
 abbrev pub pack_line : App
-pack_line = with_rule (with_mode (with_rule (with_rule (new_app (codes "pack"))
-    text_flag) removals_flag)) out_word
+pack_line = with_rule (with_mode (with_sort (with_rule (with_rule (new_app (codes "pack"))
+    text_flag) removals_flag))) out_word
 
--- `scratch [--bits Q] [--format V] [--out FILE] [--atomic] [--sync] [--force]`
+-- `scratch [--bits Q] [--chunk-bytes N] [--format V] [--out FILE] [--atomic] [--sync] [--force]`
 abbrev pub scratch_line : App
-scratch_line = with_mode (with_rule (with_rule (with_rule (new_app (codes "scratch"))
-    bits_option) format_option) out_option)
+scratch_line = with_mode (with_rule (with_rule (with_rule (with_rule (new_app (codes "scratch"))
+    bits_option) chunk_bytes_option) format_option) out_option)
 
--- `build [--bits Q] [--stages S] [--capacity C] [--max-records M] [--batch B] [--format V]
--- [--quiet] [--atomic] [--sync] [--force] OUT [FILES...]`
+-- `build [--bits Q] [--chunk-bytes N] [--stages S] [--capacity C] [--max-records M] [--batch B]
+-- [--format V] [--quiet] [--atomic] [--sync] [--force] OUT [FILES...]`
 abbrev pub build_line : App
 build_line = with_rule (with_rule (with_mode
-    (with_rule (with_rule (with_rule (with_rule (with_rule (with_rule (with_rule
-    (new_app (codes "build")) bits_option) stages_option) capacity_option) max_records_option)
-    batch_option) format_option) quiet_flag)) out_word) files_words
+    (with_rule (with_rule (with_rule (with_rule (with_rule (with_rule (with_rule (with_rule
+    (new_app (codes "build")) bits_option) chunk_bytes_option) stages_option) capacity_option)
+    max_records_option) batch_option) format_option) quiet_flag)) out_word) files_words
 
 -- `apply [--bits Q] [--format V] --root ROOT [--quiet] [--atomic] [--sync] [--force] OLD OUT
 -- [CHANGES...]`
 abbrev pub apply_line : App
 apply_line = with_rule (with_rule (with_rule (with_mode (with_rule (with_rule (with_rule (with_rule
-    (new_app (codes "apply")) old_bits_option) old_format_option) required_root_option)
+    (new_app (codes "apply")) bits_option) old_format_option) required_root_option)
     quiet_flag)) old_word) out_word) changes_words
 
--- `explain [--text] FILE`
+-- `explain [--text] [--lines] [--removals] [--all] [FILE]`
 abbrev pub explain_line : App
-explain_line = with_rule (with_rule (new_app (codes "explain")) text_flag) file_word
+explain_line = with_rule (with_rule (with_rule (with_rule (with_rule (new_app (codes "explain"))
+    text_flag) lines_flag) removals_flag) all_flag) optional_file_word
 
--- `check [--root ROOT] [--format V] FILE`
+-- `check [--root ROOT] [--format V] [--quiet] FILE...`
 abbrev pub check_line : App
-check_line = with_trust (with_rule (new_app (codes "check")) file_word)
+check_line = with_rule (with_trust (with_rule (new_app (codes "check")) file_words)) quiet_flag
 
 -- `root FILE`
 abbrev pub root_line : App
@@ -227,10 +262,10 @@ abbrev pub stat_line : App
 stat_line = with_rule (with_rule (with_rule (new_app (codes "stat")) text_flag) json_flag)
     file_word
 
--- `get [--text] [--root ROOT] [--format V] [--keys FILE] FILE [KEY]`
+-- `get [--text] [--raw] [--root ROOT] [--format V] [--keys FILE] FILE [KEY]`
 abbrev pub get_line : App
-get_line = with_rule (with_rule (with_rule (with_trust (with_rule (new_app (codes "get"))
-    text_flag)) keys_option) file_word) optional_key_word
+get_line = with_rule (with_rule (with_rule (with_trust (with_rule (with_rule (new_app (codes "get"))
+    text_flag) raw_flag)) keys_option) file_word) optional_key_word
 
 -- `scan [--text] [--root ROOT] [--format V] FILE KEY LIMIT`
 abbrev pub scan_line : App

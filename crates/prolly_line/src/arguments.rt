@@ -1,12 +1,13 @@
 //! The options and words of the subcommands, each with the rule that clap reads it by.
-ghost use Rattle.prolly_line.specs.Line.{atomic_flag, batch_option, bits_option, capacity_option};
-ghost use Rattle.prolly_line.specs.Line.{file_word, files_words, flag, force_flag, format_option};
+ghost use Rattle.prolly_line.specs.Line.{all_flag, atomic_flag, batch_option, bits_option};
+ghost use Rattle.prolly_line.specs.Line.{capacity_option, chunk_bytes_option, file_word};
+ghost use Rattle.prolly_line.specs.Line.{file_words, files_words, flag, force_flag, format_option};
 ghost use Rattle.prolly_line.specs.Line.{from_option, optional_key_word, to_option};
 ghost use Rattle.prolly_line.specs.Line.{hex_flag, json_flag, key_word, keys_option, limit_word};
-ghost use Rattle.prolly_line.specs.Line.{quiet_flag};
-ghost use Rattle.prolly_line.specs.Line.{removals_flag};
+ghost use Rattle.prolly_line.specs.Line.{lines_flag, memory_option, quiet_flag, raw_flag};
+ghost use Rattle.prolly_line.specs.Line.{removals_flag, sort_flag, unique_flag};
 ghost use Rattle.prolly_line.specs.Line.{max_records_option, n_word, number_option, number_word};
-ghost use Rattle.prolly_line.specs.Line.{changes_words, old_bits_option, old_format_option};
+ghost use Rattle.prolly_line.specs.Line.{changes_words, old_format_option, optional_file_word};
 ghost use Rattle.prolly_line.specs.Line.{option_rule, optional_out_word, out_option, out_word};
 ghost use Rattle.prolly_line.specs.Line.{optional_number_option, required_root_option, words_rule};
 ghost use Rattle.prolly_line.specs.Line.{proof_word, root_option};
@@ -87,21 +88,28 @@ fn optional_number_option<'a>(
     ))
 }
 
-/// `--bits Q`
-pub(crate) fn bits_option<'a>(alloc: Global) -> Arg<'a>
+/// `--bits Q`; `what` says for its help what it does.
+pub(crate) fn bits_option<'a>(alloc: Global, what: &'a str) -> Arg<'a>
     ensures { IsReadBy bits_option result }
 {
-    number_option(alloc, "bits", "Q", 0, 24, "12").help(
-        "Cut by Q bits of a hash: about one entry in 2^Q ends a chunk (0 to 24)",
+    optional_number_option(alloc, "bits", "Q", 0, 24).help(what)
+}
+
+/// `--chunk-bytes N`
+pub(crate) fn chunk_bytes_option<'a>(alloc: Global) -> Arg<'a>
+    ensures { IsReadBy chunk_bytes_option result }
+{
+    optional_number_option(alloc, "chunk-bytes", "N", 1, 1073741824).help(
+        "In place of --bits: take the bits by which a chunk has about N bytes (1 to 1,073,741,824)",
     )
 }
 
-/// `--bits Q`, of a tree that stands already.
-pub(crate) fn old_bits_option<'a>(alloc: Global) -> Arg<'a>
-    ensures { IsReadBy old_bits_option result }
+/// `--memory MB`
+pub(crate) fn memory_option<'a>(alloc: Global) -> Arg<'a>
+    ensures { IsReadBy memory_option result }
 {
-    optional_number_option(alloc, "bits", "Q", 0, 24).help(
-        "Refuse OLD unless its header says Q (0 to 24)",
+    optional_number_option(alloc, "memory", "MB", 16, 4000).help(
+        "Use about MB megabytes of 1,000,000 bytes (16 to 4,000). Needs --sort [default: 256]",
     )
 }
 
@@ -245,11 +253,48 @@ pub(crate) fn text_flag<'a>(alloc: Global, what: &'a str) -> Arg<'a>
     flag(alloc, "text").help(what)
 }
 
-/// `--removals`
-pub(crate) fn removals_flag<'a>(alloc: Global) -> Arg<'a>
+/// `--removals`; `what` says for its help which lines are removals then.
+pub(crate) fn removals_flag<'a>(alloc: Global, what: &'a str) -> Arg<'a>
     ensures { IsReadBy removals_flag result }
 {
-    flag(alloc, "removals").help("With --text, take a line that is a key alone for its removal")
+    flag(alloc, "removals").help(what)
+}
+
+/// `--sort`
+pub(crate) fn sort_flag<'a>(alloc: Global) -> Arg<'a>
+    ensures { IsReadBy sort_flag result }
+{
+    flag(alloc, "sort").help(
+        "Take lines in any order and of any number; of a key in several lines the last one counts",
+    )
+}
+
+/// `--unique`
+pub(crate) fn unique_flag<'a>(alloc: Global) -> Arg<'a>
+    ensures { IsReadBy unique_flag result }
+{
+    flag(alloc, "unique").help("Refuse a key that stands in two lines. Needs --sort")
+}
+
+/// `--lines`
+pub(crate) fn lines_flag<'a>(alloc: Global) -> Arg<'a>
+    ensures { IsReadBy lines_flag result }
+{
+    flag(alloc, "lines").help("Of lines as `pack` reads them, from standard input, without FILE")
+}
+
+/// `--all`
+pub(crate) fn all_flag<'a>(alloc: Global) -> Arg<'a>
+    ensures { IsReadBy all_flag result }
+{
+    flag(alloc, "all").help("Tell each flawed line, up to a hundred. Needs --lines")
+}
+
+/// `--raw`
+pub(crate) fn raw_flag<'a>(alloc: Global) -> Arg<'a>
+    ensures { IsReadBy raw_flag result }
+{
+    flag(alloc, "raw").help("Print the value's bytes and nothing else, no newline either")
 }
 
 /// `--hex`
@@ -273,11 +318,11 @@ pub(crate) fn json_flag<'a>(alloc: Global) -> Arg<'a>
     flag(alloc, "json").help("Print one line of JSON, in which keys are in hexadecimal")
 }
 
-/// `--quiet`
-pub(crate) fn quiet_flag<'a>(alloc: Global) -> Arg<'a>
+/// `--quiet`; `what` says for its help what is not printed then.
+pub(crate) fn quiet_flag<'a>(alloc: Global, what: &'a str) -> Arg<'a>
     ensures { IsReadBy quiet_flag result }
 {
-    flag(alloc, "quiet").help("Show no progress on standard error")
+    flag(alloc, "quiet").help(what)
 }
 
 /// `OUT`, the file that a subcommand makes; `what` says for its help what that is.
@@ -314,6 +359,24 @@ pub(crate) fn file_word<'a>(alloc: Global, what: &'a str) -> Arg<'a>
     required_word(alloc, "file", "FILE").help(what)
 }
 
+/// `[FILE]`, which is left out where lines are read in its place.
+pub(crate) fn optional_file_word<'a>(alloc: Global) -> Arg<'a>
+    ensures { IsReadBy optional_file_word result }
+{
+    Arg::new(alloc, "file")
+        .value_name("FILE")
+        .help("The record file. With --lines it is left out")
+}
+
+/// `FILE...`
+pub(crate) fn file_words<'a>(alloc: Global) -> Arg<'a>
+    ensures { IsReadBy file_words result }
+{
+    required_word(alloc, "file", "FILE")
+        .num_args(1..)
+        .help("The chunk files, one or several")
+}
+
 /// `[PROOF]`, the proof that a subcommand reads.
 pub(crate) fn proof_word<'a>(alloc: Global) -> Arg<'a>
     ensures { IsReadBy proof_word result }
@@ -341,14 +404,12 @@ pub(crate) fn key_word<'a>(alloc: Global) -> Arg<'a>
     )
 }
 
-/// `[KEY]`, where a range, or many keys, may stand in its place.
-pub(crate) fn optional_key_word<'a>(alloc: Global) -> Arg<'a>
+/// `[KEY]`, where something else may stand in its place; `what` says for its help what it is, and
+/// beside which options it is left out.
+pub(crate) fn optional_key_word<'a>(alloc: Global, what: &'a str) -> Arg<'a>
     ensures { IsReadBy optional_key_word result }
 {
-    Arg::new(alloc, "key").value_name("KEY").help(
-        "The key in hexadecimal, two digits a byte, or with --text as text; at most 1,024 bytes. \
-         With --from, or with --keys, it is left out",
-    )
+    Arg::new(alloc, "key").value_name("KEY").help(what)
 }
 
 /// `LIMIT`

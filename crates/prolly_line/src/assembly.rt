@@ -29,6 +29,14 @@ pub(crate) fn described_as<'a>(
     described(alloc, name, help).override_usage(usage)
 }
 
+/// The line as clap calls it in what it says of the usage, which it knows only below the program's line.
+pub(crate) fn called<'a>(
+    line: Result<Command<'a>, AllocError>,
+    name: &'a str,
+) -> Result<Command<'a>, AllocError> {
+    line?.bin_name(name)
+}
+
 /// Adds an argument to a line, where there was memory for it. A `?` for each argument in one
 /// function would make a large proof.
 pub(crate) fn with_argument<'a>(

@@ -59,17 +59,32 @@ pub enum Command {
         removals: bool,
         mode: WriteMode,
     },
-    /// Make the tree of one record file, which comes from standard input. Without an output its
-    /// mode is ignored.
+    /// The same of lines in any order and of any size. Of a key that stands in several lines the
+    /// last one counts; where `unique` is set, such a key is a fault. About `memory` megabytes of
+    /// 1,000,000 bytes are used.
+    PackSorted {
+        out: String,
+        notation: Notation,
+        removals: bool,
+        unique: bool,
+        memory: u32,
+        mode: WriteMode,
+    },
+    /// Make the tree of one record file, which comes from standard input. Where `chunk_bytes` is
+    /// given, the bits are those by which a chunk has about so many bytes, and `bits` those of
+    /// an input that shows no record. Without an output its mode is ignored.
     Scratch {
         bits: u8,
+        chunk_bytes: Option<u32>,
         version: u8,
         out: Option<String>,
         mode: WriteMode,
     },
-    /// Make the tree of record files, in threads. Where `quiet` is set, no progress is shown.
+    /// Make the tree of record files, in threads. The bits and the bytes of a chunk say the same as
+    /// for `Scratch`. Where `quiet` is set, no progress is shown.
     Build {
         bits: u8,
+        chunk_bytes: Option<u32>,
         stages: u8,
         capacity: u32,
         max_records: u32,
@@ -98,12 +113,28 @@ pub enum Command {
         file: String,
         notation: Notation,
     },
+    /// Say which of the lines of standard input `Pack` would refuse, and why: the first one, or where
+    /// `all` is set each of them, up to a hundred. Where `removals` is set, a line of text that is a
+    /// key alone is a removal; for lines in hexadecimal it is ignored.
+    ExplainLines {
+        notation: Notation,
+        removals: bool,
+        all: bool,
+    },
     /// Say whether a file is a lawful chunk file. The root and the version say the same as for
     /// `Get`.
     Check {
         file: String,
         root: Option<Ref>,
         version: u8,
+    },
+    /// The same of each of these files, one after another. Where `quiet` is set, nothing is printed of
+    /// a lawful one.
+    CheckFiles {
+        files: Vec<String>,
+        root: Option<Ref>,
+        version: u8,
+        quiet: bool,
     },
     /// Print the root that a chunk file names.
     Root {
@@ -117,13 +148,15 @@ pub enum Command {
         notation: Notation,
     },
     /// Print the value of a key: with a root, what the tree of it has in chunks of the version,
-    /// and without one, what the file has, whose own version counts then.
+    /// and without one, what the file has, whose own version counts then. Where `raw` is set, these are
+    /// the value's bytes and nothing else, and the notation is that of the key alone.
     Get {
         file: String,
         key: Vec<u8>,
         root: Option<Ref>,
         version: u8,
         notation: Notation,
+        raw: bool,
     },
     /// Print what there is at each of the keys that the lines of the file `keys` stand for. The root
     /// and the version say the same as for `Get`.

@@ -1,25 +1,69 @@
 //! The fields of a command, from what clap found for its subcommand. Each function requires that
 //! clap has accepted the words, and so takes what has to be there without a test.
-ghost use Rattle.std.specs.Prelude.{codes, IfErr, IfOk, true, false};
-ghost use Rattle.prolly_line.specs.AcceptedWords.{Answers, DoFit, DoesKeyFit, HasNumber, HasWord};
+ghost use Rattle.std.specs.Prelude.{◌≡◌, ◌≤◌, ◌∷◌, [], Some, codes, IfErr, IfOk, length, true, false};
+ghost use Rattle.std.specs.Prelude.{unwrap_or};
+ghost use Rattle.clap.specs.Words.{Text, all_of, first_of};
+ghost use Rattle.prolly_line.specs.AcceptedWords.{Answers, DoFit, DoLinesFit, DoesCutFit};
+ghost use Rattle.prolly_line.specs.AcceptedWords.{DoesKeyFit, DoesSortFit, HasNumber, HasWord};
 ghost use Rattle.prolly_line.specs.AcceptedWords.{IsAccepted, IsRefusedLookUp, rows_in};
-ghost use Rattle.prolly_line.specs.GivenCommand.{GivesKey, GivesNotation, GivesTrust, HasNone};
+ghost use Rattle.prolly_line.specs.GivenCommand.{GivesFlag, GivesKey, GivesNotation, GivesTrust};
+ghost use Rattle.prolly_line.specs.GivenCommand.{HasFields, HasNone};
 
+use crate::assembly::called;
 use crate::command::{Command, ParseFault};
 use crate::misfit::Misfit;
-use crate::subcommands::{get_line, prove_line, verify_line};
+use crate::subcommands::{
+    build_line, explain_line, get_line, pack_line, prove_line, scratch_line, verify_line,
+};
 use crate::values::{
-    byte_of, flag_of, is_given, key_of, lines_of, mode_of, notation_of, number_of, option_of,
-    optional_byte_of, place_of_last, root_of, roots_of, sought_of, text_of, texts_of, trust_of,
+    bits_of, byte_of, chunk_bytes_of, flag_of, has_several, is_given, key_of, lines_of, memory_of,
+    mode_of, notation_of, number_of, option_of, optional_byte_of, place_of_last, root_of, roots_of,
+    sought_of, text_of, texts_of, trust_of,
 };
 use clap::ArgMatches;
 use prolly_entry::Ref;
 use prolly_text::Notation;
 use std::alloc::Global;
 
-/// `pack [--text] [--removals] [--atomic] [--sync] [--force] OUT`
+/// `pack [--text] [--removals] [--sort] [--unique] [--memory MB] [--atomic] [--sync] [--force] OUT`
 pub(crate) fn pack(alloc: Global, given: &ArgMatches<'_>) -> Result<Command, ParseFault>
     requires { IsAccepted (codes "pack", rows_in given.now) }
+    ensures { Answers (codes "pack", rows_in given.now) result }
+{
+    match Misfit::of_sort(given) {
+        Some(misfit) => Err(misfit.fault(alloc, called(pack_line(alloc), "prolly pack"))),
+        None if flag_of(given, "sort") => pack_sorted(alloc, given),
+        None => pack_as_they_come(alloc, given),
+    }
+}
+
+// The same of lines in any order, where the words fit.
+fn pack_sorted(alloc: Global, given: &ArgMatches<'_>) -> Result<Command, ParseFault>
+    requires accepted { IsAccepted (codes "pack", rows_in given.now) }
+    requires sort { GivesFlag (rows_in given.now) (codes "sort") true }
+    ensures { Answers (codes "pack", rows_in given.now) result }
+{
+    let out = text_of(alloc, given, "out")?;
+    let notation = notation_of(given);
+    let removals = flag_of(given, "removals");
+    let unique = flag_of(given, "unique");
+    let memory = memory_of(given);
+    let mode = mode_of(given);
+    Ok(Command::PackSorted {
+        out,
+        notation,
+        removals,
+        unique,
+        memory,
+        mode,
+    })
+}
+
+// The same of lines that come in their order.
+fn pack_as_they_come(alloc: Global, given: &ArgMatches<'_>) -> Result<Command, ParseFault>
+    requires accepted { IsAccepted (codes "pack", rows_in given.now) }
+    requires fit { DoesSortFit (rows_in given.now) }
+    requires none { GivesFlag (rows_in given.now) (codes "sort") false }
     ensures { Answers (codes "pack", rows_in given.now) result }
 {
     let out = text_of(alloc, given, "out")?;
@@ -34,30 +78,57 @@ pub(crate) fn pack(alloc: Global, given: &ArgMatches<'_>) -> Result<Command, Par
     })
 }
 
-/// `scratch [--bits Q] [--format V] [--out FILE] [--atomic] [--sync] [--force]`
+/// `scratch [--bits Q] [--chunk-bytes N] [--format V] [--out FILE] [--atomic] [--sync] [--force]`
 pub(crate) fn scratch(alloc: Global, given: &ArgMatches<'_>) -> Result<Command, ParseFault>
     requires { IsAccepted (codes "scratch", rows_in given.now) }
     ensures { Answers (codes "scratch", rows_in given.now) result }
 {
-    let bits = byte_of(given, "bits");
+    match Misfit::of_cut(given) {
+        Some(misfit) => Err(misfit.fault(alloc, called(scratch_line(alloc), "prolly scratch"))),
+        None => fitting_scratch(alloc, given),
+    }
+}
+
+// The same, where the words fit.
+fn fitting_scratch(alloc: Global, given: &ArgMatches<'_>) -> Result<Command, ParseFault>
+    requires accepted { IsAccepted (codes "scratch", rows_in given.now) }
+    requires fit { DoesCutFit (rows_in given.now) }
+    ensures { Answers (codes "scratch", rows_in given.now) result }
+{
+    let bits = bits_of(given);
+    let chunk_bytes = chunk_bytes_of(given);
     let version = byte_of(given, "format");
     let out = option_of(alloc, given, "out")?;
     let mode = mode_of(given);
     Ok(Command::Scratch {
         bits,
+        chunk_bytes,
         version,
         out,
         mode,
     })
 }
 
-/// `build [--bits Q] [--stages S] [--capacity C] [--max-records M] [--batch B] [--format V]
-/// [--quiet] [--atomic] [--sync] [--force] OUT [FILES...]`
+/// `build [--bits Q] [--chunk-bytes N] [--stages S] [--capacity C] [--max-records M] [--batch B]
+/// [--format V] [--quiet] [--atomic] [--sync] [--force] OUT [FILES...]`
 pub(crate) fn build(alloc: Global, given: &ArgMatches<'_>) -> Result<Command, ParseFault>
     requires { IsAccepted (codes "build", rows_in given.now) }
     ensures { Answers (codes "build", rows_in given.now) result }
 {
-    let bits = byte_of(given, "bits");
+    match Misfit::of_cut(given) {
+        Some(misfit) => Err(misfit.fault(alloc, called(build_line(alloc), "prolly build"))),
+        None => fitting_build(alloc, given),
+    }
+}
+
+// The same, where the words fit.
+fn fitting_build(alloc: Global, given: &ArgMatches<'_>) -> Result<Command, ParseFault>
+    requires accepted { IsAccepted (codes "build", rows_in given.now) }
+    requires fit { DoesCutFit (rows_in given.now) }
+    ensures { Answers (codes "build", rows_in given.now) result }
+{
+    let bits = bits_of(given);
+    let chunk_bytes = chunk_bytes_of(given);
     let stages = byte_of(given, "stages");
     let capacity = number_of(given, "capacity");
     let max_records = number_of(given, "max-records");
@@ -69,6 +140,7 @@ pub(crate) fn build(alloc: Global, given: &ArgMatches<'_>) -> Result<Command, Pa
     let mode = mode_of(given);
     Ok(Command::Build {
         bits,
+        chunk_bytes,
         stages,
         capacity,
         max_records,
@@ -107,9 +179,35 @@ pub(crate) fn apply(alloc: Global, given: &ArgMatches<'_>) -> Result<Command, Pa
     })
 }
 
-/// `explain [--text] FILE`
+/// `explain [--text] [--lines] [--removals] [--all] [FILE]`
 pub(crate) fn explain(alloc: Global, given: &ArgMatches<'_>) -> Result<Command, ParseFault>
     requires { IsAccepted (codes "explain", rows_in given.now) }
+    ensures { Answers (codes "explain", rows_in given.now) result }
+{
+    match Misfit::of_lines(given) {
+        Some(misfit) => Err(misfit.fault(alloc, explain_line(alloc))),
+        None if flag_of(given, "lines") => Ok(explain_lines(given)),
+        None => explain_file(alloc, given),
+    }
+}
+
+// The same of lines, where the words fit.
+fn explain_lines(given: &ArgMatches<'_>) -> Command
+    requires fit { DoLinesFit (rows_in given.now) }
+    requires lines { GivesFlag (rows_in given.now) (codes "lines") true }
+    ensures { HasFields result (codes "explain", rows_in given.now) }
+{
+    Command::ExplainLines {
+        notation: notation_of(given),
+        removals: flag_of(given, "removals"),
+        all: flag_of(given, "all"),
+    }
+}
+
+// The same of a file.
+fn explain_file(alloc: Global, given: &ArgMatches<'_>) -> Result<Command, ParseFault>
+    requires fit { DoLinesFit (rows_in given.now) }
+    requires none { GivesFlag (rows_in given.now) (codes "lines") false }
     ensures { Answers (codes "explain", rows_in given.now) result }
 {
     let file = text_of(alloc, given, "file")?;
@@ -117,9 +215,23 @@ pub(crate) fn explain(alloc: Global, given: &ArgMatches<'_>) -> Result<Command, 
     Ok(Command::Explain { file, notation })
 }
 
-/// `check [--root ROOT] [--format V] FILE`
+/// `check [--root ROOT] [--format V] [--quiet] FILE...`
 pub(crate) fn check(alloc: Global, given: &ArgMatches<'_>) -> Result<Command, ParseFault>
     requires { IsAccepted (codes "check", rows_in given.now) }
+    ensures { Answers (codes "check", rows_in given.now) result }
+{
+    match (flag_of(given, "quiet"), has_several(given, "file")) {
+        (false, false) => check_one(alloc, given),
+        _ => check_files(alloc, given),
+    }
+}
+
+// The same of one file.
+fn check_one(alloc: Global, given: &ArgMatches<'_>) -> Result<Command, ParseFault>
+    requires accepted { IsAccepted (codes "check", rows_in given.now) }
+    requires loud { GivesFlag (rows_in given.now) (codes "quiet") false }
+    requires one { (word : Text) → first_of (codes "file") (rows_in given.now) ≡ Some word
+        → unwrap_or (all_of (codes "file") (rows_in given.now)) [] ≡ word ∷ [] }
     ensures { Answers (codes "check", rows_in given.now) result }
 {
     let (root, version) = trust_of(given)?;
@@ -128,6 +240,24 @@ pub(crate) fn check(alloc: Global, given: &ArgMatches<'_>) -> Result<Command, Pa
         file,
         root,
         version,
+    })
+}
+
+// The same of several files, or of which no more is told than what is at fault.
+fn check_files(alloc: Global, given: &ArgMatches<'_>) -> Result<Command, ParseFault>
+    requires accepted { IsAccepted (codes "check", rows_in given.now) }
+    requires several { GivesFlag (rows_in given.now) (codes "quiet") false
+        → 2 ≤ length (unwrap_or (all_of (codes "file") (rows_in given.now)) []) }
+    ensures { Answers (codes "check", rows_in given.now) result }
+{
+    let (root, version) = trust_of(given)?;
+    let files = texts_of(alloc, given, "file")?;
+    let quiet = flag_of(given, "quiet");
+    Ok(Command::CheckFiles {
+        files,
+        root,
+        version,
+        quiet,
     })
 }
 
@@ -173,7 +303,7 @@ fn trusted_key(
     Ok((trust.0, trust.1, key))
 }
 
-/// `get [--text] [--root ROOT] [--format V] [--keys FILE] FILE [KEY]`
+/// `get [--text] [--raw] [--root ROOT] [--format V] [--keys FILE] FILE [KEY]`
 pub(crate) fn get(alloc: Global, given: &ArgMatches<'_>) -> Result<Command, ParseFault>
     requires { IsAccepted (codes "get", rows_in given.now) }
     ensures { Answers (codes "get", rows_in given.now) result }
@@ -215,12 +345,14 @@ fn get_one(alloc: Global, given: &ArgMatches<'_>) -> Result<Command, ParseFault>
     let notation = notation_of(given);
     let (root, version, key) = trusted_key(alloc, given, notation)?;
     let file = text_of(alloc, given, "file")?;
+    let raw = flag_of(given, "raw");
     Ok(Command::Get {
         file,
         key,
         root,
         version,
         notation,
+        raw,
     })
 }
 

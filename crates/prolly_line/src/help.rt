@@ -71,13 +71,21 @@ value have to be escaped; all other bytes may stand as they are, also those that
 are no UTF-8. With --removals too, a line that is a key alone takes the key
 away.
 
+With --sort lines may come in any order, and the input may be of any size;
+without it, it has at most 1,073,741,824 bytes. Of a key that stands in several
+lines the last one counts. With --unique such a key is a fault that names both
+lines, by their numbers counted from 0. About MB megabytes of 1,000,000 bytes
+are used, which --memory gives. Runs of lines that do not fit are written beside
+OUT, and are gone afterwards. OUT has to be a file.
+
 Prints the number of records.
 
 OUT is replaced once the record file is whole: after a fault it is as it was,
 but where standard output alone failed. An OUT that has bytes and does not begin
 as a record file does is refused, unless --force is given.",
-    example: "Example: put 31 at 61, and take 62 away
-  printf '61 31\\n62 -\\n' | prolly pack changes.rec",
+    example: "Examples: put 31 at 61, and take 62 away; and lines that are not sorted
+  printf '61 31\\n62 -\\n' | prolly pack changes.rec
+  printf 'pear\\t5\\napple\\t3\\n' | prolly pack --sort --text fruit.rec",
 };
 
 pub(crate) const SCRATCH: Help<'static> = Help {
@@ -87,6 +95,11 @@ prints the text of its root.
 
 Equal contents give equal roots and equal chunk files, whether this command made
 them or `build` did, at equal --bits and --format.
+
+--chunk-bytes takes the place of --bits: it takes the bits by which a chunk has
+about N bytes, from the mean size of the records in the first megabyte that is
+read, and prints on standard error which it took. Equal contents have equal
+roots only at equal bits, so a script which compares roots gives --bits.
 
 With --out, FILE is opened before the input is read, and emptied once there is
 something to write: after a fault before that it is as it was. Where writing it
@@ -130,6 +143,11 @@ proved. Of a million pairs of 38 bytes --bits make
   8   chunks of 9.7 kB; ten changes make 298 kB new; a proof has 35 kB
   12  chunks of 159 kB; ten changes make 3.2 MB new; a proof has 272 kB
 
+--chunk-bytes takes the place of --bits: it takes the bits by which a chunk has
+about N bytes, from the mean size of the records in the first megabyte that is
+read, and prints on standard error which it took. Equal contents have equal
+roots only at equal bits, so a script which compares roots gives --bits.
+
 --stages and --max-records are limits: a tree of more levels, or a file of more
 records, is refused. --capacity and --batch change only how much memory the
 threads use and how often they wait for one another, never the chunk file.
@@ -167,7 +185,7 @@ file. With --atomic it is as it was then.",
 };
 
 pub(crate) const EXPLAIN: Help<'static> = Help {
-    about: "Say where and why a record file is not good",
+    about: "Say where and why a record file, or a line for one, is not good",
     details: "Reads a record file as `build` does, and says where and why it is not good. It
 is good where it is at most 16,777,216 whole records, keys and values are not
 longer than they may be, and the keys rise strictly.
@@ -180,17 +198,31 @@ it, where there are such; of a key of more than 64 bytes the first 64. The exit
 status is 1 then.
 
 Keys are shown in hexadecimal, or with --text as text, with the escapes of
-`pack --text`.",
-    example: "Example: what is wrong with a record file that `build` refuses
-  prolly explain monday.rec",
+`pack --text`.
+
+With --lines there is no FILE, and lines are read from standard input as `pack`
+reads them, with the same --text and --removals. Prints of the first line that
+`pack` would refuse its number, counted from 1, the byte where it begins, the
+line itself, escaped and up to its first 64 bytes, what is wrong, and what would
+be right. With --all it prints this of each such line, up to a hundred. The exit
+status is 1 where there is one.",
+    example: "Examples: what is wrong with a record file that `build` refuses, and with a
+table of text that `pack` refuses
+  prolly explain monday.rec
+  prolly explain --lines --text < monday.txt",
 };
 
 pub(crate) const CHECK: Help<'static> = Help {
-    about: "Say whether a chunk file is lawful",
+    about: "Say whether chunk files are lawful",
     details: "Reads a chunk file from end to end and says whether it is lawful: whether it is
 the one chunk file of its contents, to the byte.
 
 Prints `ok`, the text of the root, the number of --bits and that of chunks.
+
+Several files are checked one after another. Each line of output then ends with
+two spaces and the file's name, and a refusal's line names its file. The exit
+status is that of the first refusal. With --quiet nothing is printed of files
+that are lawful.
 
 Without --root the file may have any root. It is held in memory, and no file
 over 1 GiB is read. No two of its chunks may have one reference. --format is
@@ -199,9 +231,10 @@ ignored.
 With --root the file of another root is refused. FILE may be of any size, and
 may be a pipe: 16 MiB of it are held in memory, or more where a chunk is larger.
 The first fault in the order of the bytes is told.",
-    example: "Examples: a file, and one of any size whose root is known
+    example: "Examples: a file, one of any size whose root is known, and several
   prolly check ab.prl
-  prolly check --root nu05v9k058pmjdu7s5312ho13geggue6 days.prl",
+  prolly check --root nu05v9k058pmjdu7s5312ho13geggue6 days.prl
+  prolly check monday.prl tuesday.prl",
 };
 
 pub(crate) const ROOT: Help<'static> = Help {
@@ -252,15 +285,19 @@ counted from 0, and nothing else is done; the exit status is then 3.
 With --text keys are taken and values shown as text, with the escapes of
 `pack --text`, and a key and its value are separated by a tab.
 
+With --raw the value's bytes are printed and nothing else, no newline either.
+Then --text says only how KEY is written. --keys is refused beside it.
+
 Without --root the whole file is checked first, as by `check`: that takes time
 linear in it, no file over 1 GiB is read, and --format is ignored. With --root
 only what is needed is read: the lengths and levels of the frames, and one chunk
 a level, each compared with the reference above it, from ROOT down. So what is
 printed is right for ROOT, whatever else the file holds; a chunk that does not
 fit is refused.",
-    example: "Examples: the value of the key of one byte, 61, and what there is at each key
-of a file
+    example: "Examples: the value of the key of one byte, 61, the same as it is, and what
+there is at each key of a file
   prolly get ab.prl 61
+  prolly get --raw ab.prl 61 > value
   prolly get --keys keys.txt ab.prl",
 };
 

@@ -1,16 +1,18 @@
 //! Words that clap takes, and that do not fit together.
-ghost use Rattle.std.specs.Prelude.{◌≢◌, IfNone, IfSome, codes};
-ghost use Rattle.prolly_line.specs.AcceptedWords.{DoFit, DoesKeyFit, rows_in};
-ghost use Rattle.prolly_line.specs.GivenCommand.{AreMisfit, HasNone, HasWord, IsAskedFor};
-ghost use Rattle.prolly_line.specs.GivenCommand.{IsMisfitKey, IsWordFault};
+ghost use Rattle.std.specs.Prelude.{◌≢◌, IfNone, IfSome, codes, false};
+ghost use Rattle.prolly_line.specs.AcceptedWords.{DoFit, DoLinesFit, DoesCutFit, DoesKeyFit};
+ghost use Rattle.prolly_line.specs.AcceptedWords.{DoesSortFit, rows_in};
+ghost use Rattle.prolly_line.specs.GivenCommand.{AreMisfit, GivesFlag, HasNone, HasWord, IsAskedFor};
+ghost use Rattle.prolly_line.specs.GivenCommand.{IsMisfitCut, IsMisfitKey, IsMisfitLines};
+ghost use Rattle.prolly_line.specs.GivenCommand.{IsMisfitSort, IsWordFault};
 
 use crate::command::{ParseFault, refusal};
-use crate::values::is_given;
+use crate::values::{flag_of, is_given};
 use clap::error::ErrorKind;
 use clap::{ArgMatches, Command};
 use std::alloc::{AllocError, Global};
 
-/// Which words are missing, or one too many, where a key, a range or many keys are sought.
+/// Which words are missing, or one too many.
 #[derive(Clone, Copy)]
 pub(crate) enum Misfit {
     /// `--to` without `--from`.
@@ -27,6 +29,18 @@ pub(crate) enum Misfit {
     FromBesideKeys,
     /// `--to` beside `--keys`.
     ToBesideKeys,
+    /// `--raw` beside `--keys`.
+    RawBesideKeys,
+    /// What needs `--sort`, without it.
+    NoSort,
+    /// What needs `--lines`, without it.
+    NoLines,
+    /// Neither a file nor `--lines`.
+    NoFile,
+    /// A file beside `--lines`.
+    FileBesideLines,
+    /// `--bits` beside `--chunk-bytes`.
+    BitsBesideChunkBytes,
 }
 
 impl Misfit {
@@ -54,6 +68,64 @@ impl Misfit {
         match (is_given(given, "keys"), is_given(given, "key")) {
             (true, true) => Some(Misfit::KeyBesideKeys),
             (false, false) => Some(Misfit::NoKey),
+            (true, false) if flag_of(given, "raw") => Some(Misfit::RawBesideKeys),
+            _ => None,
+        }
+    }
+
+    /// What does not fit, of a command that packs lines.
+    pub(crate) fn of_sort(given: &ArgMatches<'_>) -> Option<Misfit>
+        ensures some { IfSome result (λ _. IsMisfitSort (rows_in given.now)) }
+        ensures none { IfNone result (DoesSortFit (rows_in given.now)) }
+    {
+        if flag_of(given, "sort") {
+            return None;
+        }
+        if flag_of(given, "unique") {
+            return Some(Misfit::NoSort);
+        }
+        if is_given(given, "memory") {
+            return Some(Misfit::NoSort);
+        }
+        None
+    }
+
+    /// What does not fit, of a command that explains a file, or lines in its place.
+    pub(crate) fn of_lines(given: &ArgMatches<'_>) -> Option<Misfit>
+        ensures some { IfSome result (λ _. IsMisfitLines (rows_in given.now)) }
+        ensures none { IfNone result (DoLinesFit (rows_in given.now)) }
+    {
+        match (flag_of(given, "lines"), is_given(given, "file")) {
+            (true, true) => Some(Misfit::FileBesideLines),
+            (true, false) => None,
+            (false, false) => Some(Misfit::NoFile),
+            (false, true) => Misfit::beside_file(given),
+        }
+    }
+
+    /// The same, where there is a file and no `--lines`.
+    fn beside_file(given: &ArgMatches<'_>) -> Option<Misfit>
+        requires none { GivesFlag (rows_in given.now) (codes "lines") false }
+        requires file { HasWord (codes "file") (rows_in given.now) }
+        ensures some { IfSome result (λ _. IsMisfitLines (rows_in given.now)) }
+        ensures none { IfNone result (DoLinesFit (rows_in given.now)) }
+    {
+        if flag_of(given, "removals") {
+            return Some(Misfit::NoLines);
+        }
+        if flag_of(given, "all") {
+            return Some(Misfit::NoLines);
+        }
+        None
+    }
+
+    /// What does not fit, of a command that cuts a tree.
+    pub(crate) fn of_cut(given: &ArgMatches<'_>) -> Option<Misfit>
+        ensures some { IfSome result (λ _. IsMisfitCut (rows_in given.now)) }
+        ensures none { IfNone result (DoesCutFit (rows_in given.now)) }
+    {
+        match (is_given(given, "bits"), is_given(given, "chunk-bytes")) {
+            (true, true) => Some(Misfit::BitsBesideChunkBytes),
             _ => None,
         }
     }
@@ -135,7 +207,10 @@ impl Misfit {
             Misfit::KeyBesideRange
             | Misfit::KeyBesideKeys
             | Misfit::FromBesideKeys
-            | Misfit::ToBesideKeys => ErrorKind::ArgumentConflict,
+            | Misfit::ToBesideKeys
+            | Misfit::RawBesideKeys
+            | Misfit::FileBesideLines
+            | Misfit::BitsBesideChunkBytes => ErrorKind::ArgumentConflict,
             _ => ErrorKind::MissingRequiredArgument,
         }
     }
@@ -153,6 +228,14 @@ impl Misfit {
             }
             Misfit::ToBesideKeys => {
                 "the argument '--keys <FILE>' cannot be used with '--to <KEY>'"
+            }
+            Misfit::RawBesideKeys => "the argument '--keys <FILE>' cannot be used with '--raw'",
+            Misfit::NoSort => "the following required arguments were not provided:\n  --sort",
+            Misfit::NoLines => "the following required arguments were not provided:\n  --lines",
+            Misfit::NoFile => "the following required arguments were not provided:\n  <FILE>",
+            Misfit::FileBesideLines => "the argument '--lines' cannot be used with '<FILE>'",
+            Misfit::BitsBesideChunkBytes => {
+                "the argument '--bits <Q>' cannot be used with '--chunk-bytes <N>'"
             }
         }
     }

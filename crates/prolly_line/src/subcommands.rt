@@ -4,7 +4,8 @@ ghost use Rattle.clap.specs.Words.{App, Rule, with_rule};
 ghost use Rattle.prolly_line.specs.Line.{apply_line, build_line, check_line, diff_line, dump_line};
 ghost use Rattle.prolly_line.specs.Line.{explain_line, get_line, look_up_line, nth_line, pack_line};
 ghost use Rattle.prolly_line.specs.Line.{prove_line, root_line, scan_line, scratch_line, stat_line};
-ghost use Rattle.prolly_line.specs.Line.{verify_line, with_mode, with_range, with_roots, with_trust};
+ghost use Rattle.prolly_line.specs.Line.{verify_line, with_mode, with_range, with_roots, with_sort};
+ghost use Rattle.prolly_line.specs.Line.{with_trust};
 ghost use Rattle.prolly_line.specs.LocalArgs.{HasCommandLine, IsReadBy};
 
 use crate::assembly::{described, described_as, with_argument};
@@ -22,6 +23,10 @@ const MADE_CHUNK_FILE: &str = "The chunk file to make";
 // What OUT says of a dump.
 const DUMPED_FILE: &str = "The file to make; without it, it is written to standard output";
 
+// How `explain` is used.
+const EXPLAIN_USAGE: &str = "prolly explain [OPTIONS] <FILE>
+       prolly explain [OPTIONS] --lines";
+
 // How `get` is used.
 const GET_USAGE: &str = "prolly get [OPTIONS] <FILE> <KEY>
        prolly get [OPTIONS] --keys <FILE> <FILE>";
@@ -35,6 +40,21 @@ const PROVE_USAGE: &str = "prolly prove [OPTIONS] <FILE> <KEY> <OUT>
 const VERIFY_USAGE: &str = "prolly verify [OPTIONS] <ROOT> <KEY> [PROOF]
        prolly verify [OPTIONS] --from <KEY> [--to <KEY>] <ROOT> [PROOF]
        prolly verify [OPTIONS] --keys <FILE> <ROOT> [PROOF]";
+
+// What `[KEY]` says where many keys may stand in its place.
+const KEY_OR_KEYS: &str = "The key in hexadecimal, two digits a byte, or with --text as text; at \
+                           most 1,024 bytes. With --keys it is left out";
+
+// What `[KEY]` says where a range, or many keys, may stand in its place.
+const KEY_OR_SET: &str = "The key in hexadecimal, two digits a byte, or with --text as text; at \
+                          most 1,024 bytes. With --from, or with --keys, it is left out";
+
+// What `--bits` says where a tree is made.
+const CUT: &str = "Cut by Q bits of a hash: about one entry in 2^Q ends a chunk (0 to 24) \
+                   [default: 12]";
+
+// What `--quiet` says where a tree is made.
+const NO_PROGRESS: &str = "Show no progress on standard error";
 
 // What `--text` says of a dump.
 const DUMPED_TEXT: &str = "Write lines KEY, tab, VALUE of text in place of a record file";
@@ -66,6 +86,19 @@ fn with_mode<'a>(
     let line = with_argument(line, arguments::atomic_flag(alloc, atomic));
     let line = with_argument(line, arguments::sync_flag(alloc));
     with_argument(line, arguments::force_flag(alloc))
+}
+
+// Adds the options that let lines come in any order.
+fn with_sort<'a>(
+    alloc: Global,
+    line: Result<Command<'a>, AllocError>,
+) -> Result<Command<'a>, AllocError>
+    ensures { (app : App) → IfOk line.entry (HasCommandLine app)
+        → IfOk result (HasCommandLine (with_sort app)) }
+{
+    let line = with_argument(line, arguments::sort_flag(alloc));
+    let line = with_argument(line, arguments::unique_flag(alloc));
+    with_argument(line, arguments::memory_option(alloc))
 }
 
 // Adds the options that name the root that is trusted, and the version of its tree's chunks.
@@ -143,7 +176,7 @@ fn look_up_line<'a>(
     with_argument(line, sought)
 }
 
-/// `pack [--text] [--removals] [--atomic] [--sync] [--force] OUT`
+/// `pack [--text] [--removals] [--sort] [--unique] [--memory MB] [--atomic] [--sync] [--force] OUT`
 pub(crate) fn pack_line<'a>(alloc: Global) -> Result<Command<'a>, AllocError>
     ensures { IfOk result (HasCommandLine pack_line) }
 {
@@ -151,35 +184,43 @@ pub(crate) fn pack_line<'a>(alloc: Global) -> Result<Command<'a>, AllocError>
         alloc,
         "Read lines KEY, tab, VALUE of text in place of hexadecimal",
     );
+    let removals = arguments::removals_flag(
+        alloc,
+        "With --text, take a line that is a key alone for its removal",
+    );
     let line = described(alloc, "pack", help::PACK).arg(text);
-    let line = with_argument(line, arguments::removals_flag(alloc));
-    let line = with_mode(alloc, line, ALWAYS_ASIDE);
+    let line = with_argument(line, removals);
+    let line = with_mode(alloc, with_sort(alloc, line), ALWAYS_ASIDE);
     with_argument(line, arguments::out_word(alloc, "The record file to make"))
 }
 
-/// `scratch [--bits Q] [--format V] [--out FILE] [--atomic] [--sync] [--force]`
+/// `scratch [--bits Q] [--chunk-bytes N] [--format V] [--out FILE] [--atomic] [--sync] [--force]`
 pub(crate) fn scratch_line<'a>(alloc: Global) -> Result<Command<'a>, AllocError>
     ensures { IfOk result (HasCommandLine scratch_line) }
 {
-    let line = described(alloc, "scratch", help::SCRATCH).arg(arguments::bits_option(alloc));
+    let bits = arguments::bits_option(alloc, CUT);
+    let line = described(alloc, "scratch", help::SCRATCH).arg(bits);
+    let line = with_argument(line, arguments::chunk_bytes_option(alloc));
     let line = with_argument(line, arguments::format_option(alloc, WRITTEN_FORMAT));
     let out = arguments::out_option(alloc, "Write the tree to FILE, a chunk file");
     let line = with_argument(line, out);
     with_mode(alloc, line, ASIDE)
 }
 
-/// `build [--bits Q] [--stages S] [--capacity C] [--max-records M] [--batch B] [--format V]
-/// [--quiet] [--atomic] [--sync] [--force] OUT [FILES...]`
+/// `build [--bits Q] [--chunk-bytes N] [--stages S] [--capacity C] [--max-records M] [--batch B]
+/// [--format V] [--quiet] [--atomic] [--sync] [--force] OUT [FILES...]`
 pub(crate) fn build_line<'a>(alloc: Global) -> Result<Command<'a>, AllocError>
     ensures { IfOk result (HasCommandLine build_line) }
 {
-    let line = described(alloc, "build", help::BUILD).arg(arguments::bits_option(alloc));
+    let bits = arguments::bits_option(alloc, CUT);
+    let line = described(alloc, "build", help::BUILD).arg(bits);
+    let line = with_argument(line, arguments::chunk_bytes_option(alloc));
     let line = with_argument(line, arguments::stages_option(alloc));
     let line = with_argument(line, arguments::capacity_option(alloc));
     let line = with_argument(line, arguments::max_records_option(alloc));
     let line = with_argument(line, arguments::batch_option(alloc));
     let line = with_argument(line, arguments::format_option(alloc, WRITTEN_FORMAT));
-    let line = with_argument(line, arguments::quiet_flag(alloc));
+    let line = with_argument(line, arguments::quiet_flag(alloc, NO_PROGRESS));
     let line = with_mode(alloc, line, ASIDE);
     let line = with_argument(line, arguments::out_word(alloc, MADE_CHUNK_FILE));
     with_argument(line, arguments::files_words(alloc))
@@ -191,30 +232,42 @@ pub(crate) fn apply_line<'a>(alloc: Global) -> Result<Command<'a>, AllocError>
     ensures { IfOk result (HasCommandLine apply_line) }
 {
     let old = arguments::tree_word(alloc, "old", "OLD", "The chunk file of ROOT's tree");
-    let line = described(alloc, "apply", help::APPLY).arg(arguments::old_bits_option(alloc));
+    let bits = arguments::bits_option(alloc, "Refuse OLD unless its header says Q (0 to 24)");
+    let line = described(alloc, "apply", help::APPLY).arg(bits);
     let line = with_argument(line, arguments::old_format_option(alloc));
     let line = with_argument(line, arguments::required_root_option(alloc));
-    let line = with_argument(line, arguments::quiet_flag(alloc));
+    let line = with_argument(line, arguments::quiet_flag(alloc, NO_PROGRESS));
     let line = with_argument(with_mode(alloc, line, ASIDE), old);
     let line = with_argument(line, arguments::out_word(alloc, MADE_CHUNK_FILE));
     with_argument(line, arguments::changes_words(alloc))
 }
 
-/// `explain [--text] FILE`
+/// `explain [--text] [--lines] [--removals] [--all] [FILE]`
 pub(crate) fn explain_line<'a>(alloc: Global) -> Result<Command<'a>, AllocError>
     ensures { IfOk result (HasCommandLine explain_line) }
 {
-    let text = arguments::text_flag(alloc, SHOWN_KEYS);
-    let line = described(alloc, "explain", help::EXPLAIN).arg(text);
-    with_argument(line, arguments::file_word(alloc, "The record file"))
+    let text = arguments::text_flag(
+        alloc,
+        "Print keys as text in place of hexadecimal; with --lines, take lines of text",
+    );
+    let removals = arguments::removals_flag(
+        alloc,
+        "With --lines and --text, take a line that is a key alone for its removal",
+    );
+    let line = described_as(alloc, "explain", EXPLAIN_USAGE, help::EXPLAIN).arg(text);
+    let line = with_argument(line, arguments::lines_flag(alloc));
+    let line = with_argument(line, removals);
+    let line = with_argument(line, arguments::all_flag(alloc));
+    with_argument(line, arguments::optional_file_word(alloc))
 }
 
-/// `check [--root ROOT] [--format V] FILE`
+/// `check [--root ROOT] [--format V] [--quiet] FILE...`
 pub(crate) fn check_line<'a>(alloc: Global) -> Result<Command<'a>, AllocError>
     ensures { IfOk result (HasCommandLine check_line) }
 {
-    let file = arguments::file_word(alloc, CHUNK_FILE);
-    with_trust(alloc, described(alloc, "check", help::CHECK).arg(file))
+    let quiet = arguments::quiet_flag(alloc, "Print nothing of a file that is lawful");
+    let line = described(alloc, "check", help::CHECK).arg(arguments::file_words(alloc));
+    with_argument(with_trust(alloc, line), quiet)
 }
 
 /// `root FILE`
@@ -272,16 +325,16 @@ pub(crate) fn diff_line<'a>(alloc: Global) -> Result<Command<'a>, AllocError>
     with_argument(with_argument(line, old), new)
 }
 
-/// `get [--text] [--root ROOT] [--format V] [--keys FILE] FILE [KEY]`
+/// `get [--text] [--raw] [--root ROOT] [--format V] [--keys FILE] FILE [KEY]`
 pub(crate) fn get_line<'a>(alloc: Global) -> Result<Command<'a>, AllocError>
     ensures { IfOk result (HasCommandLine get_line) }
 {
     let text = arguments::text_flag(alloc, KEYS_AND_VALUES);
     let line = described_as(alloc, "get", GET_USAGE, help::GET).arg(text);
-    let line = with_trust(alloc, line);
+    let line = with_trust(alloc, with_argument(line, arguments::raw_flag(alloc)));
     let line = with_argument(line, arguments::keys_option(alloc));
     let line = with_argument(line, arguments::file_word(alloc, CHUNK_FILE));
-    with_argument(line, arguments::optional_key_word(alloc))
+    with_argument(line, arguments::optional_key_word(alloc, KEY_OR_KEYS))
 }
 
 /// `scan [--text] [--root ROOT] [--format V] FILE KEY LIMIT`
@@ -314,7 +367,7 @@ pub(crate) fn prove_line<'a>(alloc: Global) -> Result<Command<'a>, AllocError>
     let line = with_range(alloc, with_trust(alloc, line));
     let line = with_mode(alloc, line, ALWAYS_ASIDE);
     let line = with_argument(line, arguments::file_word(alloc, CHUNK_FILE));
-    let line = with_argument(line, arguments::optional_key_word(alloc));
+    let line = with_argument(line, arguments::optional_key_word(alloc, KEY_OR_SET));
     with_argument(
         line,
         arguments::optional_out_word(alloc, "The proof to make"),
@@ -339,6 +392,6 @@ pub(crate) fn verify_line<'a>(alloc: Global) -> Result<Command<'a>, AllocError>
     let line = with_argument(line, format);
     let line = with_range(alloc, line);
     let line = with_argument(line, arguments::root_word(alloc));
-    let line = with_argument(line, arguments::optional_key_word(alloc));
+    let line = with_argument(line, arguments::optional_key_word(alloc, KEY_OR_SET));
     with_argument(line, arguments::proof_word(alloc))
 }

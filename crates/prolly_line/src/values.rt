@@ -1,8 +1,9 @@
 //! The values of one option or word, from what clap found.
-ghost use Rattle.std.specs.Prelude.{◌≡◌, ◌⊎◌, Some, None, IfOk, IfErr, ℕ, List, map, string_bytes};
-ghost use Rattle.std.specs.Prelude.{option_map, codes, true, false};
-ghost use Rattle.clap.specs.Words.{first_of};
-ghost use Rattle.prolly_line.specs.GivenCommand.{GivesFlag, GivesKeyAs, GivesMode, GivesOption};
+ghost use Rattle.std.specs.Prelude.{◌≡◌, ◌≤◌, ◌⊎◌, ◌∷◌, [], Some, None, IfOk, IfErr, ℕ, List, map};
+ghost use Rattle.std.specs.Prelude.{string_bytes, option_map, codes, true, false, length, unwrap_or};
+ghost use Rattle.clap.specs.Words.{Text, all_of, first_of};
+ghost use Rattle.prolly_line.specs.GivenCommand.{GivesBits, GivesFlag, GivesKeyAs, GivesMode};
+ghost use Rattle.prolly_line.specs.GivenCommand.{GivesNumberOr, GivesOption, MayGiveChunkBytes};
 ghost use Rattle.prolly_line.specs.GivenCommand.{GivesSought, GivesWord, HasNone, MayGiveKeyAs};
 ghost use Rattle.prolly_line.specs.GivenCommand.{place_of_last};
 ghost use Rattle.prolly_line.specs.GivenCommand.{GivesBadRoot, GivesBadRootAs, GivesRootAs};
@@ -10,7 +11,7 @@ ghost use Rattle.prolly_line.specs.GivenCommand.{GivesTrust, GivesWords, MayGive
 ghost use Rattle.prolly_line.specs.GivenCommand.{GivesLines, GivesNotation, IsKeyText, bad_key};
 ghost use Rattle.prolly_line.specs.AcceptedWords.{HasNumber, HasWord, IsRefusedKey, ReadsNumber};
 ghost use Rattle.prolly_line.specs.AcceptedWords.{AreRefusedRoots, IsRefusedRange, IsRefusedSought};
-ghost use Rattle.prolly_line.specs.AcceptedWords.{MayReadNumber, rows_in};
+ghost use Rattle.prolly_line.specs.AcceptedWords.{MayHaveNumber, MayReadNumber, rows_in};
 ghost use Rattle.prolly_line.specs.declared.command.ParseFault.TheVariants.{BadRoot, Memory};
 
 use crate::command::{ParseFault, RootPair, Sought, WriteMode};
@@ -35,6 +36,37 @@ pub(crate) fn optional_byte_of(given: &ArgMatches<'_>, name: &str) -> Option<u8>
     ensures { MayReadNumber 255 name.now (rows_in given.now) result }
 {
     given.get_one::<u8>(name)
+}
+
+/// The bits by which a tree is cut, by default 12.
+pub(crate) fn bits_of(given: &ArgMatches<'_>) -> u8
+    requires { MayHaveNumber (codes "bits") 0 24 (rows_in given.now) }
+    ensures { GivesBits (rows_in given.now) result }
+{
+    optional_byte_of(given, "bits").unwrap_or(12)
+}
+
+/// A number of 32 bits that may be missing.
+pub(crate) fn optional_number_of(given: &ArgMatches<'_>, name: &str) -> Option<u32>
+    ensures { MayReadNumber 4294967295 name.now (rows_in given.now) result }
+{
+    given.get_one::<u32>(name)
+}
+
+/// The bytes that a chunk is to have, where the words say so.
+pub(crate) fn chunk_bytes_of(given: &ArgMatches<'_>) -> Option<u32>
+    requires { MayHaveNumber (codes "chunk-bytes") 1 1073741824 (rows_in given.now) }
+    ensures { MayGiveChunkBytes (rows_in given.now) result }
+{
+    optional_number_of(given, "chunk-bytes")
+}
+
+/// The megabytes of memory that are used, by default 256.
+pub(crate) fn memory_of(given: &ArgMatches<'_>) -> u32
+    requires { MayHaveNumber (codes "memory") 16 4000 (rows_in given.now) }
+    ensures { GivesNumberOr (rows_in given.now) (codes "memory") 16 4000 256 result }
+{
+    optional_number_of(given, "memory").unwrap_or(256)
 }
 
 /// A number of 32 bits.
@@ -120,6 +152,18 @@ pub(crate) fn lines_of(given: &ArgMatches<'_>) -> Option<Notation>
         Notation::Text => Some(Notation::Text),
         Notation::Hex if flag_of(given, "hex") => Some(Notation::Hex),
         Notation::Hex => None,
+    }
+}
+
+/// Whether several words stand under a name.
+pub(crate) fn has_several(given: &ArgMatches<'_>, name: &str) -> bool
+    ensures yes { result ≡ true → 2 ≤ length (unwrap_or (all_of name.now (rows_in given.now)) []) }
+    ensures no { result ≡ false → (word : Text) → first_of name.now (rows_in given.now) ≡ Some word
+        → unwrap_or (all_of name.now (rows_in given.now)) [] ≡ word ∷ [] }
+{
+    match given.get_strs(name) {
+        None => false,
+        Some(words) => words.len() > 1,
     }
 }
 

@@ -1,4 +1,4 @@
-use Rattle.std.proofs.Common.{arith, codes, refl}
+use Rattle.std.proofs.Common.{arith, refl}
 use Rattle.prolly_line.proofs.Shapes.{takes_apply}
 use Rattle.prolly_line.specs.AcceptedWords.{rows_in}
 use Rattle.prolly_line.proofs.fields.apply.Goals as goal

@@ -6,8 +6,8 @@ use Rattle.prolly_line.proofs.subcommands.apply_line.Goals as goal
 pub returns : goal.returns
 returns c =
     let with_bits = IfOk-weaker c.arg-line.result _ _
-    (λ x adds. added c.described.result x c.old_bits_option.result _ _ c.described.ensures
-    c.old_bits_option.ensures adds) c.arg-line.ensures in
+    (λ x adds. added c.described.result x c.bits_option-bits.result _ _ c.described.ensures
+    c.bits_option-bits.ensures adds) c.arg-line.ensures in
     let with_format = c.with_argument-line.ensures _ _ with_bits c.old_format_option.ensures in
     let with_root = c.with_argument-line-2.ensures _ _ with_format c.required_root_option.ensures in
     let with_quiet = c.with_argument-line-3.ensures _ _ with_root c.quiet_flag.ensures in

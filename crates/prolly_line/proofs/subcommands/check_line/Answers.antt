@@ -5,7 +5,8 @@ use Rattle.prolly_line.proofs.subcommands.check_line.Goals as goal
 
 pub returns : goal.returns
 returns c =
-    let with_file = IfOk-weaker c.arg.result _ _
-    (λ x adds. added c.described.result x c.file_word-file.result _ _ c.described.ensures
-    c.file_word-file.ensures adds) c.arg.ensures in
-    c.with_trust.ensures _ with_file
+    let with_files = IfOk-weaker c.arg-line.result _ _
+    (λ x adds. added c.described.result x c.file_words.result _ _ c.described.ensures
+    c.file_words.ensures adds) c.arg-line.ensures in
+    let with_trust = c.with_trust.ensures _ with_files in
+    c.with_argument.ensures _ _ with_trust c.quiet_flag-quiet.ensures

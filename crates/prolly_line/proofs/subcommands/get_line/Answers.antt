@@ -8,7 +8,8 @@ returns c =
     let with_text = IfOk-weaker c.arg-line.result _ _
     (λ x adds. added c.described_as.result x c.text_flag-text.result _ _ c.described_as.ensures
     c.text_flag-text.ensures adds) c.arg-line.ensures in
-    let with_trust = c.with_trust-line.ensures _ with_text in
+    let with_raw = c.with_argument.ensures _ _ with_text c.raw_flag.ensures in
+    let with_trust = c.with_trust-line.ensures _ with_raw in
     let with_keys = c.with_argument-line.ensures _ _ with_trust c.keys_option.ensures in
     let with_file = c.with_argument-line-2.ensures _ _ with_keys c.file_word.ensures in
-    c.with_argument.ensures _ _ with_file c.optional_key_word.ensures
+    c.with_argument-2.ensures _ _ with_file c.optional_key_word.ensures
