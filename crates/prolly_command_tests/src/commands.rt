@@ -12,37 +12,52 @@ use std::test::Fail;
 const COMMANDS: &str = "\
     pack a.rec => pack (\"a.rec\", Hex, false, WriteMode { atomic: false, sync: false, \
      force: false })\n\
+    pack --sort a.rec => pack sorted (\"a.rec\", Hex, false, false, 256, WriteMode { atomic: \
+     false, sync: false, force: false })\n\
+    pack --memory 16 --text a.rec --unique --sync --removals --sort => pack sorted (\"a.rec\", \
+     Text, true, true, 16, WriteMode { atomic: false, sync: true, force: false })\n\
+    pack --sort --memory 4000 a.rec => pack sorted (\"a.rec\", Hex, false, false, 4000, \
+     WriteMode { atomic: false, sync: false, force: false })\n\
     pack --sync a.rec --atomic => pack (\"a.rec\", Hex, false, WriteMode { atomic: true, \
      sync: true, force: false })\n\
-    scratch => scratch (12, 1, None, WriteMode { atomic: false, sync: false, force: \
+    scratch => scratch (12, None, 1, None, WriteMode { atomic: false, sync: false, force: \
      false })\n\
-    scratch --sync --out a.prl => scratch (12, 1, Some(\"a.prl\"), WriteMode { atomic: \
-     false, sync: true, force: false })\n\
+    scratch --sync --out a.prl => scratch (12, None, 1, Some(\"a.prl\"), WriteMode { \
+     atomic: false, sync: true, force: false })\n\
     check a.prl => check (\"a.prl\", None, 1)\n\
     check --root 00000000000000000000000000000000 --format 2 a.prl => check (\"a.prl\", \
      Some(Ref([0, 0, 0, 0, 0, 0, 0, 0, 0, 0, 0, 0, 0, 0, 0, 0, 0, 0, 0, 0])), 2)\n\
+    check --quiet a.prl => check files ([\"a.prl\"], None, 1, true)\n\
+    check a.prl b.prl --format 2 => check files ([\"a.prl\", \"b.prl\"], None, 2, false)\n\
+    check a.prl --root 00000000000000000000000000000000 a.prl --quiet b.prl => check files \
+     ([\"a.prl\", \"a.prl\", \"b.prl\"], Some(Ref([0, 0, 0, 0, 0, 0, 0, 0, 0, 0, 0, 0, 0, 0, 0, \
+     0, 0, 0, 0, 0])), 1, true)\n\
     root a.prl => root \"a.prl\"\n\
-    get a.prl 61fF => get (\"a.prl\", [97, 255], None, 1, Hex)\n\
+    get a.prl 61fF => get (\"a.prl\", [97, 255], None, 1, Hex, false)\n\
+    get a.prl --raw 61 => get (\"a.prl\", [97], None, 1, Hex, true)\n\
+    get --raw a.prl --text --format 2 a --root 00000000000000000000000000000000 => get \
+     (\"a.prl\", [97], Some(Ref([0, 0, 0, 0, 0, 0, 0, 0, 0, 0, 0, 0, 0, 0, 0, 0, 0, 0, 0, 0])), \
+     2, Text, true)\n\
     get --root 00000000000000000000000000000000 a.prl 61 => get (\"a.prl\", [97], \
-     Some(Ref([0, 0, 0, 0, 0, 0, 0, 0, 0, 0, 0, 0, 0, 0, 0, 0, 0, 0, 0, 0])), 1, Hex)\n\
+     Some(Ref([0, 0, 0, 0, 0, 0, 0, 0, 0, 0, 0, 0, 0, 0, 0, 0, 0, 0, 0, 0])), 1, Hex, false)\n\
     get a.prl --format 2 61 --root vvvvvvvvvvvvvvvvvvvvvvvvvvvvvvvv => get (\"a.prl\", \
      [97], Some(Ref([255, 255, 255, 255, 255, 255, 255, 255, 255, 255, 255, 255, 255, \
-     255, 255, 255, 255, 255, 255, 255])), 2, Hex)\n\
-    get --format 2 a.prl 61 => get (\"a.prl\", [97], None, 2, Hex)\n\
-    build --atomic out.prl => build ((12, 12, 64, 16777216, 16, 1), (\"out.prl\", [], \
+     255, 255, 255, 255, 255, 255, 255])), 2, Hex, false)\n\
+    get --format 2 a.prl 61 => get (\"a.prl\", [97], None, 2, Hex, false)\n\
+    build --atomic out.prl => build ((12, None), (12, 64, 16777216, 16, 1), (\"out.prl\", [], \
      false, WriteMode { atomic: true, sync: false, force: false }))\n\
-    scratch --bits 24 --format 2 --out a.prl => scratch (24, 2, Some(\"a.prl\"), \
+    scratch --bits 24 --format 2 --out a.prl => scratch (24, None, 2, Some(\"a.prl\"), \
      WriteMode { atomic: false, sync: false, force: false })\n\
-    build out.prl x.rec y.rec => build ((12, 12, 64, 16777216, 16, 1), (\"out.prl\", \
+    build out.prl x.rec y.rec => build ((12, None), (12, 64, 16777216, 16, 1), (\"out.prl\", \
      [\"x.rec\", \"y.rec\"], false, WriteMode { atomic: false, sync: false, force: false \
      }))\n\
     build --bits 1 --stages 2 --capacity 3 --max-records 4 --batch 5 --format 2 out.prl \
-     => build ((1, 2, 3, 4, 5, 2), (\"out.prl\", [], false, WriteMode { atomic: false, \
+     => build ((1, None), (2, 3, 4, 5, 2), (\"out.prl\", [], false, WriteMode { atomic: false, \
      sync: false, force: false }))\n\
-    build --max-records 2 out.prl x.rec y.rec => build ((12, 12, 64, 2, 16, 1), \
+    build --max-records 2 out.prl x.rec y.rec => build ((12, None), (12, 64, 2, 16, 1), \
      (\"out.prl\", [\"x.rec\", \"y.rec\"], false, WriteMode { atomic: false, sync: \
      false, force: false }))\n\
-    build --quiet out.prl => build ((12, 12, 64, 16777216, 16, 1), (\"out.prl\", [], \
+    build --quiet out.prl => build ((12, None), (12, 64, 16777216, 16, 1), (\"out.prl\", [], \
      true, WriteMode { atomic: false, sync: false, force: false }))\n\
     apply --root 00000000000000000000000000000000 a.prl b.prl => apply ((Ref([0, 0, 0, 0, \
      0, 0, 0, 0, 0, 0, 0, 0, 0, 0, 0, 0, 0, 0, 0, 0]), None, None), (\"a.prl\", \
@@ -53,6 +68,10 @@ const COMMANDS: &str = "\
      Some(0), Some(2)), (\"a.prl\", \"b.prl\", [\"x.rec\", \"y.rec\"]), (true, \
      WriteMode { atomic: false, sync: true, force: false }))\n\
     explain a.rec => explain (\"a.rec\", Hex)\n\
+    explain --text a.rec => explain (\"a.rec\", Text)\n\
+    explain --lines => explain lines (Hex, false, false)\n\
+    explain --text --lines --removals => explain lines (Text, true, false)\n\
+    explain --all --lines => explain lines (Hex, false, true)\n\
     stat --json --text a.prl => stat (\"a.prl\", true, Text)\n\
     scan a.prl 00 1000000 => scan (\"a.prl\", [0], 1000000, None, 1, Hex)\n\
     scan --format 2 --root 00000000000000000000000000000000 a.prl 00 1 => scan \
@@ -80,7 +99,7 @@ const COMMANDS: &str = "\
      255, 255, 255]), Key([0]), 2, Some(\"a.prf\"), Hex)\n\
     pack --removals --text a.rec => pack (\"a.rec\", Text, true, WriteMode { atomic: \
      false, sync: false, force: false })\n\
-    get --text a.prl a\\x6cl => get (\"a.prl\", [97, 108, 108], None, 1, Text)\n\
+    get --text a.prl a\\x6cl => get (\"a.prl\", [97, 108, 108], None, 1, Text, false)\n\
     nth a.prl 3 --text => nth (\"a.prl\", 3, None, 1, Text)\n\
     dump --hex a.prl => dump (\"a.prl\", None, 1, None, Some(Hex), WriteMode { atomic: \
      false, sync: false, force: false })\n\
@@ -92,9 +111,14 @@ const COMMANDS: &str = "\
      atomic: false, sync: false, force: false })\n\
     pack --force a.rec => pack (\"a.rec\", Hex, false, WriteMode { atomic: false, sync: \
      false, force: true })\n\
-    scratch --out a.prl --force => scratch (12, 1, Some(\"a.prl\"), WriteMode { atomic: \
-     false, sync: false, force: true })\n\
-    build --force --sync a.prl b.rec => build ((12, 12, 64, 16777216, 16, 1), \
+    scratch --out a.prl --force => scratch (12, None, 1, Some(\"a.prl\"), WriteMode { \
+     atomic: false, sync: false, force: true })\n\
+    scratch --chunk-bytes 1 => scratch (12, Some(1), 1, None, WriteMode { atomic: false, sync: \
+     false, force: false })\n\
+    build a.prl --chunk-bytes 1073741824 b.rec => build ((12, Some(1073741824)), (12, 64, \
+     16777216, 16, 1), (\"a.prl\", [\"b.rec\"], false, WriteMode { atomic: false, sync: false, \
+     force: false }))\n\
+    build --force --sync a.prl b.rec => build ((12, None), (12, 64, 16777216, 16, 1), \
      (\"a.prl\", [\"b.rec\"], false, WriteMode { atomic: false, sync: true, force: true \
      }))\n\
     dump a.prl --force --hex a.txt => dump (\"a.prl\", None, 1, Some(\"a.txt\"), \
@@ -155,14 +179,28 @@ pub(crate) fn fields_of(alloc: Global, command: &Command) -> Result<String, Allo
             removals,
             mode,
         } => told(alloc, "pack", &(out, notation, removals, mode)),
+        Command::PackSorted {
+            out,
+            notation,
+            removals,
+            unique,
+            memory,
+            mode,
+        } => told(
+            alloc,
+            "pack sorted",
+            &(out, notation, removals, unique, memory, mode),
+        ),
         Command::Scratch {
             bits,
+            chunk_bytes,
             version,
             out,
             mode,
-        } => told(alloc, "scratch", &(bits, version, out, mode)),
+        } => told(alloc, "scratch", &(bits, chunk_bytes, version, out, mode)),
         Command::Build {
             bits,
+            chunk_bytes,
             stages,
             capacity,
             max_records,
@@ -176,7 +214,8 @@ pub(crate) fn fields_of(alloc: Global, command: &Command) -> Result<String, Allo
             alloc,
             "build",
             &(
-                (bits, stages, capacity, max_records, batch, version),
+                (bits, chunk_bytes),
+                (stages, capacity, max_records, batch, version),
                 (out, files, quiet, mode),
             ),
         ),
@@ -202,11 +241,22 @@ fn reader(alloc: Global, command: &Command) -> Result<String, AllocError> {
             &((root, bits, version), (old, out, changes), (quiet, mode)),
         ),
         Command::Explain { file, notation } => told(alloc, "explain", &(file, notation)),
+        Command::ExplainLines {
+            notation,
+            removals,
+            all,
+        } => told(alloc, "explain lines", &(notation, removals, all)),
         Command::Check {
             file,
             root,
             version,
         } => told(alloc, "check", &(file, root, version)),
+        Command::CheckFiles {
+            files,
+            root,
+            version,
+            quiet,
+        } => told(alloc, "check files", &(files, root, version, quiet)),
         Command::Root { file } => told(alloc, "root", file),
         Command::Stat {
             file,
@@ -219,7 +269,8 @@ fn reader(alloc: Global, command: &Command) -> Result<String, AllocError> {
             root,
             version,
             notation,
-        } => told(alloc, "get", &(file, key, root, version, notation)),
+            raw,
+        } => told(alloc, "get", &(file, key, root, version, notation, raw)),
         Command::GetKeys {
             file,
             keys,

@@ -7,13 +7,14 @@ use crate::command_line::outcome;
 use crate::expect::{expect_bytes, expect_eq};
 use crate::tools::expect_answer;
 use crate::tools::look_up_answers::file_of_three;
+use crate::tools::run_files::RunFiles;
 use prolly_check::OneThread;
 use prolly_entry::{Ref, Version};
 use prolly_file::{FromRead, ScriptSink};
 use prolly_tool::{
     Answer, LineForm, LinesFault, Notation, PackFault, RecordForm, answer_check, answer_dump,
-    answer_get, answer_nth, answer_pack, answer_prove, answer_scan, answer_scratch, answer_verify,
-    pack_lines_in,
+    answer_get, answer_nth, answer_pack, answer_pack_sorted, answer_prove, answer_scan,
+    answer_scratch, answer_verify, pack_lines_in,
 };
 use std::alloc::{AllocError, Global};
 use std::process::Abort;
@@ -118,6 +119,28 @@ fn records_are_packed_or_want_memory(rt: HostRuntime) {
     let mut sink = ScriptSink::new(alloc, 4_096, None);
     let answer = answer_pack(alloc, &mut FromRead::new(b"61 31\n".as_slice()), &mut sink);
     expect_written(&rt, answer, b"1\n", sink.taken(), RECORD);
+}
+
+#[test]
+fn lines_are_put_in_order_or_want_memory(rt: HostRuntime) {
+    let alloc = rt.alloc();
+    let mut files = RunFiles::new(alloc);
+    let mut source = FromRead::new(b"62 32\n61 31\n".as_slice());
+    let form = LineForm::hex();
+    let done = answer_pack_sorted(&rt, alloc, &mut source, &mut files, form, 1_000_000, true);
+    let Ok(done) = done else {
+        return;
+    };
+    match &done.file {
+        Some(file) => {
+            expect_answer(&rt, &done.answer, 0, b"2\n", b"");
+            expect_bytes(&rt, file.taken(), b"\0\x01a\0\0\0\x011\0\x01b\0\0\0\x012");
+        }
+        None if done.answer.status == 5 => {
+            expect_answer(&rt, &done.answer, 5, b"", b"prolly: write failed\n");
+        }
+        None => expect_answer(&rt, &done.answer, 6, b"", NO_MEMORY),
+    }
 }
 
 /// The chunk file of a=1, of 0 bits, and the text of its root.

@@ -6,13 +6,18 @@ use std::process::Abort;
 mod build_answers;
 mod diff_answers;
 mod dump_answers;
+mod explained_lines;
 mod key_answers;
+mod line_reading;
 pub(crate) mod look_up_answers;
 mod name_answers;
 mod pack_answers;
 mod packing;
 mod proof_answers;
+mod raw_answers;
+pub(crate) mod run_files;
 mod scratch_answers;
+mod sorted_pack_answers;
 
 /// Fails unless an answer has this status, and shows this on standard output and on standard error.
 pub(crate) fn expect_answer(rt: &impl Abort, answer: &Answer, status: u8, out: &[u8], err: &[u8]) {

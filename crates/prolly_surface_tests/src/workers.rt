@@ -2,14 +2,14 @@
 ghost use Rattle.std.specs.Prelude.{◌≤◌, vec_len};
 
 use prolly_entry::{Cut, Pair, Record, Ref, Version};
-use prolly_file::Source;
-use prolly_link::{In, Out};
-use prolly_load::{Loaded, load};
+use prolly_file::{Sink, Source};
+use prolly_link::{End, In, Next, Out};
+use prolly_load::{Loaded, RecordReader, RecordWriter, WrittenRecords, load};
 use prolly_merge::{Merged, MergedTwo, merge, merge_two};
 use prolly_stage::{
     ChunkEvent, Gate, Gated, OpenGate, Staged, Worker, inner_stage, inner_stage_as, leaf_stage,
 };
-use std::alloc::Global;
+use std::alloc::{AllocError, Global};
 use std::sync::Wait;
 use std::test::Fail;
 
@@ -21,6 +21,33 @@ fn loaded<S: Source, O: Out<Record>, R: Wait>(
 ) -> Loaded<S, O> {
     let Loaded { source, out } = load(rt, alloc, 0, source, 1000, out);
     Loaded { source, out }
+}
+
+fn read<S: Source + Drop, R: Wait>(
+    rt: &R,
+    alloc: Global,
+    source: S,
+) -> Result<(Next<Record>, S), AllocError> {
+    let mut reader = RecordReader::new(alloc, 0, source, 1000)?;
+    let next = reader.recv(rt);
+    Ok((next, reader.into_source()))
+}
+
+fn written<W: Sink + Drop, R: Wait>(
+    rt: &R,
+    alloc: Global,
+    sink: W,
+    record: Record,
+) -> (bool, u64, End, W) {
+    let mut writer = RecordWriter::new(alloc, sink);
+    drop(writer.send(rt, record));
+    let written: WrittenRecords<W> = writer.close(rt, End::Clean);
+    (
+        written.has_failed(),
+        written.count(),
+        written.end(),
+        written.into_sink(),
+    )
 }
 
 fn merged<I: In<Record>, O: Out<Pair>, R: Wait>(

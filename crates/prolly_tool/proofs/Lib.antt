@@ -36,3 +36,9 @@ pub mod ShownLines
 pub mod SetSteps
 -- The pairs of a range are those that a scan has there.
 pub mod Ranges
+-- Lines whose records are put in order, one after another.
+mod Sorting
+-- The size of a chunk, doubled bit by bit.
+mod ChunkSizes
+-- Counting the entries that the first records of a file put.
+mod Sampling

@@ -512,6 +512,10 @@ module _ {W : Type 0} (seen : W → SinkView) (version : Version) (old new : Lis
     stopped_told faults.WrongBits told other d t = absurd d
     stopped_told faults.OtherHeader told other d t = absurd d
     stopped_told faults.NoCounts told other d t = absurd d
+    stopped_told (faults.LineTooLong line) told other d t = absurd d
+    stopped_told faults.TooManyLines told other d t = absurd d
+    stopped_told (faults.DoubledKey first second) told other d t = absurd d
+    stopped_told (faults.Store fault) told other d t = absurd d
     stopped_told faults.InputTooLong told other d t = absurd d
     stopped_told faults.BadKey told other d t = absurd d
     stopped_told faults.BadTextKey told other d t = absurd d

@@ -413,6 +413,10 @@ stop_cases d v r l n took until (faults.RootNew f) lists goal a b t = absurd t
 stop_cases d v r l n took until faults.WrongBits lists goal a b t = absurd t
 stop_cases d v r l n took until faults.OtherHeader lists goal a b t = absurd t
 stop_cases d v r l n took until faults.NoCounts lists goal a b t = absurd t
+stop_cases d v r l n took until (faults.LineTooLong line) lists goal a b t = absurd t
+stop_cases d v r l n took until faults.TooManyLines lists goal a b t = absurd t
+stop_cases d v r l n took until (faults.DoubledKey first second) lists goal a b t = absurd t
+stop_cases d v r l n took until (faults.Store fault) lists goal a b t = absurd t
 stop_cases d v r l n took until faults.InputTooLong lists goal a b t =
     absurd t
 stop_cases d v r l n took until faults.BadKey lists goal a b t =

@@ -1,5 +1,5 @@
 -- What the program prints.
-use Rattle.std.specs.Prelude.{◌≡◌, ℕ, List, [], ◌∷◌, ◌++◌, string_bytes}
+use Rattle.std.specs.Prelude.{◌≡◌, ℕ, Bool, true, false, List, [], ◌∷◌, ◌++◌, string_bytes, codes}
 use Rattle.prolly_line.specs.declared.command.ParseFault.{ParseFault}
 use Rattle.prolly_line.specs.declared.command.ParseFault.TheVariants.{Memory, Usage, Help}
 use Rattle.prolly_line.specs.declared.command.ParseFault.TheVariants.{BadKey as BadKeyWord}
@@ -43,6 +43,17 @@ ShowsFault answer fault = Shows answer (fault_status fault) [] (fault_line (faul
 abbrev pub ShowsName : Answer → NameFault → List ℕ → Type 0
 ShowsName answer fault name = Shows answer 5 []
     (fault_line (name_fault_text fault ++ shown_name name))
+
+-- Of one file of several: done, with one line and the file's name behind it, or with nothing to show
+-- where only what is at fault is to be told.
+abbrev pub ShowsFileLine : Bool → Answer → List ℕ → List ℕ → Type 0
+ShowsFileLine true answer text name = ShowsDone answer
+ShowsFileLine false answer text name = ShowsLine answer (text ++ codes "  " ++ shown_name name)
+
+-- Of one file of several: not done, and the fault's line names the file.
+abbrev pub ShowsFileFault : Answer → Fault → List ℕ → Type 0
+ShowsFileFault answer fault name = Shows answer (fault_status fault) []
+    (fault_line (shown_name name ++ codes ": " ++ fault_text fault))
 
 -- The words give no command. What clap says of them is shown as it words it: help that was asked
 -- for on standard output, and what is wrong with the words on standard error.

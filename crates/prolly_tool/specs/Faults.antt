@@ -11,7 +11,14 @@ use Rattle.prolly_check.specs.declared.verdict.fault.CheckFault.TheVariants as c
 use Rattle.prolly_root.specs.FaultTexts.{proof_fault_text, root_fault_text}
 use Rattle.prolly_root.specs.declared.root_fault.RootFault.{RootFault}
 use Rattle.prolly_root.specs.declared.root_fault.RootFault.TheVariants as roots
+use Rattle.prolly_sort.specs.FaultTexts.{store_text}
+use Rattle.prolly_sort.specs.declared.fault.SorterFault.{SorterFault}
+use Rattle.prolly_sort.specs.declared.fault.SorterFault.TheVariants as sorters
+use Rattle.prolly_sort.specs.declared.store.StoreFault.{StoreFault}
+use Rattle.prolly_sort.specs.declared.store.StoreFault.TheVariants as stores
 use Rattle.prolly_text.specs.declared.lines.keys.KeysFault.TheVariants as key_faults
+use Rattle.prolly_text.specs.declared.lines.reader.ReadLinesFault.{ReadLinesFault}
+use Rattle.prolly_text.specs.declared.lines.reader.ReadLinesFault.TheVariants as read_lines
 use Rattle.prolly_text.specs.declared.lines.pack.LinesFault.TheVariants as lines
 use Rattle.prolly_text.specs.declared.lines.pack.PackFault.TheVariants as packs
 use Rattle.prolly_tool.specs.declared.faults.fault.Fault.{Fault}
@@ -25,7 +32,22 @@ use Rattle.prolly_tool.specs.declared.faults.fault.Fault.TheVariants.{CheckNew}
 use Rattle.prolly_tool.specs.declared.faults.fault.Fault.TheVariants.{Proof, Root, RootOld, RootNew}
 use Rattle.prolly_tool.specs.declared.faults.fault.Fault.TheVariants.{BadRoot, LoneRoot, Stream}
 use Rattle.prolly_tool.specs.declared.faults.fault.Fault.TheVariants.{WrongBits, OtherHeader}
+use Rattle.prolly_tool.specs.declared.faults.fault.Fault.TheVariants.{LineTooLong, TooManyLines}
+use Rattle.prolly_tool.specs.declared.faults.fault.Fault.TheVariants.{DoubledKey, Store}
+use Rattle.std.specs.Fmt.{decimal}
 use Rattle.prolly_text.specs.LinesFaults.{keys_text, lines_text}
+
+-- The fault of lines that are read as they come.
+abbrev pub of_read_lines : ReadLinesFault → Fault
+of_read_lines read_lines.Read = Read
+of_read_lines (read_lines.Line fault) = Pack fault
+of_read_lines (read_lines.LineTooLong line) = LineTooLong line
+of_read_lines read_lines.TooManyLines = TooManyLines
+
+-- The fault of lines whose records are put in order.
+abbrev pub of_sorter : SorterFault → Fault
+of_sorter (sorters.Store fault) = Store fault
+of_sorter (sorters.Doubled first second) = DoubledKey first second
 
 -- What is said of one of two files, which is told first; want of memory is no file's fault.
 abbrev pub side_fault_text : List ℕ → CheckFault → List ℕ
@@ -44,6 +66,11 @@ fault_text Read = codes "file 0: read failed"
 fault_text Write = codes "write failed"
 fault_text (Run fault) = run_text fault
 fault_text (Pack fault) = lines_text fault
+fault_text (LineTooLong line) = codes "line " ++ decimal line ++ codes ": line too long"
+fault_text TooManyLines = codes "too many lines"
+fault_text (DoubledKey first second) = codes "line " ++ decimal second ++
+    codes ": has the key of line " ++ decimal first
+fault_text (Store fault) = store_text fault
 fault_text (Keys fault) = keys_text fault
 fault_text (Check fault) = check_fault_text fault
 fault_text (Stream fault) = stream_fault_text fault
@@ -79,6 +106,13 @@ run_status runs.TooTall = 7
 run_status runs.NoThread = 6
 run_status runs.Lost = 6
 run_status runs.TooManyFiles = 3
+
+abbrev pub store_status : StoreFault → ℕ
+store_status stores.Memory = 6
+store_status stores.Make = 5
+store_status stores.Write = 5
+store_status stores.Read = 5
+store_status stores.TooMany = 3
 
 abbrev pub check_status : CheckFault → ℕ
 check_status checks.Memory = 6
@@ -121,8 +155,13 @@ fault_status (Run fault) = run_status fault
 fault_status (Pack (lines.Pack packs.Memory)) = 6
 fault_status (Pack (lines.Pack (packs.BadLine line))) = 3
 fault_status (Pack (lines.BadText line)) = 3
+fault_status (Pack lines.ByteOrderMark) = 3
 fault_status (Pack (lines.Pack (packs.KeyTooLong line))) = 3
 fault_status (Pack (lines.Pack (packs.ValueTooLong line))) = 3
+fault_status (LineTooLong line) = 3
+fault_status TooManyLines = 3
+fault_status (DoubledKey first second) = 3
+fault_status (Store fault) = store_status fault
 fault_status (Keys key_faults.Memory) = 6
 fault_status (Keys (key_faults.BadLine line)) = 3
 fault_status (Keys (key_faults.BadText line)) = 3

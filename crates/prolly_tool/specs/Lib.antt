@@ -8,6 +8,8 @@ pub mod Outputs
 pub mod Scratch
 -- What the command `pack` answers.
 pub mod Pack
+-- What `pack` answers of lines in any order.
+pub mod SortedPack
 -- The line and the status of each fault. (This project's texts.)
 pub mod Faults
 -- What a line says of a file that it names. (This project's texts.)
@@ -18,6 +20,8 @@ pub mod Answers
 pub mod Build
 -- What the command `apply` asks of the old file's header, and what it prints.
 pub mod Apply
+-- The bits by which chunks have about so many bytes.
+pub mod ChunkBytes
 -- What the commands that read a chunk file print.
 pub mod LookUps
 -- What the command `root` answers.
@@ -46,5 +50,7 @@ pub mod KeyLists
 pub mod KeyLookUps
 -- What `explain` answers, and what a command says of a record file that it goes over once.
 pub mod Surveys
+-- What `explain --lines` answers.
+pub mod ExplainedLines
 -- What the command `stat` answers.
 pub mod Stat

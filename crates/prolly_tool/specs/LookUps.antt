@@ -63,6 +63,11 @@ abbrev pub ShowsValue : Notation → Answer → Option (List ℕ) → Type 0
 ShowsValue notation answer None = ShowsNothing answer
 ShowsValue notation answer (Some value) = ShowsLine answer (written notation value)
 
+-- The bytes of the value and nothing else.
+abbrev pub ShowsRaw : Answer → Option (List ℕ) → Type 0
+ShowsRaw answer None = ShowsNothing answer
+ShowsRaw answer (Some value) = Shows answer 0 value []
+
 abbrev pub ShowsPair : Notation → Answer → Option Pair → Type 0
 ShowsPair notation answer None = ShowsNothing answer
 ShowsPair notation answer (Some p) = ShowsLine answer (pair_text notation p)
@@ -85,6 +90,9 @@ ShowsCheck answer content = ShowsLine answer (check_text content)
 
 abbrev pub ShowsGet : Notation → List ℕ → Answer → Content → Type 0
 ShowsGet notation key answer content = ShowsValue notation answer (find content.pairs key)
+
+abbrev pub ShowsGetRaw : List ℕ → Answer → Content → Type 0
+ShowsGetRaw key answer content = ShowsRaw answer (find content.pairs key)
 
 abbrev pub ShowsScan : Notation → List ℕ → ℕ → Answer → Content → Type 0
 ShowsScan notation from limit answer content =
@@ -140,6 +148,11 @@ abbrev pub ShowsFound : Notation → Answer → Result (Option (Vec ℕ)) RootFa
 ShowsFound notation answer (Ok found) =
     ShowsValue notation answer (option_map (λ value. value.items) found)
 ShowsFound notation answer (Err fault) = ShowsFault answer (Root fault)
+
+-- The same, where the bytes of the value are shown as they are.
+abbrev pub ShowsFoundRaw : Answer → Result (Option (Vec ℕ)) RootFault → Type 0
+ShowsFoundRaw answer (Ok found) = ShowsRaw answer (option_map (λ value. value.items) found)
+ShowsFoundRaw answer (Err fault) = ShowsFault answer (Root fault)
 
 -- What is shown of a look-up by a number: the pair that it found, or none, or its fault.
 abbrev pub ShowsFoundPair : Notation → Answer → Result (Option Pair) RootFault → Type 0

@@ -2,7 +2,9 @@
 use super::{FILE_OF_ONE, RECORD, expect_shown};
 use prolly_check::OneThread;
 use prolly_file::FromRead;
-use prolly_tool::{Notation, StatForm, answer_explain, answer_stat};
+use prolly_tool::{
+    LineForm, Notation, StatForm, answer_explain, answer_explain_lines, answer_stat,
+};
 
 #[test]
 fn a_record_file_is_explained_or_wants_memory(rt: HostRuntime) {
@@ -13,6 +15,19 @@ fn a_record_file_is_explained_or_wants_memory(rt: HostRuntime) {
     let flawed = answer_explain(alloc, &mut falling, Notation::Text);
     let reason = b"record 1 at byte 7: key out of order\nits key: a\nthe key before: b\n";
     expect_shown(&rt, flawed, 1, reason);
+}
+
+#[test]
+fn lines_are_explained_or_want_memory(rt: HostRuntime) {
+    let alloc = rt.alloc();
+    let mut good = FromRead::new(b"61 31\n".as_slice());
+    let answer = answer_explain_lines(alloc, &mut good, LineForm::hex(), false);
+    expect_shown(&rt, answer, 0, b"ok 1\n");
+    let mut faulty = FromRead::new(b"61 3\n".as_slice());
+    let answer = answer_explain_lines(alloc, &mut faulty, LineForm::hex(), true);
+    let lines = b"line 1 at byte 0: odd number of digits from byte 3\n\
+          the line: 61 3\nright: two digits a byte\n";
+    expect_shown(&rt, answer, 1, lines);
 }
 
 #[test]

@@ -7,7 +7,7 @@ use std::process::Abort;
 use std::test::Fail;
 
 /// Lines in hexadecimal, their number, and the records that they stand for.
-const HEX_LINES: &[(&[u8], u64, &[u8])] = &[
+pub(super) const HEX_LINES: &[(&[u8], u64, &[u8])] = &[
     (b"", 0, b""),
     (
         b"61 31\n62 31\n",
@@ -72,7 +72,7 @@ fn names_the_first_faulty_line(rt: HostRuntime) -> Result<(), Fail> {
 
 /// Lines of text, whether a key alone is its removal, their number, and the records that they stand
 /// for.
-const TEXT_LINES: &[(&[u8], bool, u64, &[u8])] = &[
+pub(super) const TEXT_LINES: &[(&[u8], bool, u64, &[u8])] = &[
     (b"a\t1\n", false, 1, b"\0\x01a\0\0\0\x011"),
     // The escapes as the manual of PostgreSQL's COPY lists them.
     (
@@ -89,10 +89,23 @@ const TEXT_LINES: &[(&[u8], bool, u64, &[u8])] = &[
         b"\0\x01a\xff\xff\xff\xff\0\0\xff\xff\xff\xff",
     ),
     (b"\xff\t", true, 1, b"\0\x01\xff\0\0\0\0"),
+    // A byte order mark is a key as any other, but at the start of the text.
+    (
+        b"a\t\n\xEF\xBB\xBF\t\n",
+        false,
+        2,
+        b"\0\x01a\0\0\0\0\0\x03\xEF\xBB\xBF\0\0\0\0",
+    ),
+    (
+        b"\\xEF\xBB\xBF\t\n",
+        false,
+        1,
+        b"\0\x03\xEF\xBB\xBF\0\0\0\0",
+    ),
 ];
 
 /// Lines of which one is no text, whether a key alone is its removal, and the first such line.
-const FAULTY_TEXT_LINES: &[(&[u8], bool, u64)] = &[
+pub(super) const FAULTY_TEXT_LINES: &[(&[u8], bool, u64)] = &[
     (b"a\n", false, 0),
     (b"a\t1\n\n", false, 1),
     (b"a\t1\t2\n", true, 0),
@@ -136,6 +149,38 @@ fn names_the_first_faulty_line_of_text(rt: HostRuntime) -> Result<(), Fail> {
     for &(text, removals, line) in FAULTY_TEXT_LINES {
         let fault = LinesFault::BadText { line };
         expect_text_packed(&rt, rt.alloc(), (text, removals), Err(fault), b"")?;
+    }
+    Ok(())
+}
+
+/// Texts that begin with a byte order mark, in a form, and what packing them comes to.
+const MARKED_TEXTS: &[(Notation, &[u8], LinesFault)] = &[
+    (
+        Notation::Text,
+        b"\xEF\xBB\xBFa\t1\n",
+        LinesFault::ByteOrderMark,
+    ),
+    (Notation::Text, b"\xEF\xBB\xBF", LinesFault::ByteOrderMark),
+    (
+        Notation::Hex,
+        b"\xEF\xBB\xBF61 31\n",
+        LinesFault::Pack(PackFault::BadLine { line: 0 }),
+    ),
+];
+
+#[test]
+fn refuses_a_byte_order_mark(rt: HostRuntime) -> Result<(), Fail> {
+    for &(notation, text, fault) in MARKED_TEXTS {
+        let form = LineForm {
+            notation,
+            removals: false,
+        };
+        let mut out = Vec::new(rt.alloc());
+        expect_eq(
+            &rt,
+            &pack_lines_in(rt.alloc(), form, text, &mut out),
+            &Err(fault),
+        );
     }
     Ok(())
 }

@@ -1,12 +1,12 @@
 //! What the program prints.
-ghost use Rattle.std.specs.Prelude.{[], IfOk, Some};
+ghost use Rattle.std.specs.Prelude.{ℕ, List, [], IfOk, Some};
 ghost use Rattle.std.specs.Option.{option_copied};
 ghost use Rattle.prolly_tool.specs.Answers.{Shows, ShowsNothing, ShowsLine, ShowsDone, ShowsFault};
-ghost use Rattle.prolly_tool.specs.Answers.{ShowsName, ShowsRefusal};
-ghost use Rattle.prolly_tool.specs.LookUps.{ShowsPair, ShowsValue};
+ghost use Rattle.prolly_tool.specs.Answers.{ShowsFileFault, ShowsFileLine, ShowsName, ShowsRefusal};
+ghost use Rattle.prolly_tool.specs.LookUps.{ShowsPair, ShowsRaw, ShowsValue};
 
 use crate::faults::{Fault, NameFault};
-use crate::lines::append_pair_text;
+use crate::lines::{append_named_fault, append_named_line, append_pair_text};
 use prolly_line::ParseFault;
 use prolly_text::{Notation, append_name};
 use std::alloc::{AllocError, Global};
@@ -87,6 +87,17 @@ impl Answer {
         Answer::of_line(alloc, &line)
     }
 
+    /// The answer of a look-up of a key whose value is wanted as it is: its bytes, or that there is
+    /// none.
+    pub fn of_raw(alloc: Global, value: Option<&[u8]>) -> Result<Answer, AllocError>
+        ensures { IfOk result (λ answer. ShowsRaw answer (option_copied value.entry)) }
+    {
+        match value {
+            None => Ok(Answer::of_nothing(alloc)),
+            Some(value) => Ok(Answer::of_lines(alloc, Vec::from_slice(alloc, value)?)),
+        }
+    }
+
     /// The answer of a look-up of a pair: its key and value in this notation.
     pub fn of_pair(
         alloc: Global,
@@ -129,6 +140,27 @@ impl Answer {
             status: 5,
             out: Vec::new(alloc),
             err: line,
+        })
+    }
+
+    /// The same answer, as it is told of one file of several: with the file's name behind its line,
+    /// or before what is wrong. Where `quiet` is set, the line is left out.
+    pub fn in_file(self, alloc: Global, name: &str, quiet: bool) -> Result<Answer, AllocError>
+        ensures done { (text : List ℕ) → ShowsLine self text →
+            IfOk result (λ answer. ShowsFileLine quiet answer text name.now) }
+        ensures fault { (fault : Fault) → ShowsFault self fault →
+            IfOk result (λ answer. ShowsFileFault answer fault name.now) }
+    {
+        let mut out = Vec::new(alloc);
+        if !quiet {
+            append_named_line(alloc, &mut out, &self.out, name)?;
+        }
+        let mut err = Vec::new(alloc);
+        append_named_fault(alloc, &mut err, &self.err, name)?;
+        Ok(Answer {
+            status: self.status,
+            out,
+            err,
         })
     }
 

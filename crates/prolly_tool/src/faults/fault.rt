@@ -2,13 +2,14 @@
 ghost use Rattle.std.specs.Prelude.{◌≡◌, Some};
 ghost use Rattle.prolly_tool.specs.Faults.{fault_text, check_status, root_status, run_status};
 ghost use Rattle.prolly_tool.specs.Faults.{fault_status, root_side_text, side_fault_text};
-ghost use Rattle.prolly_tool.specs.Faults.{stream_status};
+ghost use Rattle.prolly_tool.specs.Faults.{store_status, stream_status};
 
 use prolly_check::{CheckFault, StreamFault};
 use prolly_file::SinkFault;
 use prolly_link::RunFault;
 use prolly_root::{ProofFault, RootFault};
-use prolly_text::{KeysFault, LinesFault, PackFault};
+use prolly_sort::{SorterFault, StoreFault};
+use prolly_text::{KeysFault, LinesFault, PackFault, ReadLinesFault};
 use std::alloc::AllocError;
 use std::fmt;
 use std::fmt::{Display, Formatter};
@@ -27,6 +28,14 @@ pub enum Fault {
     Run(RunFault),
     /// A text is not packed.
     Pack(LinesFault),
+    /// A line is longer than any that stands for a record. Lines are numbered from 0.
+    LineTooLong { line: u64 },
+    /// A text has more lines than can be numbered.
+    TooManyLines,
+    /// The lines of these two numbers have one key, and each key is to come once.
+    DoubledKey { first: u64, second: u64 },
+    /// Sorted runs can't wait beside an output, or can't be merged.
+    Store(StoreFault),
     /// A text is no list of keys.
     Keys(KeysFault),
     /// A file is no lawful chunk file.
@@ -77,7 +86,14 @@ impl Fault {
             | Fault::Pack(LinesFault::Pack(PackFault::Memory))
             | Fault::Keys(KeysFault::Memory) => 6,
             Fault::Run(fault) => run_status(fault),
-            Fault::Pack(_) | Fault::Keys(_) | Fault::WrongBits | Fault::OtherHeader => 3,
+            Fault::Store(fault) => store_status(fault),
+            Fault::Pack(_)
+            | Fault::LineTooLong { .. }
+            | Fault::TooManyLines
+            | Fault::DoubledKey { .. }
+            | Fault::Keys(_)
+            | Fault::WrongBits
+            | Fault::OtherHeader => 3,
             Fault::Check(fault) | Fault::CheckOld(fault) | Fault::CheckNew(fault) => {
                 check_status(fault)
             }
@@ -136,6 +152,34 @@ impl From<LinesFault> for Fault {
     }
 }
 
+impl From<ReadLinesFault> for Fault {
+    ghost use Rattle.prolly_tool.specs.Faults.{of_read_lines};
+
+    ghost from_gives = { λ lines fault. fault ≡ of_read_lines lines };
+
+    fn from(lines: ReadLinesFault) -> Self {
+        match lines {
+            ReadLinesFault::Read => Fault::Read,
+            ReadLinesFault::Line(fault) => Fault::Pack(fault),
+            ReadLinesFault::LineTooLong { line } => Fault::LineTooLong { line },
+            ReadLinesFault::TooManyLines => Fault::TooManyLines,
+        }
+    }
+}
+
+impl From<SorterFault> for Fault {
+    ghost use Rattle.prolly_tool.specs.Faults.{of_sorter};
+
+    ghost from_gives = { λ sorter fault. fault ≡ of_sorter sorter };
+
+    fn from(sorter: SorterFault) -> Self {
+        match sorter {
+            SorterFault::Store(fault) => Fault::Store(fault),
+            SorterFault::Doubled { first, second } => Fault::DoubledKey { first, second },
+        }
+    }
+}
+
 impl From<KeysFault> for Fault {
     ghost use Rattle.prolly_tool.specs.declared.faults.fault.Fault.TheVariants.{Keys};
 
@@ -143,6 +187,16 @@ impl From<KeysFault> for Fault {
 
     fn from(keys: KeysFault) -> Self {
         Fault::Keys(keys)
+    }
+}
+
+fn store_status(fault: StoreFault) -> u8
+    ensures { result ≡ store_status fault }
+{
+    match fault {
+        StoreFault::Memory => 6,
+        StoreFault::Make | StoreFault::Write | StoreFault::Read => 5,
+        StoreFault::TooMany => 3,
     }
 }
 
@@ -201,6 +255,12 @@ impl Display for Fault {
             Fault::Write => f.write_str("write failed"),
             Fault::Run(fault) => fault.fmt(f),
             Fault::Pack(fault) => fault.fmt(f),
+            Fault::LineTooLong { line } => write!(f, "line {line}: line too long"),
+            Fault::TooManyLines => f.write_str("too many lines"),
+            Fault::DoubledKey { first, second } => {
+                write!(f, "line {second}: has the key of line {first}")
+            }
+            Fault::Store(fault) => fault.fmt(f),
             Fault::Keys(fault) => fault.fmt(f),
             Fault::Check(fault) => fault.fmt(f),
             Fault::Stream(fault) => fault.fmt(f),

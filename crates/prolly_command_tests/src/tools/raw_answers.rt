@@ -1,0 +1,68 @@
+//! What `get --raw`, `check` of several files and the bits of a sample come to.
+use super::expect_answer;
+use super::look_up_answers::file_of_three;
+use crate::expect::{expect_bytes, expect_eq};
+use prolly_check::OneThread;
+use prolly_entry::Version;
+use prolly_file::FromRead;
+use prolly_tool::{
+    Answer, Fault, Sample, answer_check, answer_found_raw, answer_get_raw, bits_note,
+};
+use std::test::Fail;
+
+/// Keys, the status, and the value.
+const VALUES: &[(&[u8], u8, &[u8])] = &[(b"a", 0, b"1"), (b"", 1, b""), (b"z", 1, b"")];
+
+#[test]
+fn a_value_is_shown_as_it_is(rt: HostRuntime) -> Result<(), Fail> {
+    let alloc = rt.alloc();
+    let file = file_of_three(alloc, Version::One)?;
+    for &(key, status, value) in VALUES {
+        let mut source = FromRead::new(file.as_slice());
+        let answer = answer_get_raw(&OneThread, alloc, &mut source, key)?;
+        expect_answer(&rt, &answer, status, value, b"");
+    }
+    let found = Ok(Some(Vec::from_slice(alloc, b"\0\xFF\n")?));
+    let answer = answer_found_raw(alloc, &found)?;
+    expect_answer(&rt, &answer, 0, b"\0\xFF\n", b"");
+    Ok(())
+}
+
+#[test]
+fn an_answer_of_a_file_has_its_name(rt: HostRuntime) -> Result<(), Fail> {
+    let alloc = rt.alloc();
+    let file = file_of_three(alloc, Version::One)?;
+    let checked = answer_check(alloc, &mut FromRead::new(file.as_slice()))?;
+    let named = checked.in_file(alloc, "a\nb", true)?;
+    expect_answer(&rt, &named, 0, b"", b"");
+    let refused = Answer::of_fault(alloc, Fault::NoCounts)?;
+    let named = refused.in_file(alloc, "a\nb", false)?;
+    expect_answer(
+        &rt,
+        &named,
+        4,
+        b"",
+        b"prolly: a\\x0ab: chunk file: no counts\n",
+    );
+    Ok(())
+}
+
+#[test]
+fn bits_are_those_of_the_records_that_are_read_first(rt: HostRuntime) -> Result<(), Fail> {
+    let alloc = rt.alloc();
+    let mut sample = Sample::new();
+    let records: &[u8] = b"\0\x01a\0\0\0\x011\0\x01b\xFF\xFF\xFF\xFF";
+    match sample.read(alloc, &mut FromRead::new(records))? {
+        Ok(front) => expect_bytes(&rt, &front, records),
+        Err(_) => return Err(Fail::from("a read failed")),
+    }
+    let chosen = sample.bits_for(2_048).ok_or("no record was seen")?;
+    expect_eq(&rt, &chosen.bits, &8);
+    let note = bits_note(alloc, 12, Some(chosen))?;
+    expect_bytes(
+        &rt,
+        &note,
+        b"prolly: --bits 8, since a record has 8 bytes on average\n",
+    );
+    Ok(())
+}

@@ -1,0 +1,18 @@
+use Rattle.std.proofs.Common.{◌≡◌, ◌-◌, ◌^◌, true}
+use Rattle.prolly_sort.specs.Shelf.{is_unique}
+use Rattle.prolly_tool.specs.SortedPack.{AreSortedSoFar}
+use Rattle.prolly_tool.proofs.answers.pack_sorted.sort_lines.Given as goal
+
+abbrev pub invariant-loop-lines : goal.invariant-loop-lines
+invariant-loop-lines g l = record {
+  form : l.lines.form ≡ l.fn.form;
+  unique : is_unique l.sorter ≡ is_unique l.fn.sorter;
+  failures : (g.S.Source.seen l.source).failures ≡ (g.S.Source.seen l.fn.source).failures;
+  keeps : g.T.RunStore.keeps l.fn.store ≡ true → g.T.RunStore.keeps l.store ≡ true;
+  so_far : (g.S.Source.seen l.fn.source).is_honest ≡ true → g.T.RunStore.keeps l.fn.store ≡ true →
+      AreSortedSoFar g.W.Sink.seen g.B.Source.seen (g.S.Source.seen l.fn.source).left l.lines
+      (g.S.Source.seen l.source) l.sorter;
+}
+
+abbrev pub decreases-loop-lines : goal.decreases-loop-lines
+decreases-loop-lines g l = 2 ^ 64 - l.lines.number

@@ -1,0 +1,6 @@
+use Rattle.prolly_tool.proofs.ChunkSizes.{IsDoubled}
+use Rattle.prolly_tool.proofs.chunk_bytes.least_bits.Given as goal
+
+-- Fewer bits are not enough, and the size is that by these.
+abbrev pub invariant-loop-bits : goal.invariant-loop-bits
+invariant-loop-bits l = IsDoubled l.entry l.wanted l.bits l.size

@@ -1,0 +1,105 @@
+-- What `pack` answers of lines in any order.
+use Rattle.std.specs.Prelude.{◌≡◌, ◌≢◌, ◌<◌, ◌≤◌, ◌^◌, ◌-◌, ℕ, Bool, true, false, List, ◌∷◌, ◌++◌, length}
+use Rattle.std.specs.Prelude.{Option, Some, None, Result, IfOk}
+use Rattle.std.specs.List.{AllZip}
+use Rattle.std.specs.Fmt.{decimal}
+use Rattle.std.specs.declared.alloc.AllocError.{AllocError}
+use Rattle.prolly_entry.specs.Record.{Record}
+use Rattle.prolly_file.specs.Sink.{IsSettled, SinkView}
+use Rattle.prolly_file.specs.Source.{SourceView}
+use Rattle.prolly_sort.specs.Overlaid.{overlaid, written}
+use Rattle.prolly_sort.specs.Run.{AreDoubled}
+use Rattle.prolly_sort.specs.Shelf.{CameTo, counted}
+use Rattle.prolly_sort.specs.declared.sorter.Sorter.{Sorter}
+use Rattle.prolly_text.specs.Lines.{lines_of}
+use Rattle.prolly_text.specs.RecordLines.{HaveComeOf, LinesInHand}
+use Rattle.prolly_text.specs.PackedLines.{AreRecordsOf, IsLinesFault, StandsFor}
+use Rattle.prolly_text.specs.declared.lines.buffer.TheConstants.{LINE_LIMIT}
+use Rattle.prolly_text.specs.declared.lines.form.LineForm.{LineForm}
+use Rattle.prolly_tool.specs.Answers.{ShowsFault, ShowsLine}
+use Rattle.prolly_tool.specs.declared.answers.answer.Answer.{Answer}
+use Rattle.prolly_tool.specs.declared.answers.pack_sorted.SortedPack.{SortedPack}
+use Rattle.prolly_tool.specs.declared.faults.fault.Fault.{Fault}
+use Rattle.prolly_tool.specs.declared.faults.fault.Fault.TheVariants.{Memory, Read, Pack}
+use Rattle.prolly_tool.specs.declared.faults.fault.Fault.TheVariants.{LineTooLong, TooManyLines, Store}
+use Rattle.prolly_tool.specs.declared.faults.fault.Fault.TheVariants.{DoubledKey}
+
+-- The line of this number is longer than any that stands for a record, and each line before it
+-- stands for one.
+pub record IsTooLongAt (form : LineForm) (text : List ℕ) (number : ℕ) : Type 0 where
+  pub before : List (List ℕ)
+  pub line : List ℕ
+  pub after : List (List ℕ)
+  pub whole : lines_of text ≡ before ++ line ∷ after
+  pub number_is : number ≡ length before
+  pub records : List Record
+  pub stand : AllZip (StandsFor form) before records
+  pub over : LINE_LIMIT < length line
+
+-- The lines of these two numbers stand for records with one key, and each line up to them stands for
+-- a record.
+pub record AreDoubledLines (form : LineForm) (text : List ℕ) (first second : ℕ) : Type 0 where
+  pub before : List (List ℕ)
+  pub after : List (List ℕ)
+  pub whole : lines_of text ≡ before ++ after
+  pub records : List Record
+  pub stand : AllZip (StandsFor form) before records
+  pub doubled : AreDoubled records first second
+
+-- The lines of a text are not put in order: a read failed; or none did, and the first line that
+-- stands for no record is told, or there are more lines than can be numbered, or two lines have one
+-- key where keys are to be unique, or a run can't wait or be merged, or memory was refused.
+abbrev pub IsSortingFault : LineForm → Bool → List ℕ → Type 0 → Fault → Type 0
+IsSortingFault form unique text has_failed Read = has_failed
+IsSortingFault form unique text has_failed Memory = ¬ has_failed
+IsSortingFault form unique text has_failed (Pack fault) =
+    ¬ has_failed × IsLinesFault form text fault
+IsSortingFault form unique text has_failed (LineTooLong line) =
+    ¬ has_failed × IsTooLongAt form text line
+IsSortingFault form unique text has_failed TooManyLines =
+    ¬ has_failed × (2 ^ 64 ≤ length (lines_of text))
+IsSortingFault form unique text has_failed (DoubledKey first second) =
+    ¬ has_failed × (unique ≡ true) × AreDoubledLines form text first second
+IsSortingFault form unique text has_failed (Store fault) = ¬ has_failed
+IsSortingFault form unique text has_failed _ = ⊥
+
+-- Where the answer is yes, this holds.
+abbrev pub OnTrue : {E : Type 0} → Result Bool E → Type 0 → Type 0
+OnTrue result P = IfOk result (λ more. more ≡ true → P)
+
+-- Where the answer is no, this holds.
+abbrev pub OnFalse : {E : Type 0} → Result Bool E → Type 0 → Type 0
+OnFalse result P = IfOk result (λ more. more ≡ false → P)
+
+-- The records of the first lines of a text came to a sorter. Behind these lines is the rest: the
+-- bytes in hand, and what the source has left.
+pub record AreSortedSoFar {W B : Type 0} (written_to : W → SinkView) (read_back : B → SourceView)
+    (text : List ℕ) (lines : LinesInHand) (source : SourceView) (sorter : Sorter W B) : Type 0
+  where
+    pub honest : source.is_honest ≡ true
+    pub records : List Record
+    pub come : HaveComeOf lines.form text (lines.unparsed ++ source.left) records lines.number
+    pub sorted : CameTo written_to read_back sorter records
+
+module _ {W : Type 0} (seen : W → SinkView) where
+  -- The text was read whole, and each of its lines stands for a record. The file, which was
+  -- flushed, is the record file of what these come to, line after line; so many records these are.
+  -- Where keys are to be unique, no two lines have one key.
+  pub record SortsTo (form : LineForm) (unique : Bool) (text : List ℕ) (has_failed : Type 0)
+      (file : W) (len : ℕ) : Type 0 where
+    pub unfailed : ¬ has_failed
+    pub records : List Record
+    pub are : AreRecordsOf form text records
+    pub keeping : (seen file).is_keeping ≡ true
+    pub taken : (seen file).taken ≡ written (overlaid records)
+    pub settled : IsSettled (seen file)
+    pub len_is : len ≡ counted (overlaid records)
+    pub apart : unique ≡ true → (first second : ℕ) → AreDoubled records first second → ⊥
+
+  -- The number of records is shown, and the file is theirs; or the line of the fault is, and there
+  -- is no file.
+  abbrev pub ShowsSorted : LineForm → Bool → List ℕ → Type 0 → Answer → Option W → Type 0
+  ShowsSorted form unique text has_failed answer (Some file) =
+      (len : ℕ) × SortsTo form unique text has_failed file len × ShowsLine answer (decimal len)
+  ShowsSorted form unique text has_failed answer None =
+      (fault : Fault) × IsSortingFault form unique text has_failed fault × ShowsFault answer fault
