@@ -1,0 +1,2 @@
+-- What is asked of a build.
+pub mod Requests

@@ -2,6 +2,7 @@
 //! file of keys is read, since it stands for words; then input files are opened in the order of the
 //! words, and then the output is made, before anything else is read.
 mod apply;
+mod bits;
 mod build;
 mod diff;
 mod dump;
@@ -14,11 +15,12 @@ mod scratch;
 ghost use Rattle.prolly_line.specs.GivenCommand.{IsWithinLimits};
 
 use crate::commands::apply::ApplyRequest;
+use crate::commands::build::BuildRequest;
 use crate::commands::diff::DiffRequest;
 use crate::hashing::on_all_processors;
-use crate::refusal::Refusal;
+use crate::refusal::{Refusal, told};
 use prolly_entry::Version;
-use prolly_tool::{Answer, Command, Config, LineForm};
+use prolly_tool::{Answer, Command, LineForm};
 use std::alloc::AllocError;
 use std::sync::Wait;
 use std::thread::Threads;
@@ -32,10 +34,7 @@ pub fn answer_of<T: Wait + Threads + Clock + Sync>(
 ) -> Result<Answer, AllocError>
     requires { IsWithinLimits command }
 {
-    match answer_or_refusal(rt, threads, command) {
-        Ok(answer) | Err(Refusal::Told(answer)) => Ok(answer),
-        Err(Refusal::Memory) => Err(AllocError),
-    }
+    told(answer_or_refusal(rt, threads, command))
 }
 
 /// The answer of a command that has its files.
@@ -53,17 +52,30 @@ fn answer_or_refusal<T: Wait + Threads + Clock + Sync>(
             removals,
             mode,
         } => pack::pack(rt, LineForm { notation, removals }, &out, mode),
+        Command::PackSorted {
+            out,
+            notation,
+            removals,
+            unique,
+            memory,
+            mode,
+        } => {
+            let form = LineForm { notation, removals };
+            pack::pack_sorted(rt, threads, form, unique, memory, &out, mode)
+        }
         Command::Scratch {
             bits,
+            chunk_bytes,
             version,
             out,
             mode,
         } => {
             let version = Version::of(version).unwrap();
-            scratch::scratch(rt, bits, version, out, mode)
+            scratch::scratch(rt, bits, chunk_bytes, version, out, mode)
         }
         Command::Build {
             bits,
+            chunk_bytes,
             stages,
             capacity,
             max_records,
@@ -74,10 +86,17 @@ fn answer_or_refusal<T: Wait + Threads + Clock + Sync>(
             quiet,
             mode,
         } => {
-            let config = Config::new(bits, stages, capacity, max_records).unwrap();
-            let config = config.with_batch(batch).unwrap();
-            let config = config.with_version(version).unwrap();
-            build::build_from(rt, threads, &config, &out, &files, quiet, mode)
+            let request = BuildRequest {
+                bits,
+                chunk_bytes,
+                stages,
+                capacity,
+                max_records,
+                batch,
+                version,
+                quiet,
+            };
+            build::build_from(rt, threads, request, &out, &files, mode)
         }
         Command::Apply {
             root,
@@ -99,6 +118,11 @@ fn answer_or_refusal<T: Wait + Threads + Clock + Sync>(
             apply::apply_to(rt, threads, request, &old, &out, &changes, mode)
         }
         Command::Explain { file, notation } => report::explain(rt, file, notation),
+        Command::ExplainLines {
+            notation,
+            removals,
+            all,
+        } => report::explain_lines(rt, LineForm { notation, removals }, all),
         Command::Check {
             file,
             root,
@@ -106,6 +130,22 @@ fn answer_or_refusal<T: Wait + Threads + Clock + Sync>(
         } => {
             let version = Version::of(version).unwrap();
             report::check(rt, &on_all_processors(threads), &file, root, version)
+        }
+        Command::CheckFiles {
+            files,
+            root,
+            version,
+            quiet,
+        } => {
+            let version = Version::of(version).unwrap();
+            report::check_files(
+                rt,
+                &on_all_processors(threads),
+                &files,
+                root,
+                version,
+                quiet,
+            )
         }
         Command::Root { file } => report::root(rt, &file),
         Command::Stat {
@@ -119,6 +159,7 @@ fn answer_or_refusal<T: Wait + Threads + Clock + Sync>(
             root,
             version,
             notation,
+            raw,
         } => {
             let version = Version::of(version).unwrap();
             look_up::get(
@@ -129,6 +170,7 @@ fn answer_or_refusal<T: Wait + Threads + Clock + Sync>(
                 version,
                 key,
                 notation,
+                raw,
             )
         }
         Command::GetKeys {

@@ -11,6 +11,7 @@ mod output;
 mod output_kind;
 mod patient;
 mod refusal;
+mod run_files;
 mod streams;
 mod target;
 mod words;

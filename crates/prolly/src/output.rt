@@ -3,7 +3,7 @@ use crate::refusal::Refusal;
 use prolly_tool::{Answer, Fault, NameFault};
 use std::alloc::AllocError;
 use std::fs::{File, Permissions};
-use std::io::{ErrorKind, Write};
+use std::io::{ErrorKind, Seek, SeekFrom, Write};
 use std::os::unix::fs::PermissionsExt;
 use std::path::PathBuf;
 use std::{fs, io};
@@ -64,7 +64,7 @@ impl Output {
     /// name, and a new file in its place is taken away if it has no byte. Gives the answer, or the
     /// fault that kept the file from its place or from the disk.
     pub fn finish(
-        self,
+        &self,
         rt: &HostRuntime,
         name: &str,
         answer: Result<Answer, AllocError>,
@@ -79,6 +79,23 @@ impl Output {
                 Ok(answer?)
             }
         }
+    }
+
+    /// The name of the file, where that stands beside the output.
+    pub fn name_beside(&self) -> Option<&str> {
+        match &self.place {
+            Place::Beside(replacement) => Some(replacement.beside.as_str()),
+            _ => None,
+        }
+    }
+
+    /// The file, where it stands beside the output, to be read from its start. It loses its name.
+    pub fn read_back(&self, rt: &HostRuntime) -> Option<File> {
+        let name = self.name_beside()?;
+        let file = self.file.try_clone().ok()?;
+        (&file).seek(SeekFrom::Start(0)).ok()?;
+        fs::remove_file(rt, name).ok()?;
+        Some(file)
     }
 
     /// Puts the file in its place, and on the disk where that was asked for.

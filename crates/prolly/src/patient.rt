@@ -1,5 +1,5 @@
 //! Standard streams that may be non-blocking.
-use std::io::{ErrorKind, Read, Write};
+use std::io::{ErrorKind, IsTerminal, Read, Write};
 use std::time::Duration;
 use std::{io, thread};
 
@@ -23,6 +23,13 @@ impl<'a, S> Patient<'a, S> {
     /// The stream, which is waited for.
     pub fn new(rt: &'a HostRuntime, stream: S) -> Patient<'a, S> {
         Patient { rt, stream }
+    }
+}
+
+/// Says that lines are read from the terminal, where standard input is one.
+pub fn tell_of_terminal(rt: &HostRuntime) {
+    if rt.stdin().is_terminal() {
+        let _ = eprintln!(rt; "prolly: reading lines from the terminal; Control-D ends them");
     }
 }
 

@@ -41,3 +41,12 @@ impl Refusal {
         }
     }
 }
+
+/// What the user is told of a command, or of a part of one: its answer, or why it does not come to its
+/// files.
+pub fn told(answer: Result<Answer, Refusal>) -> Result<Answer, AllocError> {
+    match answer {
+        Ok(answer) | Err(Refusal::Told(answer)) => Ok(answer),
+        Err(Refusal::Memory) => Err(AllocError),
+    }
+}

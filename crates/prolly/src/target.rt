@@ -223,9 +223,9 @@ impl<'a> Target<'a> {
     }
 }
 
-/// What is asked for a new file of this mode.
+/// What is asked for a new file of this mode. It may be read back.
 fn new_options(mode: u32) -> OpenOptions {
     let mut options = OpenOptions::new();
-    options.write(true).create_new(true).mode(mode);
+    options.read(true).write(true).create_new(true).mode(mode);
     options
 }

@@ -1,4 +1,8 @@
 //! The command `build`.
+ghost use Rattle.std.specs.Prelude.{◌≤◌};
+ghost use Rattle.prolly.specs.Requests.{AreInRange};
+
+use crate::commands::bits::chosen_bits;
 use crate::file_id::Found;
 use crate::inputs::Input;
 use crate::output::{OUTPUT_BYTES, Output};
@@ -6,27 +10,54 @@ use crate::output_kind::OutputKind;
 use crate::refusal::Refusal;
 use crate::target::Target;
 use prolly_build::{FILES_LIMIT, Report, build};
-use prolly_file::{Buffered, FromRead, Sink, ToWrite};
+use prolly_file::{Buffered, FromRead, Rejoined, Sink, Source, SourceFault, ToWrite};
 use prolly_link::RunFault;
 use prolly_progress::{CountedSink, CountedSource, CountingGate, Counts, watched};
-use prolly_tool::{Answer, Config, Fault, WriteMode, answer_build};
+use prolly_tool::{Answer, Config, Fault, Sample, WriteMode, answer_build};
 use std::alloc::AllocError;
 use std::fs::File;
 use std::sync::Wait;
 use std::thread::Threads;
 use std::time::Clock;
 
-/// `build [--bits Q] [--stages S] [--capacity C] [--max-records M] [--batch B] [--format V]
-/// [--quiet] [--atomic] [--sync] [--force] OUT [FILES...]`
+/// What is asked of a build: its numbers, of which the bits may have to be chosen so that chunks have so
+/// many bytes; and whether nothing is to be shown while it is under way.
+#[derive(Clone, Copy)]
+pub struct BuildRequest {
+    pub bits: u8,
+    pub chunk_bytes: Option<u32>,
+    pub stages: u8,
+    pub capacity: u32,
+    pub max_records: u32,
+    pub batch: u32,
+    pub version: u8,
+    pub quiet: bool,
+}
+
+impl BuildRequest {
+    /// The settings of a build with these bits.
+    fn config(self, bits: u8) -> Config
+        requires bits { bits ≤ 24 }
+        requires numbers { AreInRange self }
+    {
+        let config = Config::new(bits, self.stages, self.capacity, self.max_records).unwrap();
+        let config = config.with_batch(self.batch).unwrap();
+        config.with_version(self.version).unwrap()
+    }
+}
+
+/// `build [--bits Q] [--chunk-bytes N] [--stages S] [--capacity C] [--max-records M] [--batch B]
+/// [--format V] [--quiet] [--atomic] [--sync] [--force] OUT [FILES...]`
 pub fn build_from<T: Wait + Threads + Clock + Sync>(
     rt: &HostRuntime,
     threads: &T,
-    config: &Config,
+    request: BuildRequest,
     out: &str,
     files: &[String],
-    quiet: bool,
     mode: WriteMode,
-) -> Result<Answer, Refusal> {
+) -> Result<Answer, Refusal>
+    requires { AreInRange request }
+{
     if files.len() > FILES_LIMIT {
         return Err(Refusal::of_fault(rt, Fault::Run(RunFault::TooManyFiles)));
     }
@@ -35,15 +66,9 @@ pub fn build_from<T: Wait + Threads + Clock + Sync>(
         target.refuse_full(rt)?;
     }
     let counts = Counts::new();
-    let (mut sources, total) = sources_of(rt, files, target.found(), &counts)?;
+    let (sources, total) = sources_of(rt, files, target.found(), &counts)?;
     let mut output = target.open_beside_answer(rt)?;
-    let run = Run {
-        config,
-        counts: &counts,
-        total,
-        quiet,
-    };
-    let answer = build_into(rt, threads, run, &mut sources, &mut output);
+    let answer = build_asked(rt, threads, request, &counts, total, sources, &mut output);
     output.finish(rt, out, answer)
 }
 
@@ -71,6 +96,63 @@ fn sum_of(first: Option<u64>, second: Option<u64>) -> Option<u64> {
     first?.checked_add(second?)
 }
 
+/// Builds the tree of the sources into the file. Where chunks are to have so many bytes, the bits are
+/// chosen by what is read first.
+fn build_asked<T: Wait + Threads + Clock + Sync>(
+    rt: &HostRuntime,
+    threads: &T,
+    request: BuildRequest,
+    counts: &Counts,
+    total: Option<u64>,
+    mut sources: Vec<CountedSource<'_, FromRead<File>>>,
+    output: &mut Output,
+) -> Result<Answer, AllocError>
+    requires { AreInRange request }
+{
+    let Some(chunk_bytes) = request.chunk_bytes else {
+        let run = Run {
+            config: &request.config(request.bits),
+            counts,
+            total,
+            quiet: request.quiet,
+        };
+        return build_into(rt, threads, run, &mut sources, output);
+    };
+    let mut sample = Sample::new();
+    let fronts = match fronts_of(rt, &mut sample, &mut sources)? {
+        Ok(fronts) => fronts,
+        Err(fault) => return Answer::of_fault(rt.alloc(), Fault::Run(fault)),
+    };
+    let bits = chosen_bits(rt, &sample, chunk_bytes, request.bits)?;
+    let run = Run {
+        config: &request.config(bits),
+        counts,
+        total,
+        quiet: request.quiet,
+    };
+    let mut rejoined = Vec::with_capacity(rt.alloc(), fronts.len())?;
+    for (front, source) in fronts.iter().zip(sources) {
+        rejoined.push(Rejoined::new(front, source))?;
+    }
+    build_into(rt, threads, run, &mut rejoined, output)
+}
+
+/// What a sample takes off each of the sources, in their order.
+fn fronts_of<S: Source>(
+    rt: &HostRuntime,
+    sample: &mut Sample,
+    sources: &mut [S],
+) -> Result<Result<Vec<Vec<u8>>, RunFault>, AllocError> {
+    let mut fronts = Vec::new(rt.alloc());
+    for (file, source) in (0..).zip(sources) {
+        match sample.read(rt.alloc(), source)? {
+            Ok(front) => fronts.push(front)?,
+            Err(SourceFault) => return Ok(Err(RunFault::Read { file })),
+        }
+    }
+    Ok(Ok(fronts))
+}
+
 /// The settings of a build, what it counts, how many bytes its sources have, where that is known,
 /// and whether it is to show nothing while it is under way.
 #[derive(Clone, Copy)]
@@ -81,12 +163,12 @@ struct Run<'a> {
     quiet: bool,
 }
 
-/// Builds the tree of the sources into the file.
-fn build_into<T: Wait + Threads + Clock + Sync>(
+/// Builds the tree of the sources into the file, with these settings.
+fn build_into<T: Wait + Threads + Clock + Sync, S: Source + Send + Drop>(
     rt: &HostRuntime,
     threads: &T,
     run: Run<'_>,
-    sources: &mut Vec<CountedSource<'_, FromRead<File>>>,
+    sources: &mut Vec<S>,
     output: &mut Output,
 ) -> Result<Answer, AllocError> {
     let output = CountedSink::new(ToWrite::new(output), run.counts);
@@ -102,11 +184,11 @@ fn build_into<T: Wait + Threads + Clock + Sync>(
 }
 
 /// Builds the tree, and shows meanwhile how far that is, unless it is to show nothing.
-fn shown_build<T: Wait + Threads + Clock + Sync, W: Sink>(
+fn shown_build<T: Wait + Threads + Clock + Sync, S: Source + Send + Drop, W: Sink>(
     rt: &HostRuntime,
     threads: &T,
     run: Run<'_>,
-    sources: &mut Vec<CountedSource<'_, FromRead<File>>>,
+    sources: &mut Vec<S>,
     sink: &mut W,
 ) -> Result<Report, RunFault> {
     let alloc = rt.alloc();

@@ -11,8 +11,9 @@ use prolly_entry::{Pair, Ref, Version};
 use prolly_file::{Buffered, ToWrite};
 use prolly_root::{ChunkSource, Reader, RootFault};
 use prolly_tool::{
-    Answer, Fault, Notation, RootScan, answer_found, answer_found_pair, answer_get_in,
-    answer_get_keys, answer_get_keys_by_root, answer_nth_in, answer_scan_by_root, answer_scan_in,
+    Answer, Fault, Notation, RootScan, answer_found, answer_found_pair, answer_found_raw,
+    answer_get_in, answer_get_keys, answer_get_keys_by_root, answer_get_raw, answer_nth_in,
+    answer_scan_by_root, answer_scan_in,
 };
 
 /// A file of which nothing is believed but what the root of its tree vouches for, and how what is
@@ -42,7 +43,7 @@ impl<'a> RootedFile<'a> {
     }
 }
 
-/// `get [--text] [--root ROOT] [--format V] FILE KEY`
+/// `get [--text] [--raw] [--root ROOT] [--format V] FILE KEY`
 pub fn get<H: ChunkHasher>(
     rt: &HostRuntime,
     hasher: &H,
@@ -51,23 +52,39 @@ pub fn get<H: ChunkHasher>(
     version: Version,
     key: Vec<u8>,
     notation: Notation,
+    raw: bool,
 ) -> Result<Answer, Refusal>
     requires { H.can_hash hasher.now }
 {
-    match root {
-        None => {
-            let mut source = chunk_file(rt, &file)?;
-            Ok(answer_get_in(hasher, rt.alloc(), &mut source, &key, notation)?)
-        }
-        Some(root) => { get_from_root(rt, RootedFile::of(&file, version, &root, notation), &key) }
+    if let Some(root) = root {
+        let tree = RootedFile::of(&file, version, &root, notation);
+        return get_from_root(rt, tree, &key, raw);
     }
+    let mut source = chunk_file(rt, &file)?;
+    let answer = if raw {
+        answer_get_raw(hasher, rt.alloc(), &mut source, &key)
+    } else {
+        answer_get_in(hasher, rt.alloc(), &mut source, &key, notation)
+    };
+    Ok(answer?)
 }
 
-/// `get [--text] --root ROOT [--format V] FILE KEY`, which reads no more of the file than it needs.
-fn get_from_root(rt: &HostRuntime, tree: RootedFile<'_>, key: &[u8]) -> Result<Answer, Refusal> {
+/// `get [--text] [--raw] --root ROOT [--format V] FILE KEY`, which reads no more of the file than it
+/// needs.
+fn get_from_root(
+    rt: &HostRuntime,
+    tree: RootedFile<'_>,
+    key: &[u8],
+    raw: bool,
+) -> Result<Answer, Refusal> {
     let mut chunks = tree.chunks(rt)?;
     let found = value_in(rt, &mut chunks, tree, key);
-    Ok(answer_found(rt.alloc(), tree.notation, &found)?)
+    let answer = if raw {
+        answer_found_raw(rt.alloc(), &found)
+    } else {
+        answer_found(rt.alloc(), tree.notation, &found)
+    };
+    Ok(answer?)
 }
 
 /// The value of the key, or none.
