@@ -54,10 +54,11 @@ demo: prolly
 $(PROGRAM):
 	tools/prove.py $(JOBS)
 
-# The program, its manual page, and what bash, zsh and fish complete its words by. These are made from its helps. The library
-# is there where `make lib` has made it.
+# The program, its manual page, and what bash, zsh and fish complete its words by. These are made from its helps. Beside it
+# load.py, which loads tables of several columns. The library is there where `make lib` has made it.
 install: $(PROGRAM)
 	install -D -m 755 $(PROGRAM) $(DESTDIR)$(PREFIX)/bin/prolly
+	install -m 755 examples/load.py $(DESTDIR)$(PREFIX)/bin/load.py
 	share/words.py $(PROGRAM) $(MADE)
 	install -D -m 644 $(MADE)/man1/prolly.1 $(SHARE)/man/man1/prolly.1
 	install -D -m 644 $(MADE)/prolly.bash $(SHARE)/bash-completion/completions/prolly
@@ -74,7 +75,7 @@ install-lib:
 	install -D -m 644 library/prolly.pc $(LIB)/pkgconfig/prolly.pc
 
 uninstall:
-	rm -f $(DESTDIR)$(PREFIX)/bin/prolly
+	rm -f $(DESTDIR)$(PREFIX)/bin/prolly $(DESTDIR)$(PREFIX)/bin/load.py
 	rm -f $(SHARE)/man/man1/prolly.1
 	rm -f $(SHARE)/bash-completion/completions/prolly
 	rm -f $(SHARE)/zsh/site-functions/_prolly

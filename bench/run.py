@@ -8,6 +8,7 @@ for, by waiting, and those that they did not.
 """
 
 import os
+import random
 import re
 import subprocess
 import sys
@@ -100,6 +101,7 @@ def main():
         os.chdir(folder)
         show_commands(program, parts, turns)
         show_checks(program, parts, turns)
+        show_sorts(program, turns)
         show_diff(program, parts, turns)
         show_diffs_by_root(program)
         show_applies(program)
@@ -291,6 +293,36 @@ def show_checks(program, parts, turns):
         for name in list(commands)[1:]:
             figures.show(name, "check")
         remove(["records", "tree"])
+
+
+def show_sorts(program, turns):
+    """Lines in no order to a tree, by `pack --sort` and by `sort`, in turn: in memory, and in several runs."""
+    numbers = list(range(RECORDS))
+    random.Random(RECORDS).shuffle(numbers)
+    value = "v" * SHORT_VALUE
+    with open("lines", "w") as file:
+        file.writelines(f"{number:016x}\t{value}\n" for number in numbers)
+    ways = {
+        "sort | pack": 'LC_ALL=C sort | "$0" pack --text records',
+        "pack --sort": '"$0" pack --sort --text records',
+        "pack --sort --memory 16": '"$0" pack --sort --memory 16 --text records',
+    }
+    commands = {name: Command(["/bin/sh", "-c", f'{way} && "$0" build tree records', program], stdin="lines") for name, way in ways.items()}
+    runs = {name: [] for name in commands}
+    for _ in range(turns):
+        for name, command in commands.items():
+            runs[name].append(command.run())
+    if len({done.out for way in runs.values() for done in way}) != 1:
+        sys.exit("a sort made another tree")
+    print(f"{RECORDS} lines in no order, {os.path.getsize('lines') / 1e6:.0f} MB, packed and built:")
+    plain = runs["sort | pack"]
+    for name, done in runs.items():
+        print(
+            f"  {name:28} {spread(seconds_of(done))}, {ratio(seconds_of(done), seconds_of(plain))} of sort | pack;"
+            f" processor {ratio([one.busy for one in done], [one.busy for one in plain])} of it;"
+            f" peak {max(one.peak for one in done) / 1e6:.0f} MB"
+        )
+    remove(["lines", "records", "tree"])
 
 
 def show_large_check(program):

@@ -1,9 +1,9 @@
 #!/usr/bin/env python3
 """Packs an archive for machines without the Rattle kit: `share/dist.py PROGRAM [FOLDER]`.
 
-The archive `prolly-VERSION-x86_64-linux.tar.gz` has the program, its manual page, the shells' completions, the README, the
-license, docs/ and examples/, which these name. It is made in FOLDER, or else beside PROGRAM, and its name is printed. One that
-was there stays until the new one is whole. Equal contents give equal bytes.
+The archive `prolly-VERSION-x86_64-linux.tar.gz` has the program, load.py, the manual page, the shells' completions, the
+README, the license, docs/ and examples/, which these name. It is made in FOLDER, or else beside PROGRAM, and its name is
+printed. One that was there stays until the new one is whole. Equal contents give equal bytes.
 """
 
 import gzip
@@ -44,7 +44,7 @@ def install(program, root, made):
 def contents(root):
     """The files of the archive, by their names in it."""
     installed = [(f"{root.name}/{path.relative_to(root)}", path) for path in root.rglob("*") if path.is_file()]
-    documents = [TOP / "README.md", TOP / "LICENSE", *TOP.glob("docs/*.md"), *TOP.glob("examples/*/*.*")]
+    documents = [TOP / "README.md", TOP / "LICENSE", *TOP.glob("docs/*.md"), *TOP.glob("examples/*.py"), *TOP.glob("examples/*/*.*")]
     return sorted(installed + [(f"{root.name}/{path.relative_to(TOP)}", path) for path in documents])
 
 

@@ -1,15 +1,16 @@
 #!/usr/bin/env python3
 """Tests the program as a user runs it: `tests/run.py PROGRAM`, or some parts of it, such as those of cases/diffs.py,
 `tests/run.py PROGRAM diffs dumps`, or over more random files than the gate has `tests/run.py PROGRAM --random SEED COUNT`,
-or to look for builds that hang `tests/run.py PROGRAM --links COUNT`.
+or to look for builds that hang `tests/run.py PROGRAM --links COUNT`, or to sort two gigabytes of lines, which the gate does not,
+`tests/run.py PROGRAM sorts_large`.
 
 The tests stand in cases/, what they use in support/. Each case is a run with its words, input, output, error, status and
 files. What is wanted comes from docs/format.md, from the second implementations in oracle/ that were written after it, or,
 for texts of help, from texts/. Beside the cases there are runs in which files may be lost, in which calls of the system fail, or
 in which standard streams are not as usual, runs whose workers wait for one another, runs in which each growth of memory
 is refused in turn, the reader in Python beside the program, the examples of the README, what is installed, a sort on a
-cluster, the demonstration, code that must not compile, and random command lines over random files. As many parts run
-beside one another as there are processors, but for those that look at times.
+cluster, tables of several columns, the demonstration, code that must not compile, and random command lines over random
+files. As many parts run beside one another as there are processors, but for those that look at times.
 """
 
 import os
@@ -26,6 +27,7 @@ from cases import (
     by_root,
     by_root_words,
     checked_by_root,
+    chunk_bytes,
     command_line,
     damaged,
     demo,
@@ -33,6 +35,7 @@ from cases import (
     diffs_by_root,
     dumps,
     examples,
+    explained_lines,
     files,
     growths,
     installed,
@@ -40,6 +43,7 @@ from cases import (
     kept,
     library,
     links,
+    loads,
     look_ups,
     misuse,
     named_root,
@@ -52,6 +56,9 @@ from cases import (
     readers,
     scale,
     scratch,
+    several_files,
+    sorts,
+    sorts_large,
     streams,
     surveys,
 )
@@ -67,13 +74,18 @@ KNOWN_SIZES = [(0, 1, 45), (1, 1, 53), (2, 1, 127), (3, 1, 234), (1, 2, 53), (2,
 """Numbers of pairs, versions and sizes of chunk files, as docs/format.md gives them."""
 
 
-WITH_RUNS = (by_root, diffs_by_root, applies, growths, kept, files, links, as_text, dumps, diffs, proofs, range_proofs, key_proofs, readers, progress, examples, installed, streams, scale, library, python_package, demo, misuse, checked_by_root, named_root)
+WITH_RUNS = (by_root, sorts, diffs_by_root, applies, growths, kept, files, links, as_text, dumps, diffs, proofs, range_proofs, key_proofs, readers, progress, examples, installed, streams, scale, loads, library, python_package, demo, misuse, checked_by_root, named_root)
 """The parts that have runs of their own, those first that take long."""
 
-WITH_CASES = (damaged, applies, build, random_runs, as_text, diffs, diffs_by_root, scratch, pack, command_line, look_ups, dumps, proofs, range_proofs, key_proofs, by_root_words, surveys, checked_by_root, named_root)
+WITH_CASES = (damaged, applies, build, random_runs, as_text, diffs, diffs_by_root, scratch, pack, sorts, command_line, look_ups, dumps, proofs, range_proofs, key_proofs, by_root_words, surveys, explained_lines, checked_by_root, named_root, several_files, chunk_bytes)
 """The parts that have cases."""
 
+BY_NAME = (sorts_large,)
+"""The parts that have runs which take so long, or so much of the disk, that only who names them has them."""
+
 PARTS = [(name_of(part), "all_runs") for part in WITH_RUNS] + [(name_of(part), "cases") for part in WITH_CASES]
+
+NAMED = [(name_of(part), "all_runs") for part in BY_NAME]
 
 ALONE = ("links", "progress")
 """The parts that look at times, so that they run by themselves once all others are done."""
@@ -104,10 +116,10 @@ def outcomes(program, words):
     if words[:1] == ["--links"]:
         yield outcome(links.by_hand(program, int(words[1])))
         return
-    unknown = [word for word in words if word not in {name for name, _ in PARTS}]
+    unknown = [word for word in words if word not in {name for name, _ in PARTS + NAMED}]
     if unknown:
         raise SystemExit(f"no part of the tests: {' '.join(unknown)}")
-    wanted = [part for part in PARTS if not words or part[0] in words]
+    wanted = [part for part in PARTS + NAMED if part[0] in words] if words else PARTS
     with ProcessPoolExecutor(os.cpu_count()) as workers:
         yield from workers.map(partial(outcome_of, program), [part for part in wanted if part[0] not in ALONE])
     yield from (outcome_of(program, part) for part in wanted if part[0] in ALONE)

@@ -100,7 +100,10 @@ def packs():
         packed("digits in hexadecimal", b"61\t31\n", [(b"61", b"31")]),
         packed("keys that do not rise", b"b\t1\na\t1\na\t1\n", [(b"b", b"1"), (b"a", b"1"), (b"a", b"1")]),
         packed("quotes", b"\"a\"\t'b'\n", [(b'"a"', b"'b'")]),
-        packed("a mark of the order of bytes, which is no more than a character", b"\xef\xbb\xbfa\t1\n", [(b"\xef\xbb\xbfa", b"1")]),
+        packed("a byte order mark in a later line, where it is a character", b"a\t1\n\xef\xbb\xbfa\t1\n", [(b"a", b"1"), (b"\xef\xbb\xbfa", b"1")]),
+        packed("a byte order mark with an escape", b"\\xef\xbb\xbfa\t1\n", [(b"\xef\xbb\xbfa", b"1")]),
+        refused("a byte order mark", b"\xef\xbb\xbfa\t1\n", 0, why=b"begins with a byte order mark"),
+        refused("a byte order mark and nothing else", b"\xef\xbb\xbf", 0, "--removals", why=b"begins with a byte order mark"),
         packed("bytes that are no UTF-8", b"caf\xe9\t\xff\xc3\n", [(b"caf\xe9", b"\xff\xc3")]),
         packed("zero bytes", b"\0\0\t\0\n", [(b"\0\0", b"\0")]),
     ]
@@ -220,7 +223,7 @@ CONTROLS = {
 
 
 def characters():
-    """Characters and bytes that are none, written and read."""
+    """Characters and bytes that are none, written and read; not in the first line, where a byte order mark is refused."""
     table = {name: (text.encode(), text.encode()) for name, text in CHARACTERS.items()} | NO_CHARACTERS | CONTROLS
     found = []
     for name, (data, text) in table.items():
@@ -229,10 +232,10 @@ def characters():
         found += [
             asked(f"{name}, as a key", ["get", text], b"1\n", [(data, b"1")]),
             asked(f"{name}, as a value", ["get", "a"], text + b"\n", [(b"a", data)]),
-            packed(f"{name}, as it is printed", text + b"\t" + text + b"\n", [(data, data)]),
+            packed(f"{name}, as it is printed", b"a\t\n" + text + b"\t" + text + b"\n", [(b"a", b""), (data, data)]),
         ]
         if not any(byte in APART for byte in data):
-            found.append(packed(f"{name}, as it stands", data + b"\t" + data + b"\n", [(data, data)]))
+            found.append(packed(f"{name}, as it stands", b"a\t\n" + data + b"\t" + data + b"\n", [(b"a", b""), (data, data)]))
     return found
 
 

@@ -18,6 +18,14 @@ NO_FROM = "the following required arguments were not provided:\n  --from <KEY>"
 
 BESIDE_KEYS = "the argument '--keys <FILE>' cannot be used with '{}'"
 
+NO_SORT = "the following required arguments were not provided:\n  --sort"
+
+NO_LINES = "the following required arguments were not provided:\n  --lines"
+
+BESIDE_BITS = "the argument '--bits <Q>' cannot be used with '--chunk-bytes <N>'"
+
+EXPLAIN_USAGE = "explain [OPTIONS] <FILE>\n       prolly explain [OPTIONS] --lines"
+
 GET_USAGE = "get [OPTIONS] <FILE> <KEY>\n       prolly get [OPTIONS] --keys <FILE> <FILE>"
 
 PROVE_USAGE = (
@@ -59,8 +67,8 @@ def unknown(words, word, usage):
 
 
 def missing(words, names, usage):
-    """The same, for words that are missing."""
-    lines = "".join(f"\n  <{name}>" for name in names)
+    """The same, for words that are missing, of which the last one may be of any number."""
+    lines = "".join(f"\n  <{name.rstrip('.')}>{'...' if name.endswith('...') else ''}" for name in names)
     return wrong(words, f"the following required arguments were not provided:{lines}", usage)
 
 
@@ -115,12 +123,23 @@ def usage_cases():
         missing(["build"], ["OUT"], "build <OUT> [FILES]..."),
         wrong(["build", "--quiet", "o", "--quiet"], "the argument '--quiet' cannot be used multiple times", "build [OPTIONS] <OUT> [FILES]..."),
         wrong(["scratch", "--quiet"], "unexpected argument '--quiet' found", "scratch [OPTIONS]"),
-        missing(["explain"], ["FILE"], "explain <FILE>"),
-        missing(["explain", "--text"], ["FILE"], "explain --text <FILE>"),
-        wrong(["explain", "f", "x"], "unexpected argument 'x' found", "explain [OPTIONS] <FILE>"),
-        unknown(["explain", "f", "--max-records", "1"], "--max-records", "explain <FILE>"),
-        wrong(["explain", "--text", "--text", "f"], "the argument '--text' cannot be used multiple times", "explain [OPTIONS] <FILE>"),
-        missing(["check"], ["FILE"], "check <FILE>"),
+        wrong(["pack", "--unique", "o"], NO_SORT, "pack [OPTIONS] <OUT>"),
+        wrong(["pack", "--memory", "256", "o"], NO_SORT, "pack [OPTIONS] <OUT>"),
+        wrong(["pack", "--sort", "--sort", "o"], "the argument '--sort' cannot be used multiple times", "pack [OPTIONS] <OUT>"),
+        wrong(["scratch", "--chunk-bytes", "9", "--bits", "1"], BESIDE_BITS, "scratch [OPTIONS]"),
+        wrong(["build", "--bits", "1", "--chunk-bytes", "9", "o", "f"], BESIDE_BITS, "build [OPTIONS] <OUT> [FILES]..."),
+        unknown(["apply", "--root", "r", "f", "o", "--chunk-bytes", "9"], "--chunk-bytes", "apply --root <ROOT> <OLD> <OUT> [CHANGES]..."),
+        missing(["explain"], ["FILE"], EXPLAIN_USAGE),
+        missing(["explain", "--text"], ["FILE"], EXPLAIN_USAGE),
+        missing(["explain", "--all"], ["FILE"], EXPLAIN_USAGE),
+        wrong(["explain", "f", "x"], "unexpected argument 'x' found", EXPLAIN_USAGE),
+        wrong(["explain", "f", "--max-records", "1"], "unexpected argument '--max-records' found\n\n  tip: to pass '--max-records' as a value, use '-- --max-records'", EXPLAIN_USAGE),
+        wrong(["explain", "--text", "--text", "f"], "the argument '--text' cannot be used multiple times", EXPLAIN_USAGE),
+        wrong(["explain", "--lines", "f"], "the argument '--lines' cannot be used with '<FILE>'", EXPLAIN_USAGE),
+        wrong(["explain", "--removals", "f"], NO_LINES, EXPLAIN_USAGE),
+        wrong(["explain", "--all", "f"], NO_LINES, EXPLAIN_USAGE),
+        missing(["check"], ["FILE..."], "check <FILE>..."),
+        missing(["check", "--quiet"], ["FILE..."], "check --quiet <FILE>..."),
         missing(["root"], ["FILE"], "root <FILE>"),
         wrong(["root", "f", "x"], "unexpected argument 'x' found", "root <FILE>"),
         missing(["stat"], ["FILE"], "stat <FILE>"),
@@ -156,7 +175,7 @@ def usage_cases():
         wrong(["diff", "f", "g", "x"], "unexpected argument 'x' found", "diff [OPTIONS] <OLD> <NEW>"),
         wrong(["diff", "--old-root"], "a value is required for '--old-root <ROOT>' but none was supplied"),
         wrong(["diff", "--new-root", "r", "--new-root", "r", "f", "g"], "the argument '--new-root <ROOT>' cannot be used multiple times", "diff [OPTIONS] <OLD> <NEW>"),
-        unknown(["check", "f", "--text"], "--text", "check <FILE>"),
+        unknown(["check", "f", "--text"], "--text", "check <FILE>..."),
         unknown(["diff", "f", "g", "--removals"], "--removals", "diff <OLD> <NEW>"),
         unknown(["dump", "f", "--stat"], "--stat", "dump <FILE> [OUT]"),
         wrong(["dump", "f", "--text", "--text"], "the argument '--text' cannot be used multiple times", "dump [OPTIONS] <FILE> [OUT]"),
@@ -167,6 +186,8 @@ def usage_cases():
         missing(["get", "--keys", "k"], ["FILE"], GET_USAGE),
         wrong(["get", "--keys", "k", "f", "61"], BESIDE_KEYS.format("<KEY>"), GET_USAGE),
         wrong(["get", "f", "6", "--keys", "k", "--root", "r"], BESIDE_KEYS.format("<KEY>"), GET_USAGE),
+        wrong(["get", "--raw", "--keys", "k", "f"], BESIDE_KEYS.format("--raw"), GET_USAGE),
+        missing(["get", "--raw", "f"], ["KEY"], GET_USAGE),
         wrong(["get", "f", "--keys"], "a value is required for '--keys <FILE>' but none was supplied"),
         wrong(["get", "--keys", "k", "--keys", "k", "f"], "the argument '--keys <FILE>' cannot be used multiple times", GET_USAGE),
         missing(["prove"], ["FILE"], PROVE_USAGE),
@@ -195,10 +216,11 @@ def usage_cases():
         wrong(["verify", "--to", "61", "r"], NO_FROM, VERIFY_USAGE),
         wrong(["verify", "--to", "61", "r", "61", "p"], NO_FROM, VERIFY_USAGE),
         wrong(["verify", "r", "61", "--atomic"], "unexpected argument '--atomic' found\n\n  tip: a similar argument exists: '--to'", VERIFY_USAGE),
-        wrong(["check", "f", "--force"], "unexpected argument '--force' found\n\n  tip: a similar argument exists: '--format'", "check --format <V> <FILE>"),
+        wrong(["check", "f", "--force"], "unexpected argument '--force' found\n\n  tip: a similar argument exists: '--format'", "check --format <V> <FILE>..."),
         wrong(["build", "--force", "--force", "o"], "the argument '--force' cannot be used multiple times", "build [OPTIONS] <OUT> [FILES]..."),
         wrong(["prove", "--force", "f", "61", "o", "x"], "unexpected argument 'x' found", PROVE_USAGE),
         missing(["dump", "--force"], ["FILE"], "dump --force <FILE> [OUT]"),
+        missing(["pack", "--sort"], ["OUT"], "pack --sort <OUT>"),
         wrong(["diff", "f", "g", "--out"], "a value is required for '--out <FILE>' but none was supplied"),
         Case("usage: a word that is no text", [b"check", b"\xff"], status=2, err=b"prolly: a word is not UTF-8\n"),
     ]
@@ -224,6 +246,10 @@ def number_cases():
         bad_number(["scan", "--root", "r", "--format", "3", "f", "6", "1"], "3", "--format <V>", "3 is not in 1..=2"),
         bad_number(["nth", "--root", "r", "--format", "0", "f", "1"], "0", "--format <V>", "0 is not in 1..=2"),
         bad_number(["nth", "--root", "r", "--format", "3", "f", "1"], "3", "--format <V>", "3 is not in 1..=2"),
+        bad_number(["scratch", "--chunk-bytes", "0"], "0", "--chunk-bytes <N>", "0 is not in 1..=1073741824"),
+        bad_number(["build", "--chunk-bytes", "1073741825", "o"], "1073741825", "--chunk-bytes <N>", "1073741825 is not in 1..=1073741824"),
+        bad_number(["pack", "--sort", "--memory", "15", "o"], "15", "--memory <MB>", "15 is not in 16..=4000"),
+        bad_number(["pack", "--sort", "--memory", "4001", "o"], "4001", "--memory <MB>", "4001 is not in 16..=4000"),
         bad_number(["build", "--stages", "0", "o"], "0", "--stages <S>", "0 is not in 1..=12"),
         bad_number(["build", "--stages", "13", "o"], "13", "--stages <S>", "13 is not in 1..=12"),
         bad_number(["build", "--capacity", "0", "o"], "0", "--capacity <C>", "0 is not in 1..=4096"),

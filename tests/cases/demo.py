@@ -40,7 +40,7 @@ def printed():
     cut = len(records(words)[:40])
     return [
         *lines[:3],
-        *map(told, words[:3]),
+        *(line.replace(" ", "\t") for line in lines[:3]),
         str(len(words)),
         root(words),
         f"{len(records(words))} words.rec",

@@ -1,4 +1,5 @@
-"""The examples of the README, and of the pages that go on from there, run in their order in one folder."""
+"""The examples of the README, and of the pages that go on from there, run in their order in one folder. The program and load.py
+are found by their names, as where they are installed."""
 
 import os
 import subprocess
@@ -13,8 +14,8 @@ PAGES = ["README.md", "docs/commands.md", "docs/versions.md"]
 def all_runs(program, _):
     """Runs the examples, and gives for each command its name and its differences."""
     with tempfile.TemporaryDirectory() as folder:
-        path = f"{Path(program).parent}{os.pathsep}{os.environ['PATH']}"
         top = Path(__file__).parent.parent.parent
+        path = os.pathsep.join([str(Path(program).parent), str(top / "examples"), os.environ["PATH"]])
         pages = "".join((top / page).read_text() for page in PAGES)
         for command, wanted in commands_of(pages):
             done = subprocess.run(

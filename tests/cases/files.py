@@ -51,6 +51,7 @@ BEFORES = {
     "apply": OLD_TREE,
     "scratch": OLD_TREE,
     "pack": B,
+    "pack --sort": B,
     "dump": B,
     "dump --hex": b"what was there before\n",
     "dump --root": B,
@@ -73,6 +74,7 @@ WRITERS = {
     "apply": (["apply", "--root", OLD_ROOT, "old.prl", "out", "changes.rec"], None, TREE, (0, TOLD, b"")),
     "scratch": (["scratch", "--bits", "0", "--out", "out"], records(ABC), TREE, (0, root_text(ABC, 0), b"")),
     "pack": (["pack", "out"], TEXT, A, (0, b"2\n", b"")),
+    "pack --sort": (["pack", "--sort", "out"], b"62 31\n61 31\n", A, (0, b"2\n", b"")),
     "dump": (["dump", "abc.prl", "out"], None, records(ABC), (0, b"", b"")),
     "dump --hex": (["dump", "--hex", "abc.prl", "out"], None, lines(ABC), (0, b"", b"")),
     "dump --root": (["dump", *ROOT, "abc.prl", "out"], None, records(ABC), (0, b"", b"")),
@@ -90,6 +92,7 @@ FAULTS = {
     "apply": (["apply", "--root", OLD_ROOT, "old.prl", "out", "changes.rec", "cut.rec"], None, 3, b"prolly: file 1: record 0 is cut\n"),
     "scratch": (["scratch", "--bits", "0", "--out", "out"], b"\0", 3, b"prolly: file 0: record 0 is cut\n"),
     "pack": (["pack", "out"], b"6\n", 3, b"prolly: line 0: not a pair in hexadecimal\n"),
+    "pack --sort": (["pack", "--sort", "out"], b"62 31\n6\n", 3, b"prolly: line 1: not a pair in hexadecimal\n"),
     "dump": (["dump", "cut.prl", "out"], None, 4, b"prolly: chunk file: truncated\n"),
     "dump --hex": (["dump", "--hex", "cut.prl", "out"], None, 4, b"prolly: chunk file: truncated\n"),
     "dump --root": (["dump", *ROOT, "turned.prl", "out"], None, 4, NOT_LAST),
@@ -391,11 +394,12 @@ def is_on_the_disk(place, command, flags):
 
 
 def is_not_on_the_disk(place):
-    """What is no file can't be brought to the disk."""
+    """What is no file can't be brought to the disk. What is always replaced can't be a device in the first place."""
     laid(place)
-    for words, given, _, _ in WRITERS.values():
+    for command, (words, given, _, _) in WRITERS.items():
         there = in_place_of_out(words, "/dev/null")
-        place.answers(place.run(*there, "--sync", stdin=given or b""), NO_WRITE)
+        wanted = refusal(b"cannot replace /dev/null") if command == "pack --sort" else NO_WRITE
+        place.answers(place.run(*there, "--sync", stdin=given or b""), wanted)
 
 
 # ---- runs that are ended, and limits
@@ -606,7 +610,7 @@ def inputs_written():
             yield f"OUT is a chunk file: {' '.join(words)}", partial(is_a_chunk_file, words=words, name=file.encode())
     for words in (["dump", "in.prl"], ["diff", "in.prl", "old.prl"], ["diff", "old.prl", "in.prl"], ["dump", "--hex", "in.prl"], ["diff", "--stat", "in.prl", "old.prl"]):
         yield f"standard output is a chunk file: {' '.join(words)}", partial(is_printed_to_itself, words=words)
-    for words in (["pack", "in.rec"], ["scratch", "--out", "in.rec"], ["scratch", "--atomic", "--out", "in.rec"], ["build", "in.rec", "/dev/stdin"]):
+    for words in (["pack", "in.rec"], ["pack", "--sort", "in.rec"], ["scratch", "--out", "in.rec"], ["scratch", "--atomic", "--out", "in.rec"], ["build", "in.rec", "/dev/stdin"]):
         yield f"OUT is standard input: {' '.join(words)}", partial(is_standard_input, words=words)
     for words in (["build", "/dev/stdout", "a.rec"], ["pack", "--atomic", "log"], *(in_place_of_out(words, "log") for words, *_ in WRITERS.values())):
         for mode in ("wb", "ab"):

@@ -15,7 +15,7 @@ from cases.scratch import ABC
 from cases.surveys import as_json, explained, record_lines, record_numbers, table, tree_json
 from oracle.escapes import escaped, text_lines
 from oracle.proof import WRONG_VERSION, proof_of
-from oracle.trees import END_SIZE, begun_file, chunk_file, header, overlay, record, records, reference_text, report, root_text, tree
+from oracle.trees import END_SIZE, REMOVED, begun_file, chunk_file, header, overlay, record, records, reference_text, report, root_text, tree
 from support.by_root import ALL, NO_COUNTS, Dump, Get, Nth, Prove, Scan, refusal
 from support.harness import BAD_TEXT_KEY, NO_THREAD, SCARCE, file_differences, hexed, lay_out, shown
 
@@ -76,6 +76,7 @@ def commands():
     both = {"old.prl": chunk_file(OLD, 0), "abc.prl": chunks}
     return [
         Command("pack", ["pack", "out.rec"], b"61 31\n62 -\n", out=b"2\n", made="out.rec", whole=record(b"a", b"1") + record(b"b", None)),
+        *sorted_lines(),
         Command(
             "scratch",
             ["scratch", "--bits", "0", "--out", "out.prl"],
@@ -199,6 +200,20 @@ def text_commands():
         Command("diff --text", ["diff", "--text", "old.prl", "in.prl"], status=1, out=given, before=both),
         Command("prove --text", ["prove", "--text", "in.prl", "\\t", "p"], before=before, made="p", whole=proof),
         Command("verify --text", ["verify", "--text", "--format", "2", root, "\\t", "p"], out=b"\\xff\\\\\n", before={"p": proof}),
+    ]
+
+
+def sorted_lines():
+    """Lines in any order, and those that are refused."""
+    words, lines_in = ["pack", "--sort", "--text", "--removals"], b"b\na\t1\nc\t2\nb\t3\na\n"
+    whole = records([(b"a", REMOVED), (b"b", b"3"), (b"c", b"2")])
+    doubled = b"prolly: line 4: has the key of line 1\n"
+    return [
+        Command("pack --sort", [*words, "out.rec"], lines_in, out=b"3\n", made="out.rec", whole=whole),
+        Command("pack --sort by the least memory, to the disk", [*words, "--memory", "16", "--sync", "out.rec"], lines_in, out=b"3\n", made="out.rec", whole=whole),
+        Command("pack --sort of a bad line", [*words, "out.rec"], b"b\t1\na\t1\t\n", status=3, err=b"prolly: line 1: not a pair of text\n"),
+        Command("pack --sort --unique", [*words, "--unique", "out.rec"], b"b\na\t1\n", out=b"2\n", made="out.rec", whole=records([(b"a", b"1"), (b"b", REMOVED)])),
+        Command("pack --sort --unique of a key twice", [*words, "--unique", "out.rec"], b"b\na\t1\nc\t2\nd\na\n", status=3, err=doubled),
     ]
 
 

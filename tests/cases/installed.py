@@ -13,13 +13,15 @@ from support.completed import differences, installed_shells
 
 TOP = Path(__file__).parent.parent.parent
 
-INSTALLED = [
-    "bin/prolly",
-    "share/bash-completion/completions/prolly",
-    "share/fish/vendor_completions.d/prolly.fish",
-    "share/man/man1/prolly.1",
-    "share/zsh/site-functions/_prolly",
-]
+MANUAL = "share/man/man1/prolly.1"
+
+COMPLETIONS = {
+    "bash": "share/bash-completion/completions/prolly",
+    "fish": "share/fish/vendor_completions.d/prolly.fish",
+    "zsh": "share/zsh/site-functions/_prolly",
+}
+
+INSTALLED = sorted(["bin/load.py", "bin/prolly", MANUAL, *COMPLETIONS.values()])
 
 LIBRARY = ["include/prolly.h", "lib/libprolly.a", "lib/libprolly.so", "lib/libprolly.so.0", "lib/pkgconfig/prolly.pc"]
 """What else there is once `make lib` has made the library."""
@@ -47,7 +49,7 @@ def all_runs(program, _):
         yield "what is installed", differs(files_below(place), sorted(INSTALLED + library()))
         if library():
             yield "a program over the library, as pkg-config finds it", list(linked(place, Path(folder) / "linked"))
-        page, told = (place / INSTALLED[3]).read_text(), helps(program)
+        page, told = (place / MANUAL).read_text(), helps(program)
         yield "the manual has all words of the helps", list(missing(told, page))
         yield "the manual's lists are lists", list(run_together(told, page))
         yield "the manual's sections", differs(re.findall(r'(?m)^\.SH "?([^"\n]*)', page), SECTIONS)
@@ -55,8 +57,8 @@ def all_runs(program, _):
         yield "the manual has no usage's brackets", re.findall(r"<[A-Z]+>", page)
         for lint in LINTS:
             if shutil.which(lint[0]):
-                yield f"the manual, as {lint[0]} reads it", linted([*lint, str(place / INSTALLED[3])])
-        scripts = {"bash": place / INSTALLED[1], "fish": place / INSTALLED[2], "zsh": place / INSTALLED[4]}
+                yield f"the manual, as {lint[0]} reads it", linted([*lint, str(place / MANUAL)])
+        scripts = {shell: place / name for shell, name in COMPLETIONS.items()}
         for shell, script in installed_shells(scripts):
             yield f"what {shell} reads", silent([shell, "-n", str(script)])
             yield f"completions of {shell}", list(differences(shell, script, told[1], Path(folder) / shell))
@@ -97,7 +99,7 @@ def unpacked(program, folder):
     yield from differs(packed(program, folder).read_bytes() == first, True)
     subprocess.run(["tar", "-xzf", archive, "-C", folder], check=True)
     root = Path(str(archive).removesuffix(".tar.gz"))
-    wanted = [*INSTALLED, *library(), "README.md", "LICENSE", "docs/commands.md", "docs/format.md", "examples/python/prolly_read.py"]
+    wanted = [*INSTALLED, *library(), "README.md", "LICENSE", "docs/commands.md", "docs/format.md", "examples/load.py", "examples/python/prolly_read.py"]
     yield from (f"{name} is missing" for name in wanted if not (root / name).is_file())
     yield from differs((root / "bin" / "prolly").read_bytes() == Path(program).read_bytes(), True)
     told = subprocess.run([root / "bin" / "prolly", "--version"], capture_output=True, text=True, check=False).stdout

@@ -40,6 +40,7 @@ KINDS = {
     "apply": "chunk file",
     "scratch": "chunk file",
     "pack": "record file",
+    "pack --sort": "record file",
     "dump": "record file",
     "dump --hex": "file of lines",
     "dump --root": "record file",

@@ -50,7 +50,7 @@ def leaf(*pairs):
 
 def cases(folder):
     """All cases; files too large for a case's text are made in the folder."""
-    return lawful() + damaged() + unread() + gets() + scans() + places() + large(folder)
+    return lawful() + damaged() + unread() + gets() + raws() + scans() + places() + large(folder)
 
 
 def lawful():
@@ -174,6 +174,29 @@ def gets():
         found("the same in format 2", ["get", NUMBERS[2999][0].hex()], NUMBERS, b"5a" * 16 + b"\n", bits=2, version=2),
         found("a key of the greatest length that is not there", ["get", "61" * 1024], ABC, b"", status=1),
     ]
+
+
+EVERY_BYTE = bytes(range(256))
+"""A value of each byte."""
+
+
+def raws():
+    """Values as they are, of a checked file and by its root."""
+    pairs = [(b"a", EVERY_BYTE), (b"b", b""), (b"c", b"\n"), (b"d", b"v" * 65_536)]
+    wanted = [("61", EVERY_BYTE, 0), ("62", b"", 0), ("63", b"\n", 0), ("64", b"v" * 65_536, 0), ("65", b"", 1), ("", b"", 1)]
+    cases = []
+    for version in (1, 2):
+        root = ["--root", reference_text(tree(pairs, 0, version).reference), "--format", str(version)]
+        for key, value, status in wanted:
+            for words in ([], root):
+                cases.append(found(f"{' '.join(words[:1])} --raw, {key!r} in format {version}", ["get", key, "--raw", *words], pairs, value, version=version, status=status))
+    cases += [
+        found("--raw --text", ["get", "a", "--raw", "--text"], pairs, EVERY_BYTE),
+        found("--raw --text, an escape", ["get", "\\x61", "--text", "--raw"], pairs, EVERY_BYTE),
+        refused("--raw, a file that is cut", chunk_file(ABC, 0)[:-1], b"chunk file: truncated", words=("get", "--raw", "in.prl", "61")),
+        refused("--raw, another root", chunk_file(ABC, 0), b"chunk file: chunk 5 is not the one referred to", words=("get", "--raw", "--root", "0" * 32, "in.prl", "61")),
+    ]
+    return cases
 
 
 def scans():

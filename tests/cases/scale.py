@@ -1,6 +1,5 @@
-"""The sort on a cluster (examples/dask) beside that of `sort`: the same rows have the same root."""
+"""The sort on a cluster (examples/dask) beside `pack --sort`: the same rows have the same root."""
 
-import os
 import random
 import subprocess
 import tempfile
@@ -30,25 +29,23 @@ def differences(program, folder):
     rows = some_rows()
     for place in range(TABLES):
         (folder / f"{place}.tsv").write_bytes(b"".join(key + b"\t" + value + b"\n" for key, value in rows[place::TABLES]))
-    (folder / "lines").write_bytes(b"".join(f"{key.hex()} {value.hex()}\n".encode() for key, value in rows))
     tables = [f"{place}.tsv" for place in range(TABLES)]
     words = [INTERPRETER, str(EXAMPLE), "--prolly", program, "cluster.prl", *tables]
     by_cluster = subprocess.run(words, cwd=folder, capture_output=True, text=True, check=False)
     by_sort = subprocess.run(
-        ["bash", "-o", "pipefail", "-c", 'sort lines | "$0" pack rows.rec && "$0" build sort.prl rows.rec', program],
+        ["bash", "-o", "pipefail", "-c", 'cat *.tsv | "$0" pack --sort --text rows.rec && "$0" build sort.prl rows.rec', program],
         cwd=folder,
-        env={**os.environ, "LC_ALL": "C"},
         capture_output=True,
         text=True,
         check=False,
     )
-    for name, done in (("the cluster", by_cluster), ("sort", by_sort)):
+    for name, done in (("the cluster", by_cluster), ("pack --sort", by_sort)):
         if done.returncode != 0:
             return [f"{name}: status {done.returncode}, {done.stderr[-300:]!r}"]
     if by_cluster.stdout != by_sort.stdout.splitlines(keepends=True)[-1]:
-        return [f"the cluster: {by_cluster.stdout!r}, sort: {by_sort.stdout!r}"]
+        return [f"the cluster: {by_cluster.stdout!r}, pack --sort: {by_sort.stdout!r}"]
     left = sorted(path.name for path in folder.iterdir())
-    wanted = sorted([*tables, "lines", "rows.rec", "cluster.prl", "sort.prl"])
+    wanted = sorted([*tables, "rows.rec", "cluster.prl", "sort.prl"])
     return [] if left == wanted else [f"{left} are there, wanted {wanted}"]
 
 

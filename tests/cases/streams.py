@@ -24,7 +24,7 @@ def is_the_same_pipe(place):
         os.close(writer)
         with os.fdopen(reader, "rb") as pipe:
             came = pipe.read()
-        if command in ("build", "apply", "scratch", "pack") or "--stat" in command:
+        if command in ("build", "apply", "scratch", "pack", "pack --sort") or "--stat" in command:
             place.answers(answer, refusal(b"OUT is also standard output"))
             wanted = b""
         else:

@@ -87,6 +87,8 @@ def merged(readings):
 def packed(text, is_text=False, has_removals=False):
     """The changes of a text's lines, or the line that tells of the first faulty one. The lines are in hexadecimal or, with
     `--text`, text, and `--removals` may be given."""
+    if is_text and text.startswith(b"\xef\xbb\xbf"):
+        return None, b"line 0: begins with a byte order mark"
     lines = text.split(b"\n")
     if lines[-1] == b"":
         lines.pop()
