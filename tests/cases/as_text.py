@@ -153,7 +153,7 @@ CHARACTERS = {
     "a separator of lines of Unicode": "\u2028",
     "the last before the surrogates": "\ud7ff",
     "the first behind the surrogates": "\ue000",
-    "the mark of the order of bytes": "\ufeff",
+    "the character before the byte order mark": "\ufefe",
     "the mark of a replacement": "\ufffd",
     "no character, but lawful": "\uffff",
     "the least of four bytes": "\U00010000",
@@ -215,11 +215,14 @@ CONTROLS = {
     "the bytes of one in a character of three": (b"\xe2\x9b\x85\xc2\x9b", b"\xe2\x9b\x85" + rb"\xc2\x9b"),
     "a cut character, and a control character": (b"\xe2\x82\xc2\x9b", rb"\xe2\x82\xc2\x9b"),
     "a first byte, and a control character": (b"\xc2\xc2\x85", rb"\xc2\xc2\x85"),
+    "a byte order mark": (b"\xef\xbb\xbf", rb"\xef\xbb\xbf"),
+    "a byte order mark in the middle": (b"a\xef\xbb\xbfb", rb"a\xef\xbb\xbfb"),
+    "a cut character, and a byte order mark": (b"\xef\xbb\xef\xbb\xbf", rb"\xef\xbb\xef\xbb\xbf"),
     "two line ends": (b"a\r\nb\r\n", rb"a\r\nb\r\n"),
     "a backslash, and one behind it": (b"\\\\n", rb"\\\\n"),
     "what looks like an escape": (rb"\x41\t", rb"\\x41\\t"),
 }
-"""Control characters and backslashes, with their text."""
+"""Control characters, byte order marks and backslashes, with their text."""
 
 
 def characters():

@@ -15,8 +15,8 @@ MIXED = [(b"a", b"1"), (b"b", REMOVED), (b"c", b"2" * 300), (b"d", REMOVED), (b"
 
 
 def chosen(contents, wanted):
-    """The bits for these record files, and the line that says which: of the sizes 2^Q times the mean, the first one that is
-    at least wanted / 1.4."""
+    """The bits for these record files, and the line that says which: of the sizes 2^Q times the mean, Q from 2 on, the first
+    one that is at least wanted / 1.4."""
     left, sizes = SAMPLE_BYTES, []
     for content in contents:
         front = content[:left]
@@ -25,7 +25,7 @@ def chosen(contents, wanted):
     if not sizes:
         return 12, b"prolly: --bits 12, since no record was seen\n"
     mean = sum(sizes) // len(sizes)
-    bits = next((bits for bits in range(24) if wanted * 10 <= mean * 2**bits * 14), 24)
+    bits = next((bits for bits in range(2, 24) if wanted * 10 <= mean * 2**bits * 14), 24)
     return bits, f"prolly: --bits {bits}, since a record has {mean} bytes on average\n".encode()
 
 
@@ -67,7 +67,7 @@ def made(name, files, wanted, words=(), pipe=False):
 
 
 def built(wanted):
-    """Trees of several record files, none of which is opened twice. By no bits they have as many levels as a build makes."""
+    """Trees of several record files, none of which is opened twice."""
     numbers = numbered(2_000)
     halves = [numbers[0::2], [(key, b"longer" * 9) for key, _ in numbers[1::2]]]
     yield made("no file", [], wanted, ["--quiet"])

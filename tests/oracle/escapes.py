@@ -26,7 +26,8 @@ def shown_character(character):
     if code in LETTERS:
         return b"\\" + LETTERS[code]
     own = character.encode()
-    return b"".join(map(by_digits, own)) if code < 0x20 or 0x7F <= code <= 0x9F else own
+    hidden = code < 0x20 or 0x7F <= code <= 0x9F or code == 0xFEFF
+    return b"".join(map(by_digits, own)) if hidden else own
 
 
 def by_digits(byte):

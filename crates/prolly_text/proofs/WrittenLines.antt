@@ -11,10 +11,11 @@ use Rattle.prolly_entry.specs.lemmas.Lists.{all_append}
 use Rattle.prolly_text.specs.Notations.{IsWritten, separator, written}
 use Rattle.prolly_text.specs.declared.notation.Notation.{Notation}
 use Rattle.prolly_text.specs.declared.notation.Notation.TheVariants.{Hex, Text}
-use Rattle.prolly_text.specs.lemmas.Notations.{one_reading, written_is_read}
+use Rattle.prolly_text.specs.lemmas.Marks.{BeginsUnmarked, shown_unmarked}
+use Rattle.prolly_text.specs.lemmas.Notations.{one_reading, written_is_read, written_shows}
 use Rattle.prolly_text.specs.declared.lines.form.LineForm.{LineForm}
 use Rattle.prolly_text.specs.declared.lines.form.RecordForm.TheVariants.{Lines}
-use Rattle.prolly_text.specs.Lines.{lines_of, CutsAt, IsLineOf, IsPairLine, IsRemovalLine}
+use Rattle.prolly_text.specs.Lines.{lines_of, CutsAt, IsLineOf, IsMarked, IsPairLine, IsRemovalLine}
 use Rattle.prolly_text.specs.PackedLines.{HasLine, IsOfBytes, LinesArePacked, ReadsRemovals}
 use Rattle.prolly_text.specs.PackedLines.{StandsFor}
 use Rattle.prolly_text.specs.RecordForms.{change_text, record_line, removal_mark, written_records}
@@ -197,6 +198,29 @@ one_record form r s h line = go r.value s.value h.value line
 
 -- ---- all lines
 
+-- What follows the key in a line.
+abbrev behind_key : Notation → Option (List ℕ) → List ℕ → List ℕ
+behind_key notation value rest = (change_text notation value ++ 0x0A ∷ []) ++ rest
+
+no_mark_behind : (value : Option (List ℕ)) (rest : List ℕ) →
+    BeginsUnmarked (behind_key Text value rest)
+no_mark_behind None rest after e = cc
+no_mark_behind (Some value) rest after e = cc
+
+-- Lines that were written begin with no byte order mark.
+unmarked : (notation : Notation) (records : List Record) → AllByRecursion IsOfBytes records →
+    IsMarked notation (written_records (Lines notation) records) → ⊥
+unmarked Hex records h marked = marked
+unmarked Text [] h marked = cc
+unmarked Text (r ∷ records) h marked =
+    let rest = written_records (Lines Text) records in
+    shown_unmarked (written Text r.key) (behind_key Text r.value rest)
+    (written_shows Text r.key h.0.key) (no_mark_behind r.value rest)
+    (
+      marked.0,
+      sym (append_assoc (written Text r.key) (change_text Text r.value ++ 0x0A ∷ []) rest) ∙ marked.1,
+    )
+
 all_stand : (form : LineForm) (records : List Record) → AllByRecursion IsRecord records →
     AllByRecursion IsOfBytes records → AllByRecursion (HasLine form) records →
     AllZip (StandsFor form) (map (line_text form.notation) records) records
@@ -215,7 +239,7 @@ same_records form (r ∷ records) (s ∷ others) h k =
     let rest = same_records form records others h.1 k.1 in cc
 
 pub lines_are_packed : LinesArePacked
-lines_are_packed form records old new count h k l unmarked =
+lines_are_packed form records old new count h k l =
     let lines = lines_are form.notation records k in (
       λ packs. let same = same_records form records packs.records k
           (subst (λ ls. AllZip (StandsFor form) ls packs.records) lines packs.are.stand) in (
@@ -225,7 +249,7 @@ lines_are_packed form records old new count h k l unmarked =
       λ is. record {
         records = records;
         are = record {
-          unmarked = unmarked;
+          unmarked = unmarked form.notation records k;
           stand = subst (λ ls. AllZip (StandsFor form) ls records) (sym lines)
               (all_stand form records h k l);
         };

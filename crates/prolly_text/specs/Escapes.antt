@@ -1,7 +1,7 @@
 -- How bytes are written as text: characters as they are, and backslash escapes. (They are those of
 -- PostgreSQL's COPY.)
 use Rattle.std.specs.Prelude.{ℕ, zero, suc, List, [], ◌∷◌, ◌++◌, Option, Some, None, length, take}
-use Rattle.std.specs.Prelude.{drop, ◌==◌, if◌then◌else◌}
+use Rattle.std.specs.Prelude.{Bool, drop, ◌==◌, ◌||◌, if◌then◌else◌}
 use Rattle.std.specs.Char.{encode_utf8, is_control}
 use Rattle.std.specs.List.{flat_map}
 use Rattle.std.specs.Str.{chars}
@@ -25,11 +25,16 @@ letter_of character =
 abbrev pub hex_escape : ℕ → List ℕ
 hex_escape byte = 0x5C ∷ 0x78 ∷ encode_lower (byte ∷ [])
 
--- A character that has no letter: a control character (below 20, or 7F to 9F) as the digits of its
--- bytes, and every other one as it stands.
+-- A character that nobody sees: a control character (below 20, or 7F to 9F), and the byte order
+-- mark.
+abbrev pub is_hidden : ℕ → Bool
+is_hidden character = is_control character || character == 0xFEFF
+
+-- A character that has no letter: a hidden one as the digits of its bytes, and every other one as
+-- it stands.
 abbrev pub shown_plain : ℕ → List ℕ
 shown_plain character =
-    if is_control character then flat_map hex_escape (encode_utf8 character)
+    if is_hidden character then flat_map hex_escape (encode_utf8 character)
     else encode_utf8 character
 
 -- A character: a backslash and its letter where it has one.

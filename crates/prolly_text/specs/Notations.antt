@@ -1,11 +1,10 @@
 -- The two ways in which the bytes of keys and values are written.
 use Rattle.std.specs.Prelude.{◌≡◌, ◌≢◌, ℕ, List, Ok}
-use Rattle.std.specs.Char.{is_control}
 use Rattle.std.specs.List.{AllByRecursion}
 use Rattle.std.specs.Str.{IsUtf8, NoCharPasses}
 use Rattle.hex.specs.Hex.{decode_of, encode_lower}
 use Rattle.prolly_entry.specs.Byte.{IsByte}
-use Rattle.prolly_text.specs.Escapes.{text_of}
+use Rattle.prolly_text.specs.Escapes.{is_hidden, text_of}
 use Rattle.prolly_text.specs.Pieces.{IsTextOf}
 use Rattle.prolly_text.specs.declared.notation.Notation.{Notation}
 use Rattle.prolly_text.specs.declared.notation.Notation.TheVariants.{Hex, Text}
@@ -53,11 +52,11 @@ abbrev pub TextsStandApart : Type 0
 TextsStandApart = (notation : Notation) (text bytes : List ℕ) → IsWritten notation text bytes →
     AllByRecursion (StandsWithin notation) text
 
--- The bytes are UTF-8, and none of their characters is a control character: below 20, or 7F to 9F.
+-- The bytes are UTF-8, and none of their characters is hidden.
 abbrev pub IsShown : List ℕ → Type 0
-IsShown text = IsUtf8 text × NoCharPasses is_control text
+IsShown text = IsUtf8 text × NoCharPasses is_hidden text
 
--- Law: what is written is UTF-8 without a control character.
+-- Law: what is written is UTF-8, without a control character and without a byte order mark.
 abbrev pub WrittenShows : Type 0
 WrittenShows = (notation : Notation) (bytes : List ℕ) → AllByRecursion IsByte bytes →
     IsShown (written notation bytes)

@@ -191,12 +191,10 @@ ReadsRemovals Text removals = removals ≡ true
 abbrev pub HasLine : LineForm → Record → Type 0
 HasLine form r = IfNone r.value (ReadsRemovals form.notation form.removals)
 
--- Law: packing the lines of lawful records gives their record file, and nothing else, where the
--- first key does not begin with a byte order mark.
+-- Law: packing the lines of lawful records gives their record file, and nothing else.
 abbrev pub LinesArePacked : Type 0
 LinesArePacked = (form : LineForm) (records : List Record) (old new : List ℕ) (count : ℕ) →
     AllByRecursion IsRecord records → AllByRecursion IsOfBytes records →
     AllByRecursion (HasLine form) records →
-    (IsMarked form.notation (written_records (Lines form.notation) records) → ⊥) →
     Packs form (written_records (Lines form.notation) records) old new count ↔
     ((new ≡ old ++ written_records Records records) × (count ≡ length records))

@@ -20,12 +20,12 @@ pub fn texts_stand_apart()
     ensures { TextsStandApart }
 {}
 
-/// What is written is UTF-8, and no character of it is a control character.
+/// What is written is UTF-8, and no character of it is a control character or a byte order mark.
 pub fn written_shows()
     ensures { WrittenShows }
 {}
 
-/// What a line shows of a name stands for that name alone, as text, and has no control character.
+/// What a line shows of a name stands for that name alone, as text, and has no hidden character.
 pub fn names_show()
     ensures { NamesShow }
 {}
@@ -35,8 +35,7 @@ pub fn lines_are_short()
     ensures { LinesAreShort }
 {}
 
-/// What `pack` makes of lines that were written is the record file of the same records, where the
-/// text does not begin with a byte order mark.
+/// What `pack` makes of lines that were written is the record file of the same records.
 pub fn lines_are_packed()
     ensures { LinesArePacked }
 {}

@@ -5,17 +5,21 @@ use Rattle.std.proofs.Math.Nat.{eq-or-lt_of_le, mul_right_comm, pow-suc}
 use Rattle.std.proofs.Math.Numerals.{suc-eq-add-one}
 use Rattle.prolly_tool.specs.ChunkBytes.{AreLeast, IsEnough, chunk_size}
 
--- Fewer bits are not enough, and the size is that by these.
+-- Fewer bits from 2 on are not enough, and the size is that by these.
 pub record IsDoubled (entry wanted bits size : ℕ) : Type 0 where
+  pub some : 2 ≤ bits
   pub size_is : size ≡ chunk_size entry bits
   pub small : size ≤ 10000000000
-  pub least : (fewer : ℕ) → fewer < bits → IsEnough (chunk_size entry fewer) wanted → ⊥
+  pub least : (fewer : ℕ) → 2 ≤ fewer → fewer < bits →
+      IsEnough (chunk_size entry fewer) wanted → ⊥
 
-pub not_doubled : (entry wanted : ℕ) → entry ≤ 1000000 → IsDoubled entry wanted 0 entry
-not_doubled entry wanted small = record {
+pub not_doubled : (entry wanted size : ℕ) → entry ≤ 1000000 → size ≡ entry * 4 →
+    IsDoubled entry wanted 2 size
+not_doubled entry wanted size small is = record {
+  some = omega arith;
   size_is = omega arith;
   small = omega arith;
-  least = λ fewer below. absurd (omega arith);
+  least = λ fewer some below. absurd (omega arith);
 }
 
 -- The size by one bit more is twice the size.
@@ -27,21 +31,23 @@ pub one_doubled : (entry wanted bits size : ℕ) → wanted < 4294967296
     → IsDoubled entry wanted bits size → (IsEnough size wanted → ⊥)
     → IsDoubled entry wanted (bits + 1) (size * 2)
 one_doubled entry wanted bits size within h few = record {
+  some = omega (arith, h.some);
   size_is = ap (λ n. n * 2) h.size_is ∙ sym (doubled entry bits);
   small = omega (arith, few);
-  least = λ fewer below. at fewer (eq-or-lt_of_le (omega arith));
+  least = λ fewer some below. at fewer some (eq-or-lt_of_le (omega arith));
 }
   where
-    at : (fewer : ℕ) → (fewer ≡ bits) ⊎ (fewer < bits) →
+    at : (fewer : ℕ) → 2 ≤ fewer → (fewer ≡ bits) ⊎ (fewer < bits) →
         IsEnough (chunk_size entry fewer) wanted → ⊥
-    at fewer (inl same) enough = few (subst (λ n. IsEnough n wanted)
+    at fewer some (inl same) enough = few (subst (λ n. IsEnough n wanted)
         (ap (chunk_size entry) same ∙ sym h.size_is) enough)
-    at fewer (inr below) enough = h.least fewer below enough
+    at fewer some (inr below) enough = h.least fewer some below enough
 
 -- The bits are the least ones where the size is enough, or all are tried.
 pub least_at : (entry wanted bits size : ℕ) → bits ≤ 24 → IsDoubled entry wanted bits size
     → (bits < 24 → IsEnough size wanted) → AreLeast entry wanted bits
 least_at entry wanted bits size within h enough = record {
+  some = h.some;
   within = within;
   enough = λ more. subst (λ n. IsEnough n wanted) h.size_is (enough more);
   least = h.least;

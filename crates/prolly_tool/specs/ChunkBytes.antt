@@ -53,12 +53,15 @@ chunk_size entry bits = 2 ^ bits * entry
 abbrev pub IsEnough : ℕ → ℕ → Type 0
 IsEnough size wanted = 5 * wanted ≤ 7 * size
 
--- The least bits by which the size of a chunk is enough, or the most bits where fewer are not. So where
--- some bits are enough, and 0 bits are not, the size lies between 5/7 and 10/7 of what is wanted.
+-- The least bits from 2 to 24 by which the size of a chunk is enough, or 24 bits where fewer are not.
+-- So where some bits are enough, and 2 bits are not, the size lies between 5/7 and 10/7 of what is
+-- wanted.
 pub record AreLeast (entry wanted bits : ℕ) : Type 0 where
+  pub some : 2 ≤ bits
   pub within : bits ≤ 24
   pub enough : bits < 24 → IsEnough (chunk_size entry bits) wanted
-  pub least : (fewer : ℕ) → fewer < bits → IsEnough (chunk_size entry fewer) wanted → ⊥
+  pub least : (fewer : ℕ) → 2 ≤ fewer → fewer < bits →
+      IsEnough (chunk_size entry fewer) wanted → ⊥
 
 -- The bits that are chosen by the mean of the entries that were seen; none where there were none.
 abbrev pub IsChoice : Sampled → ℕ → Option ChosenBits → Type 0

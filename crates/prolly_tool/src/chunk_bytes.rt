@@ -14,6 +14,10 @@ use std::marker::Model;
 /// How many bytes are read before bits are chosen, at most.
 const SAMPLE_BYTES: usize = 1_000_000;
 
+/// The least bits that are chosen. By fewer a node has two or three children on average, and the
+/// levels of a build hold few pairs.
+const LEAST_BITS: u8 = 2;
+
 /// The most bits of a cut.
 const MOST_BITS: u8 = 24;
 
@@ -97,8 +101,8 @@ impl Sample {
     }
 
     /// The bits by which a chunk of entries as the sample has them has about so many bytes: the least
-    /// bits by which these are at most 1.4 times the size that a chunk has on average, or 24 bits. None
-    /// where the sample has no entry.
+    /// bits, from 2 on, by which these are at most 1.4 times the size that a chunk has on average, or
+    /// 24 bits. None where the sample has no entry.
     pub fn bits_for(&self, chunk_bytes: u32) -> Option<ChosenBits>
         ensures { IsChoice self.now chunk_bytes result }
     {
@@ -153,14 +157,14 @@ fn puts_in(front: &[u8]) -> Puts
     }
 }
 
-/// The least bits by which `wanted` is at most 1.4 times the size of a chunk, where an entry has so
-/// many bytes; 24 where fewer are not enough.
+/// The least bits, from 2 on, by which `wanted` is at most 1.4 times the size of a chunk, where an
+/// entry has so many bytes; 24 where fewer are not enough.
 fn least_bits(entry: u64, wanted: u32) -> u8
     requires { entry ≤ 1000000 }
     ensures { AreLeast entry wanted result }
 {
-    let mut size = entry;
-    for bits in 0..MOST_BITS {
+    let mut size = entry << LEAST_BITS;
+    for bits in LEAST_BITS..MOST_BITS {
         if is_enough(size, wanted) {
             return bits;
         }

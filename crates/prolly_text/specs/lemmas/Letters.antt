@@ -1,10 +1,9 @@
 -- The characters that have a letter, and those that stand for themselves.
 use Rattle.std.proofs.Common.{◌≡◌, ℕ, ◌<◌, ◌≤◌, true, false, Some, None, arith}
 use Rattle.std.proofs.lemmas.Bool.Decides.{nat_tests}
-use Rattle.std.specs.Char.{is_control}
 use Rattle.std.specs.Prelude.{◌==◌}
 use Rattle.hex.specs.Hex.{is_hex_digit}
-use Rattle.prolly_text.specs.Escapes.{letter_of}
+use Rattle.prolly_text.specs.Escapes.{is_hidden, letter_of}
 use Rattle.prolly_text.specs.Pieces.{is_plain, named_byte}
 
 -- A letter names the character that it stands for, which is one byte.
@@ -18,9 +17,9 @@ letter_low character letter h = grind (arith, nat_tests)
 pub no_backslash : (character : ℕ) → letter_of character ≡ None → (character == 0x5C) ≡ false
 no_backslash character h = grind (arith, nat_tests)
 
--- What is no control character and no backslash stands for itself, and so does each byte that is
+-- What is not hidden and no backslash stands for itself, and so does each byte that is
 -- not ASCII.
-pub plain_low : (character : ℕ) → is_control character ≡ false → (character == 0x5C) ≡ false →
+pub plain_low : (character : ℕ) → is_hidden character ≡ false → (character == 0x5C) ≡ false →
     is_plain character ≡ true
 plain_low character h k = grind (arith, nat_tests)
 

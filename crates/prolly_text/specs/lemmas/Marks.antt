@@ -1,7 +1,13 @@
--- A byte order mark, of a text and of its first line.
-use Rattle.std.proofs.Common.{◌≡◌, ℕ, Bool, true, false, List, [], ◌∷◌, sym, ap, ◌∙◌}
-use Rattle.std.specs.Prelude.{◌==◌, if◌then◌else◌}
+-- A byte order mark: of a text, of its first line, and of what is printed, which has none.
+use Rattle.std.proofs.Common.{◌≡◌, ℕ, ◌+◌, ◌/◌, ◌%◌, Bool, true, false, cond, List, [], ◌∷◌, ◌++◌}
+use Rattle.std.proofs.Common.{refl, sym, ap, ◌∙◌, append_assoc, arith}
+use Rattle.std.proofs.lemmas.Bool.Decides.{nat_tests}
+use Rattle.std.specs.Char.{encode_utf8}
+use Rattle.std.specs.Prelude.{◌==◌, if◌then◌else◌, nat_lt}
+use Rattle.std.specs.Str.{encode_utf8_all, NonePass}
 use Rattle.prolly_tree.specs.Split.{in_front}
+use Rattle.prolly_text.specs.Escapes.{is_hidden}
+use Rattle.prolly_text.specs.Notations.{IsShown}
 use Rattle.prolly_text.specs.Lines.{IsMarked, lines_of}
 use Rattle.prolly_text.specs.declared.notation.Notation.{Notation}
 use Rattle.prolly_text.specs.declared.notation.Notation.TheVariants.{Hex, Text}
@@ -78,3 +84,51 @@ none_marked Text text e h = some (lines_of h.0) (sym (ap lines_of h.1) ∙ e)
         in_front 0xEF (in_front 0xBB (in_front 0xBF lines)) ≡ [] → ⊥
     some [] e = cc
     some (l ∷ lines) e = cc
+
+-- ---- what is printed
+
+-- The bytes that are given are those of a character, and others behind them. Where they begin with
+-- a mark, it is the character.
+mark_is_first : (character : ℕ) (behind rest : List ℕ) →
+    encode_utf8 character ++ behind ≡ 0xEF ∷ 0xBB ∷ 0xBF ∷ rest → character ≡ 0xFEFF
+unfolding encode_utf8
+mark_is_first c behind rest = go (nat_lt c 128) refl (nat_lt c 2048) refl (nat_lt c 65536) refl
+  where
+    last : ℕ
+    last = 128 + c % 64
+
+    third : ℕ
+    third = 128 + c / 64 % 64
+
+    go : (one : Bool) → nat_lt c 128 ≡ one → (two : Bool) → nat_lt c 2048 ≡ two →
+        (three : Bool) → nat_lt c 65536 ≡ three →
+        cond one (c ∷ []) (cond two ((192 + c / 64) ∷ last ∷ [])
+        (cond three ((224 + c / 4096) ∷ third ∷ last ∷ [])
+        ((240 + c / 262144) ∷ (128 + c / 4096 % 64) ∷ third ∷ last ∷ []))) ++ behind
+        ≡ 0xEF ∷ 0xBB ∷ 0xBF ∷ rest → c ≡ 0xFEFF
+    go true e two f three g h = let first : c ≡ 0xEF = cc in grind (arith, nat_tests)
+    go false e true f three g h = let first : 192 + c / 64 ≡ 0xEF = cc in grind (arith, nat_tests)
+    go false e false f true g h =
+        let first : 224 + c / 4096 ≡ 0xEF = cc in
+        let second : 128 + c / 64 % 64 ≡ 0xBB = cc in
+        let last : 128 + c % 64 ≡ 0xBF = cc in omega arith
+    go false e false f false g h = let first : 240 + c / 262144 ≡ 0xEF = cc in omega arith
+
+-- Behind characters none of which is hidden no byte of a mark begins a text.
+abbrev pub BeginsUnmarked : List ℕ → Type 0
+BeginsUnmarked behind = (rest : List ℕ) → behind ≡ 0xEF ∷ rest → ⊥
+
+unmarked : (characters behind : List ℕ) → NonePass is_hidden characters →
+    BeginsUnmarked behind → IsMarked Text (encode_utf8_all characters ++ behind) → ⊥
+unmarked [] behind none begins marked = begins (0xBB ∷ 0xBF ∷ marked.0) marked.1
+unmarked (c ∷ characters) behind none begins marked =
+    let is = mark_is_first c (encode_utf8_all characters ++ behind) marked.0
+        (sym (append_assoc (encode_utf8 c) (encode_utf8_all characters) behind) ∙ marked.1) in
+    let hidden : true ≡ false = sym (ap is_hidden is) ∙ none.0 in cc
+
+-- What shows has no mark in front of it, whatever stands behind it.
+pub shown_unmarked : (text behind : List ℕ) → IsShown text → BeginsUnmarked behind →
+    IsMarked Text (text ++ behind) → ⊥
+shown_unmarked text behind shown begins marked =
+    unmarked shown.1.0 behind shown.1.2 begins
+    (marked.0, ap (λ t. t ++ behind) shown.1.1 ∙ marked.1)

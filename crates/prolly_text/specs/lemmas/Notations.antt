@@ -27,12 +27,12 @@ pub one_reading : OneTextReading
 one_reading Hex text a b h k = decode_of-same text a b h k
 one_reading Text text a b h k = one_text text a b h k
 
--- What is written is UTF-8 without a control character.
+-- What is written is UTF-8 without a hidden character.
 pub written_shows : WrittenShows
 written_shows Hex bytes h = digits_show (encode_lower bytes) bytes (hex_read bytes h)
 written_shows Text bytes h = (text_spelled bytes h).1
 
--- What a line shows of a name stands for that name, and has no control character.
+-- What a line shows of a name stands for that name, and has no hidden character.
 pub names_show : NamesShow
 names_show name valid h = valid_spelled shown_in_name name_spells name valid h
 

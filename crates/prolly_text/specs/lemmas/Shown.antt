@@ -1,20 +1,21 @@
--- What is UTF-8 without a control character.
+-- What is UTF-8 without a hidden character.
 use Rattle.std.proofs.Common.{◌≡◌, ℕ, false, List, [], ◌∷◌, ◌++◌, subst, arith, append-nil}
 use Rattle.std.proofs.lemmas.Bool.Decides.{nat_tests}
 use Rattle.std.proofs.lemmas.Str.{encode_ascii, IsUtf8-append, IsUtf8-encode, IsUtf8-nil}
 use Rattle.std.proofs.lemmas.Str.{NoCharPasses-append, NoCharPasses-nil}
-use Rattle.std.specs.Char.{encode_utf8, is_control, IsScalar}
+use Rattle.std.specs.Char.{encode_utf8, IsScalar}
 use Rattle.std.specs.List.{AllByRecursion}
+use Rattle.prolly_text.specs.Escapes.{is_hidden}
 use Rattle.prolly_text.specs.Notations.{IsShown}
 use Rattle.prolly_text.specs.lemmas.Letters.{IsPrintable}
 
 pub nothing_shows : IsShown []
-nothing_shows = (IsUtf8-nil, NoCharPasses-nil is_control)
+nothing_shows = (IsUtf8-nil, NoCharPasses-nil is_hidden)
 
 pub both_show : (a b : List ℕ) → IsShown a → IsShown b → IsShown (a ++ b)
-both_show a b h k = (IsUtf8-append a b h.0 k.0, NoCharPasses-append is_control a b h.1 k.1)
+both_show a b h k = (IsUtf8-append a b h.0 k.0, NoCharPasses-append is_hidden a b h.1 k.1)
 
-pub one_shows : (character : ℕ) → IsScalar character → is_control character ≡ false →
+pub one_shows : (character : ℕ) → IsScalar character → is_hidden character ≡ false →
     IsShown (encode_utf8 character)
 one_shows character scalar plain = (
   IsUtf8-encode character scalar,

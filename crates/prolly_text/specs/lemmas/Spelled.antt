@@ -6,13 +6,14 @@ use Rattle.std.proofs.lemmas.Bool.{cases_lt}
 use Rattle.std.proofs.lemmas.Bool.Decides.{nat_tests}
 use Rattle.std.proofs.lemmas.Str.{encode_ascii, encodes-chars}
 use Rattle.std.specs.Prelude.{◌==◌}
-use Rattle.std.specs.Char.{encode_utf8, is_control, IsScalar}
+use Rattle.std.specs.Char.{encode_utf8, IsScalar}
 use Rattle.std.specs.List.{flat_map, AllByRecursion}
 use Rattle.std.specs.Str.{chars, encode_utf8_all, IsUtf8}
 use Rattle.hex.specs.Hex.{encode_lower}
 use Rattle.prolly_entry.specs.Byte.{IsByte}
 use Rattle.prolly_entry.specs.lemmas.Lists.{all_back, all_front}
-use Rattle.prolly_text.specs.Escapes.{hex_escape, letter_of, shown_by, shown_character, shown_plain}
+use Rattle.prolly_text.specs.Escapes.{hex_escape, is_hidden, letter_of, shown_by, shown_character}
+use Rattle.prolly_text.specs.Escapes.{shown_plain}
 use Rattle.prolly_text.specs.Names.{shown_in_name}
 use Rattle.prolly_text.specs.Notations.{IsShown}
 use Rattle.prolly_text.specs.Pieces.{is_plain, IsTextOf}
@@ -84,9 +85,9 @@ plain_bytes character plain = elim (cases_lt character 0x80) [
 
 plain_spelled : (character : ℕ) → IsCharacter character → (character == 0x5C) ≡ false →
     IsSpelled (shown_plain character) (encode_utf8 character)
-plain_spelled character h other = go (is_control character) refl
+plain_spelled character h other = go (is_hidden character) refl
   where
-    go : (escaped : Bool) → is_control character ≡ escaped → IsSpelled
+    go : (escaped : Bool) → is_hidden character ≡ escaped → IsSpelled
         (cond escaped (flat_map hex_escape (encode_utf8 character)) (encode_utf8 character))
         (encode_utf8 character)
     go true e = escapes_spelled (encode_utf8 character) h.1

@@ -2,8 +2,8 @@
 ghost use Rattle.std.specs.Prelude.{◌≡◌, ◌++◌, OnOk};
 ghost use Rattle.std.specs.List.{flat_map};
 ghost use Rattle.std.specs.Str.{chars};
-ghost use Rattle.prolly_text.specs.Escapes.{hex_escape, letter_of, shown_character, shown_plain};
-ghost use Rattle.prolly_text.specs.Escapes.{text_of};
+ghost use Rattle.prolly_text.specs.Escapes.{hex_escape, is_hidden, letter_of, shown_character};
+ghost use Rattle.prolly_text.specs.Escapes.{shown_plain, text_of};
 
 use crate::notation::append_hex;
 use std::alloc::{AllocError, Global};
@@ -50,8 +50,8 @@ fn append_character(alloc: Global, out: &mut Vec<u8>, character: char) -> Result
     append_plain(alloc, out, character)
 }
 
-/// Appends a character that has no letter: a control character by its bytes, and every other one
-/// as it stands.
+/// Appends a character that has no letter: a hidden one by its bytes, and every other one as it
+/// stands.
 pub(crate) fn append_plain(
     alloc: Global,
     out: &mut Vec<u8>,
@@ -60,7 +60,7 @@ pub(crate) fn append_plain(
     ensures { OnOk result (out.new.items ≡ out.old.items ++ shown_plain character) }
 {
     let mut buffer = [0; 4];
-    if character.is_control() {
+    if is_hidden(character) {
         return append_escapes(alloc, out, character.encode_utf8(&mut buffer).as_bytes());
     }
     // Most text is ASCII, for which a push is shorter than a copy.
@@ -69,6 +69,14 @@ pub(crate) fn append_plain(
         return Ok(());
     }
     out.extend_from_slice(character.encode_utf8(&mut buffer).as_bytes())
+}
+
+/// Whether nobody sees the character. A byte order mark is hidden so that no text begins with one,
+/// which `pack` would refuse.
+fn is_hidden(character: char) -> bool
+    ensures { result ≡ is_hidden character }
+{
+    character.is_control() || character == '\u{feff}'
 }
 
 /// Appends `\x` and the byte in hexadecimal.
