@@ -215,8 +215,7 @@ unmarked Text [] h marked = cc
 unmarked Text (r ∷ records) h marked =
     let rest = written_records (Lines Text) records in
     shown_unmarked (written Text r.key) (behind_key Text r.value rest)
-    (written_shows Text r.key h.0.key) (no_mark_behind r.value rest)
-    (
+    (written_shows Text r.key h.0.key) (no_mark_behind r.value rest) (
       marked.0,
       sym (append_assoc (written Text r.key) (change_text Text r.value ++ 0x0A ∷ []) rest) ∙ marked.1,
     )

@@ -87,8 +87,7 @@ none_marked Text text e h = some (lines_of h.0) (sym (ap lines_of h.1) ∙ e)
 
 -- ---- what is printed
 
--- The bytes that are given are those of a character, and others behind them. Where they begin with
--- a mark, it is the character.
+-- Where the bytes of a character, and others behind them, begin with a mark, it is the character.
 mark_is_first : (character : ℕ) (behind rest : List ℕ) →
     encode_utf8 character ++ behind ≡ 0xEF ∷ 0xBB ∷ 0xBF ∷ rest → character ≡ 0xFEFF
 unfolding encode_utf8
@@ -114,16 +113,17 @@ mark_is_first c behind rest = go (nat_lt c 128) refl (nat_lt c 2048) refl (nat_l
         let last : 128 + c % 64 ≡ 0xBF = cc in omega arith
     go false e false f false g h = let first : 240 + c / 262144 ≡ 0xEF = cc in omega arith
 
--- Behind characters none of which is hidden no byte of a mark begins a text.
+-- The bytes do not begin with the first one of a mark.
 abbrev pub BeginsUnmarked : List ℕ → Type 0
 BeginsUnmarked behind = (rest : List ℕ) → behind ≡ 0xEF ∷ rest → ⊥
 
+-- Characters none of which is hidden do not begin with a mark.
 unmarked : (characters behind : List ℕ) → NonePass is_hidden characters →
     BeginsUnmarked behind → IsMarked Text (encode_utf8_all characters ++ behind) → ⊥
 unmarked [] behind none begins marked = begins (0xBB ∷ 0xBF ∷ marked.0) marked.1
 unmarked (c ∷ characters) behind none begins marked =
     let is = mark_is_first c (encode_utf8_all characters ++ behind) marked.0
-        (sym (append_assoc (encode_utf8 c) (encode_utf8_all characters) behind) ∙ marked.1) in
+    (sym (append_assoc (encode_utf8 c) (encode_utf8_all characters) behind) ∙ marked.1) in
     let hidden : true ≡ false = sym (ap is_hidden is) ∙ none.0 in cc
 
 -- What shows has no mark in front of it, whatever stands behind it.
