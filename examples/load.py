@@ -41,8 +41,8 @@ AS_JSON = json.JSONEncoder(ensure_ascii=False, separators=(",", ":"))
 
 BACKSLASH = "\\"
 
-ESCAPES = str.maketrans({BACKSLASH: 2 * BACKSLASH, "\t": r"\t", "\n": r"\n", "\r": r"\r"})
-"""What stands in a line of text for characters that may not (docs/format.md)."""
+ESCAPES = str.maketrans({BACKSLASH: 2 * BACKSLASH, "\t": r"\t", "\n": r"\n", "\r": r"\r", "\ufeff": r"\xef\xbb\xbf"})
+"""What stands in a line of text for characters that may not, or may not begin the first one (docs/format.md)."""
 
 ESCAPE = re.compile(rb"\\(?:x(?P<digits>[0-9a-fA-F]{2})|(?P<letter>.))")
 

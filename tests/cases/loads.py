@@ -108,6 +108,7 @@ def loads(program):
         loaded(program, "CSV with empty lines", ["--key", "1"], b"\nb,1\n\na,2\n\n", unnamed([["b", "1"], ["a", "2"]], 0)),
         loaded(program, "rows of several lengths, without names", ["--key", "1"], b"b\na,2,3\n", unnamed([["b"], ["a", "2", "3"]], 0)),
         loaded(program, "a mark of the order of bytes", [*header, "id"], b"\xef\xbb\xbf" + text, named(PEOPLE, 0)),
+        loaded(program, "a key that begins with such a mark", ["--key", "2"], "v,\ufeffk\n".encode(), unnamed([["v", "\ufeffk"]], 1)),
         loaded(program, "a header and no row", [*header, "id"], b"id,name\n", []),
         loaded(program, "an empty table", [*header, "id"], b"", []),
         loaded(program, "an empty table in the place of a tree", [*header, "id"], b"", [], before={"out.prl": BEFORE}),
