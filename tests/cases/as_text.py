@@ -524,6 +524,10 @@ def printing():
 # ---- dumps, differences and proofs
 
 
+MARKED = rb"\xef\xbb\xbfa" + b"\t1\n"
+"""The line of a key that begins with a byte order mark."""
+
+
 def dumps():
     """A chunk file as lines. With both flags these are text."""
     before = {"in.prl": chunk_file(MIXED, 0)}
@@ -532,6 +536,8 @@ def dumps():
     return [
         *(Case(f"dump: {' '.join(words[1:])}", words, out=told, before=before) for words in both),
         Case("dump --text: many kinds of pairs", ["dump", "--text", "in.prl"], out=told, before=before),
+        Case("dump --text: a first key that begins with a byte order mark", ["dump", "--text", "in.prl"], out=MARKED, before={"in.prl": chunk_file([(b"\xef\xbb\xbfa", b"1")], 3)}),
+        packed("such a key, as it is printed", MARKED, [(b"\xef\xbb\xbfa", b"1")]),
         Case("dump --text: each byte", ["dump", "--text", "in.prl"], out=text_lines(EVERY_BYTE), before={"in.prl": chunk_file(EVERY_BYTE, 3, 2)}),
         Case("dump --hex: many kinds of pairs", ["dump", "--hex", "in.prl"], out=lines(MIXED), before=before),
         Case("dump --text: to a file, with both flags", ["dump", "--hex", "--text", "--atomic", "--sync", "in.prl", "out"], before=before, after={"out": told}),

@@ -528,7 +528,7 @@ def is_read_only(place):
 
 def is_shown_escaped(place):
     """A fault is one line, whatever bytes the name has."""
-    for name, shown in (("a\nb", b"a\\x0ab"), ("\x1b[31m\x7f", b"\\x1b[31m\\x7f"), ("a\\nb", b"a\\\\nb"), ("\x85\x9b31m", b"\\xc2\\x85\\xc2\\x9b31m"), ("ü\xa0漢", "ü\xa0漢".encode())):
+    for name, shown in (("a\nb", b"a\\x0ab"), ("\x1b[31m\x7f", b"\\x1b[31m\\x7f"), ("a\\nb", b"a\\\\nb"), ("\x85\x9b31m", b"\\xc2\\x85\\xc2\\x9b31m"), ("a\ufeffb", b"a\\xef\\xbb\\xbfb"), ("ü\xa0漢", "ü\xa0漢".encode())):
         place.answers(place.run("check", name), refusal(b"cannot open " + shown))
     place.path("in\n.rec").write_bytes(A)
     place.answers(place.run("build", "in\n.rec", "in\n.rec"), refusal(b"OUT is also an input: in\\x0a.rec"))
