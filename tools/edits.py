@@ -390,13 +390,14 @@ def column(line):
 
 
 def owner_above(lines, head):
-    """What the prover calls the block of a method: the type, and with it the trait that it implements. None where the block is
-    of another form, as a trait's own."""
+    """What the prover calls the block of a method: the type, and with it the trait that it implements and the types that this is
+    given, but for the block's own ones, which have one letter. None where the block is of another form, as a trait's own."""
     header = next(line for line in reversed(lines[:head]) if line and column(line) == 0).replace("->", "")
+    given = re.search(r"\w<([A-Z]\w+(?:, [A-Z]\w+)*)> for ", header)
     while re.search(r"<[^<>]*>", header):
         header = re.sub(r"<[^<>]*>", "", header)
     found = re.fullmatch(r"impl (?:(?:\w+::)*(\w+) for )?(?:\w+::)*([A-Z]\w+) \{", header)
-    return found and found[2] + (found[1] or "")
+    return found and found[2] + (found[1] or "") + (given[1].replace(", ", "") if given else "")
 
 
 def is_telling(said, texts):
