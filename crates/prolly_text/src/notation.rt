@@ -19,8 +19,9 @@ pub(crate) use unescape::split_piece;
 pub enum Notation {
     /// Two hexadecimal digits a byte.
     Hex,
-    /// Characters of UTF-8 as they are, but for control characters (below `20`, and `7F` to `9F`)
-    /// and backslashes: these, and bytes that are no character, are escaped by a backslash.
+    /// Characters of UTF-8 as they are, but for control characters (below `20`, and `7F` to `9F`),
+    /// byte order marks (U+FEFF) and backslashes: these, and bytes that are no character, are
+    /// escaped by a backslash.
     Text,
 }
 

@@ -5,8 +5,8 @@ ghost use Rattle.prolly_text.specs.Names.{shown_in_name, shown_name};
 use crate::notation::escape::append_plain;
 use std::alloc::{AllocError, Global};
 
-/// Appends a file's name, in which control characters and backslashes are escaped, so that a line
-/// stays one line. An `Err` may leave a part of it behind.
+/// Appends a file's name, in which control characters, byte order marks and backslashes are
+/// escaped, so that a line stays one line. An `Err` may leave a part of it behind.
 pub fn append_name(alloc: Global, out: &mut Vec<u8>, name: &str) -> Result<(), AllocError>
     ensures { OnOk result (out.new.items ≡ out.old.items ++ shown_name name.now) }
 {

@@ -126,8 +126,8 @@ impl Answer {
     }
 
     /// The answer of a command that is not done since a file that the words name is at fault: a
-    /// line with its name, in which control characters and backslashes are escaped, so that it
-    /// stays one line and names one file.
+    /// line with its name, in which control characters, byte order marks and backslashes are
+    /// escaped, so that it stays one line and names one file.
     pub fn of_name(alloc: Global, fault: NameFault, name: &str) -> Result<Answer, AllocError>
         ensures { IfOk result (λ answer. ShowsName answer fault name.now) }
     {
