@@ -195,7 +195,7 @@ pub(crate) fn from_option<'a>(alloc: Global) -> Arg<'a>
     ensures { IsReadBy from_option result }
 {
     text_option(alloc, "from", "KEY").help(
-        "Of a range in place of a key: from KEY on, which is written as that is",
+        "Take a range in place of a key: from KEY on, written as a key is",
     )
 }
 
@@ -213,8 +213,8 @@ pub(crate) fn keys_option<'a>(alloc: Global) -> Arg<'a>
     ensures { IsReadBy keys_option result }
 {
     text_option(alloc, "keys", "FILE").help(
-        "Of many keys in place of one: those of the lines of FILE, of which each has to be greater \
-         than the one before",
+        "Take many keys in place of one: a key in each line of FILE, each greater than the one \
+         before",
     )
 }
 
@@ -280,7 +280,9 @@ pub(crate) fn unique_flag<'a>(alloc: Global) -> Arg<'a>
 pub(crate) fn lines_flag<'a>(alloc: Global) -> Arg<'a>
     ensures { IsReadBy lines_flag result }
 {
-    flag(alloc, "lines").help("Of lines as `pack` reads them, from standard input, without FILE")
+    flag(alloc, "lines").help(
+        "Explain lines from standard input, as `pack` reads them; FILE is left out",
+    )
 }
 
 /// `--all`

@@ -38,7 +38,7 @@ A record file and a proof are written to a file beside the output, under its
 name and `.0.tmp` (or the next number that is free), which takes its place once
 it is whole: after a fault the output is as it was. A chunk file is written so
 with --atomic. Without it, what the output held is gone as soon as there is
-something to write, and after a fault behind that the output holds a first part.
+something to write, and after a later fault the output holds a first part.
 Only a run that is killed may leave a file beside the output.
 
 With --sync the answer is printed once the file and its name are on the disk;
@@ -178,8 +178,8 @@ tree of other bits. A root does not tell its bits, so a header that lies about
 them is found by the leaves, nearly always, and refused.
 
 OUT is written as by `build`: it is emptied once there is something to write,
-and after a fault behind that it holds no more than the first part of a chunk
-file. With --atomic it is as it was then.",
+and after a later fault it holds no more than the first part of a chunk file.
+With --atomic it is as it was then.",
     example: "Example: the tree of the day before, and the records of a day
   prolly apply --root nu05v9k058pmjdu7s5312ho13geggue6 days.prl next.prl wednesday.rec",
 };
