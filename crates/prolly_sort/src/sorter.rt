@@ -19,8 +19,8 @@ use std::sync::Wait;
 /// Records gather in a [`Run`](crate::Run). Where its budget is full it is put in order and written
 /// to a file of a [`RunStore`]. Where its keys are greater than all of the file before it, it goes
 /// on in that file. So records that come in order are written once, and make one file. Else that
-/// file waits to be read back, and runs that wait are merged, sixteen at a time. Each record is so
-/// written as often as the number of runs has digits to the base of 16, and once more.
+/// file waits to be read back, and runs that wait are merged, sixteen at a time. So a record is
+/// written at most as often as the number of runs has digits to the base of 16, and twice more.
 ///
 /// After a fault the sorter is of no use. What its files take is gone once the store lets them go.
 #[derive(Drop)]

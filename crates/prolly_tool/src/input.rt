@@ -6,7 +6,7 @@ use crate::faults::Fault;
 use prolly_file::{Source, WholeFault, read_whole};
 use std::alloc::Global;
 
-/// How many bytes a command reads at most.
+/// How many bytes a command reads at most of an input that it reads whole.
 pub const INPUT_LIMIT: u32 = 1_073_741_824;
 
 /// How many records a record file has at most.

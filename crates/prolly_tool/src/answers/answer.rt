@@ -14,8 +14,8 @@ use std::alloc::{AllocError, Global};
 /// What the program prints, and the status with which it ends.
 #[derive(Drop)]
 pub struct Answer {
-    /// 0 where the command is done, 1 where a look-up found nothing or `diff` found a change, and
-    /// else the status of the fault.
+    /// 0 where the command is done; 1 where a look-up found nothing, `diff` found a change, or
+    /// `explain` a flaw; and else the status of the fault.
     pub status: u8,
     /// For standard output; empty where the command is not done.
     pub out: Vec<u8>,

@@ -116,8 +116,8 @@ fn proof_in<S: ChunkSource>(
 
 /// What `verify` answers: the value that the proof shows for the key, in this notation; nothing,
 /// with status 1, where the proof shows that the key has none; or the line of the first fault of
-/// bytes that are no such proof. At most 1,073,741,824 bytes are read, and no proof that `prove`
-/// makes is longer. An `Err` is want of memory for the answer's own text.
+/// bytes that are no such proof. At most 1,073,741,824 bytes are read; a longer proof is refused as
+/// too long. An `Err` is want of memory for the answer's own text.
 ///
 /// The version is that of the tree's chunks; like the root, it comes from who is trusted. Takes
 /// memory for the bytes, and time linear in them.

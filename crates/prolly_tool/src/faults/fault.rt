@@ -46,7 +46,7 @@ pub enum Fault {
     CheckOld(CheckFault),
     /// The new file of two is no lawful chunk file.
     CheckNew(CheckFault),
-    /// Bytes are no proof of what a map with the root has at the key.
+    /// Bytes are no proof of what a map with the root has at the key, or at the keys of a set.
     Proof(ProofFault),
     /// A file has no answer to a look-up by a root.
     Root(RootFault),
@@ -60,7 +60,7 @@ pub enum Fault {
     OtherHeader,
     /// A chunk file of version One has no counts, by which a pair is found by its number.
     NoCounts,
-    /// Standard input is longer than the program reads.
+    /// An input is longer than the program reads.
     InputTooLong,
     /// The word for a key is no key in hexadecimal.
     BadKey,
@@ -72,7 +72,7 @@ pub enum Fault {
     LoneRoot,
     /// A word of the command line is not UTF-8.
     NotUnicode,
-    /// The output is the file to which standard output goes.
+    /// The output is the file or the pipe to which standard output goes.
     OutIsStdout,
 }
 
