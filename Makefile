@@ -8,8 +8,8 @@ SHARE = $(DESTDIR)$(PREFIX)/share
 LIBRARY = library/out
 LIB = $(DESTDIR)$(PREFIX)/lib
 
-# The gate: every proof from nothing, the wrong bodies that tell most, the tests of the crates, the programs, and then refused
-# memory, and the program as a user runs it.
+# The gate: every proof, the wrong bodies that tell most, the tests of the crates, the programs, and then refused memory, and the
+# program as a user runs it. A crate is proved from nothing, unless an earlier gate on this machine has passed the same files.
 test:
 	rt ci
 	tools/mark_built.py
