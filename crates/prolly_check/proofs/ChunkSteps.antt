@@ -38,17 +38,17 @@ use Rattle.prolly_check.specs.HeldPairs.{bytes_in, pairs_held}
 use Rattle.prolly_check.specs.Incoming.{IsFilled}
 use Rattle.prolly_check.specs.Verdict.{UnlessMemory}
 use Rattle.prolly_check.specs.declared.stream.chunks_read.ChunksRead.{ChunksRead}
-use Rattle.prolly_check.specs.declared.stream.follower.Follower.{Follower}
+use Rattle.prolly_check.specs.declared.verdict.follower.Follower.{Follower}
 use Rattle.prolly_check.specs.declared.verdict.fault.CheckFault.{CheckFault}
 use Rattle.prolly_check.specs.declared.verdict.fault.CheckFault.TheVariants.{BadChunk, BadEnd}
 use Rattle.prolly_check.specs.declared.verdict.fault.CheckFault.TheVariants.{KeysOutOfOrder}
 use Rattle.prolly_check.specs.declared.verdict.fault.CheckFault.TheVariants.{NotCanonical, Trailing}
 use Rattle.prolly_check.specs.declared.verdict.fault.CheckFault.TheVariants.{Truncated}
 use Rattle.prolly_check.proofs.CheckedFile.{chunks_last, chunks_some, few_in_frames}
-use Rattle.prolly_check.proofs.FollowerSteps.{held_in, held_snoc}
+use Rattle.prolly_check.proofs.FollowerSteps.{held_in, held_snoc, parts_difference}
 use Rattle.prolly_check.proofs.HeldPairs.{are_whole, bytes_append, each_whole}
 use Rattle.prolly_check.proofs.NextLeaf.{sent_begins}
-use Rattle.prolly_check.proofs.RebuildSteps.{all_sent}
+use Rattle.prolly_check.proofs.OpenLevels.{all_sent}
 use Rattle.prolly_check.proofs.Verdicts.{difference_same, ending_long}
 
 -- ---- the order of the keys
@@ -98,22 +98,23 @@ whole_snoc version chunks chunk h w = all_append (IsWhole version) chunks (chunk
 
 -- what is out of its place is a flaw
 pub flaw_of_place : (bits : ℕ) (version : Version) (chunks : List (List ℕ)) (chunk : List ℕ)
-    (fault : CheckFault) → IsWhole version chunk →
+    (later : ℕ) (fault : CheckFault) → IsWhole version chunk →
     order_fault None 0 (map pairs_held (chunks ++ chunk ∷ [])) ≡ None →
     length (held_in (chunks ++ chunk ∷ [])) < 2 ^ 64 →
-    IsOutOfPlace bits version (chunks ++ chunk ∷ []) fault →
+    IsOutOfPlace bits version (chunks ++ chunk ∷ []) later fault →
     IsFlawBehind version bits chunks chunk fault
-flaw_of_place bits version chunks chunk fault w rises few o =
+flaw_of_place bits version chunks chunk later fault w rises few o =
     let same : (m : List Pair) → length m < 2 ^ 64 →
     bytes_in (all_of bits version m) ≡ chunk_bytes version bits m =
     λ m short. ap bytes_in (all_sent bits version m short) in
     let read = chunks ++ chunk ∷ [] in
-    let within = o.within in
+    let within = o.parts.within in
     subst (IsFlawBehind version bits chunks chunk) (sym o.is) (
       w,
       rises,
       omega (arith, length-append chunks (chunk ∷ [])),
-      ap (λ cs. difference 0 cs read) (sym (same (held_in read) few)) ∙ o.parts ∙ ap Some o.is,
+      ap (λ cs. difference 0 cs read) (sym (same (held_in read) few)) ∙
+          parts_difference (bytes_in (all_of bits version (held_in read))) read o.number o.parts,
       λ m short lawful p. o.none m lawful (subst (IsPrefix read) (sym (same m short)) p),
     )
 

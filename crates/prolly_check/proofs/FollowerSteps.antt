@@ -28,19 +28,20 @@ use Rattle.prolly_check.specs.Entries.{IsWhole}
 use Rattle.prolly_check.specs.FirstFault.{difference}
 use Rattle.prolly_check.specs.Follower.{AllWhole, leaf_chunks, sent_of_leaves, all_of, IsGoing}
 use Rattle.prolly_check.specs.Follower.{IsEnding, IsOutOfPlace, PassesOn, Follows, FollowsIn}
+use Rattle.prolly_check.specs.Follower.{PartsAt, PartsFrom, place_of_end}
 use Rattle.prolly_check.specs.Follower.{IsAlike, IsTooShort, ClosesAll, ClosesBehind}
 use Rattle.prolly_check.specs.HeldPairs.{bytes_in, pairs_held}
-use Rattle.prolly_check.specs.Rebuild.{AreBehind, AreUnused, node_levels, sent_through}
+use Rattle.prolly_check.specs.OpenLevels.{AreBehind, AreUnused, node_levels, sent_through}
 use Rattle.prolly_check.specs.Verdict.{UnlessMemory}
-use Rattle.prolly_check.specs.declared.stream.follower.Follower.{Follower}
+use Rattle.prolly_check.specs.declared.verdict.follower.Follower.{Follower}
 use Rattle.prolly_check.specs.declared.verdict.fault.CheckFault.{CheckFault}
 use Rattle.prolly_check.specs.declared.verdict.fault.CheckFault.TheVariants.{NotCanonical}
 use Rattle.prolly_check.proofs.EntryLists.{leaf_pairs}
 use Rattle.prolly_check.proofs.HeldPairs.{bytes_append}
 use Rattle.prolly_check.proofs.NextLeaf.{held_all, held_leaves, held_sent, leaf_follows, sent_begins}
 use Rattle.prolly_check.proofs.NextLeaf.{other_group, ends_open}
-use Rattle.prolly_check.proofs.RebuildSteps.{unused_behind, unused_sent}
-use Rattle.prolly_check.proofs.Rebuilds.{difference_along}
+use Rattle.prolly_check.proofs.OpenLevels.{unused_behind, unused_sent}
+use Rattle.prolly_check.proofs.OpenLevels.{difference_along}
 
 -- before the first chunk
 pub going_begins : (bits : ℕ) (version : Version) (nodes : List (NodeState ℕ)) (due : List Chunk) →
@@ -68,7 +69,7 @@ pub held_snoc : (read : List (List ℕ)) (chunk : List ℕ) →
 held_snoc read chunk = flat_map-append pairs_held read (chunk ∷ []) ∙
     ap (λ ps. held_in read ++ ps) (append-nil (pairs_held chunk))
 
-front_none : {A : Type 0} (xs ys : List A) → xs ++ ys ≡ [] → xs ≡ []
+pub front_none : {A : Type 0} (xs ys : List A) → xs ++ ys ≡ [] → xs ≡ []
 front_none [] ys e = refl
 front_none (x ∷ xs) ys e = cc
 
@@ -102,29 +103,22 @@ get_next : (read rest : List (List ℕ)) (chunk : List ℕ) →
 get_next [] rest chunk = refl
 get_next (c ∷ read) rest chunk = get_next read rest chunk
 
-get_before : (read : List (List ℕ)) (chunk : List ℕ) (n : ℕ) → n < length read →
-    get_or (read ++ chunk ∷ []) n [] ≡ get_or read n []
-get_before [] chunk n h = absurd (omega arith)
-get_before (c ∷ read) chunk zero h = refl
-get_before (c ∷ read) chunk (suc n) h = get_before read chunk n (omega arith)
+pub get_before : (read rest : List (List ℕ)) (n : ℕ) → n < length read →
+    get_or (read ++ rest) n [] ≡ get_or read n []
+get_before [] rest n h = absurd (omega arith)
+get_before (c ∷ read) rest zero h = refl
+get_before (c ∷ read) rest (suc n) h = get_before read rest n (omega arith)
 
-take_before : (read : List (List ℕ)) (chunk : List ℕ) (n : ℕ) → n < length read →
-    take n (read ++ chunk ∷ []) ≡ take n read
-take_before [] chunk n h = absurd (omega arith)
-take_before (c ∷ read) chunk zero h = refl
-take_before (c ∷ read) chunk (suc n) h = ap (λ cs. c ∷ cs) (take_before read chunk n (omega arith))
+pub take_before : (read rest : List (List ℕ)) (n : ℕ) → n < length read →
+    take n (read ++ rest) ≡ take n read
+take_before [] rest n h = absurd (omega arith)
+take_before (c ∷ read) rest zero h = refl
+take_before (c ∷ read) rest (suc n) h = ap (λ cs. c ∷ cs) (take_before read rest n (omega arith))
 
 one_longer : (read : List (List ℕ)) (chunk : List ℕ) → length (read ++ chunk ∷ []) ≡ suc (length read)
 one_longer read chunk = omega (arith, length-append read (chunk ∷ []))
 
 -- ---- where chunks part from others
-
--- Chunks begin as the others do, and the one of this number is another one there.
-pub record PartsAt (wanted read : List (List ℕ)) (n : ℕ) : Type 0 where
-  pub within : n < length read
-  pub tail : List (List ℕ)
-  pub are : wanted ≡ take n read ++ tail
-  pub other : (rest : List (List ℕ)) → tail ≡ get_or read n [] ∷ rest → ⊥
 
 -- their difference is there
 pub parts_difference : (wanted read : List (List ℕ)) (n : ℕ) → PartsAt wanted read n →
@@ -156,30 +150,30 @@ parts_no_prefix wanted read n p q =
     ap (λ cs. take n read ++ cs) (drop-cons read n [] p.within)) ∙
     append_assoc (take n read) (get_or read n [] ∷ drop (suc n) read) q.0))
 
--- They part somewhere.
-pub record Part (wanted read : List (List ℕ)) : Type 0 where
-  pub number : ℕ
-  pub at : PartsAt wanted read number
-
 -- chunks that part from those of each file with the pairs that they hold begin none
-pub out_of_place : (bits : ℕ) (version : Version) (read : List (List ℕ)) (n : ℕ) →
-    PartsAt (bytes_in (all_of bits version (held_in read))) read n →
-    ((more : List Pair) → AllByRecursion IsPair (held_in read ++ more) →
-    Part (bytes_in (all_of bits version (held_in read ++ more))) read) →
-    IsOutOfPlace bits version read (NotCanonical n)
-out_of_place bits version read n p others = record {
+pub out_of_place : (bits : ℕ) (version : Version) (read : List (List ℕ)) (n later : ℕ) →
+    PartsFrom bits version (held_in read) read n →
+    ((more : List Pair) → (more ≡ [] → ⊥) → AllByRecursion IsPair (held_in read ++ more) →
+    PartsFrom bits version (held_in read ++ more) read later) →
+    IsOutOfPlace bits version read later (NotCanonical n)
+out_of_place bits version read n later p parts = record {
   number = n;
   is = refl;
-  within = p.within;
-  parts = parts_difference _ read n p;
-  none = λ m lawful q.
-      let rest = held_in q.0 in
-      let are : m ≡ held_in read ++ rest = sym (held_all bits version m lawful) ∙
-      ap held_in q.1 ∙ flat_map-append pairs_held read q.0 in
-      let part = others rest (subst (AllByRecursion IsPair) are lawful) in
-      parts_no_prefix _ read part.number part.at
-      (subst (λ ps. IsPrefix read (bytes_in (all_of bits version ps))) are q);
+  parts = p;
+  parts_later = parts;
+  none = λ m lawful q. begins (held_in q.0) m (sym (held_all bits version m lawful) ∙
+      ap held_in q.1 ∙ flat_map-append pairs_held read q.0) lawful q;
 }
+  where
+    begins : (rest m : List Pair) → m ≡ held_in read ++ rest → AllByRecursion IsPair m →
+        IsPrefix read (bytes_in (all_of bits version m)) → ⊥
+    begins [] m are lawful q = parts_no_prefix _ read n p
+        (subst (λ ps. IsPrefix read (bytes_in (all_of bits version ps)))
+        (are ∙ append-nil (held_in read)) q)
+    begins (r ∷ rest) m are lawful q =
+        parts_no_prefix _ read later (parts (r ∷ rest) (λ e. absurd (cc e))
+        (subst (AllByRecursion IsPair) are lawful))
+        (subst (λ ps. IsPrefix read (bytes_in (all_of bits version ps))) are q)
 
 -- ---- the leaf that follows
 
@@ -398,17 +392,17 @@ module _ (bits : ℕ) (version : Version) (read : List (List ℕ)) (nodes : List
       first tail rest (d ∷ ds) some other e = other (bytes_in ds) (ap (λ c. c ∷ bytes_in ds) (cc e))
 
   pub not_due : (due ≡ [] → ⊥) → ((rest : List (List ℕ)) → bytes_in due ≡ chunk ∷ rest → ⊥) →
-      IsOutOfPlace bits version next (NotCanonical (length read))
+      IsOutOfPlace bits version next (length read) (NotCanonical (length read))
   not_due some other =
       let parts : (more : List Pair) → PartsAt (bytes_in (all_of bits version
       (held_in next ++ more))) next (length read) = λ more.
       subst (λ qs. PartsAt (bytes_in (all_of bits version qs)) next (length read))
       (sym (append_assoc (flat g.leaves) ps more) ∙ ap (λ qs. qs ++ more) (sym held_next))
       (due_parts (ps ++ more) some other) in
-      out_of_place bits version next (length read)
+      out_of_place bits version next (length read) (length read)
       (subst (λ qs. PartsAt (bytes_in (all_of bits version qs)) next (length read))
       (append-nil (held_in next)) (parts []))
-      (λ more lawful. record { number = length read; at = parts more })
+      (λ more others lawful. parts more)
 
   -- ---- a leaf that has a boundary, and is not whole
 
@@ -431,7 +425,7 @@ module _ (bits : ℕ) (version : Version) (read : List (List ℕ)) (nodes : List
     some_any any e = absurd (cc (sym any ∙ ap (list_any (pair_is_boundary (sha512_cut bits))) e))
 
     pub leaf_is_cut : list_any (pair_is_boundary (sha512_cut bits)) ps ≡ true →
-        IsOutOfPlace bits version next (NotCanonical (length read))
+        IsOutOfPlace bits version next (length read) (NotCanonical (length read))
     leaf_is_cut any =
         let some : (more : List Pair) → ps ++ more ≡ [] → ⊥ =
         λ more e. some_any any (front_none ps more e) in
@@ -442,11 +436,11 @@ module _ (bits : ℕ) (version : Version) (read : List (List ℕ)) (nodes : List
         subst (λ qs. PartsAt (bytes_in (all_of bits version qs)) next (length read)) (sym e)
         (leaf_parts more (some more) (inr any) (all_back IsPair (flat g.leaves) (ps ++ more)
         (subst (AllByRecursion IsPair) e lawful))) in
-        out_of_place bits version next (length read)
+        out_of_place bits version next (length read) (length read)
         (subst (λ qs. PartsAt (bytes_in (all_of bits version qs)) next (length read))
         (append-nil (held_in next)) (parts [] (subst (AllByRecursion IsPair)
         (sym held_next ∙ sym (append-nil (held_in next))) lawful_next)))
-        (λ more lawful. record { number = length read; at = parts more lawful })
+        (λ more others lawful. parts more lawful)
 
     -- ---- a chunk without pairs, where the levels were closed
 
@@ -463,7 +457,7 @@ module _ (bits : ℕ) (version : Version) (read : List (List ℕ)) (nodes : List
     pub end_parts : ps ≡ [] → (due' : List Chunk) →
         read ++ bytes_in due' ≡ bytes_in (all_of bits version (flat g.leaves)) →
         ((rest : List (List ℕ)) → bytes_in due' ≡ chunk ∷ rest → ⊥) →
-        IsOutOfPlace bits version next (NotCanonical (length read))
+        IsOutOfPlace bits version next (length read) (NotCanonical (length read))
     end_parts empty due' all other =
         let here : PartsAt (bytes_in (all_of bits version (held_in next))) next (length read) =
         record {
@@ -474,27 +468,13 @@ module _ (bits : ℕ) (version : Version) (read : List (List ℕ)) (nodes : List
               ap (λ cs. cs ++ bytes_in due') (sym (take_front read (chunk ∷ [])));
           other = λ rest e. other rest (e ∙ ap (λ c. c ∷ rest) (get_next read [] chunk));
         } in
-        out_of_place bits version next (length read) here (parts here)
-      where
-        parts : PartsAt (bytes_in (all_of bits version (held_in next))) next (length read) →
-            (more : List Pair) → AllByRecursion IsPair (held_in next ++ more) →
-            Part (bytes_in (all_of bits version (held_in next ++ more))) next
-        parts here [] lawful = record {
-          number = length read;
-          at = subst (λ qs. PartsAt (bytes_in (all_of bits version qs)) next (length read))
-              (sym (append-nil (held_in next))) here;
-        }
-        parts here (q ∷ more) lawful =
-            let e = ap (λ qs. qs ++ q ∷ more) held_next ∙
-            append_assoc (flat g.leaves) ps (q ∷ more) in record {
-              number = length read;
-              at = subst (λ qs. PartsAt (bytes_in (all_of bits version qs)) next (length read))
-                  (sym e) (leaf_parts (q ∷ more)
-                  (λ h. absurd (cc (back_none ps (q ∷ more) h)))
-                  (inl (λ h. absurd (cc h)))
-                  (all_back IsPair (flat g.leaves) (ps ++ q ∷ more)
-                  (subst (AllByRecursion IsPair) e lawful)));
-            }
+        out_of_place bits version next (length read) (length read) here
+        (λ more some lawful.
+        let e = ap (λ qs. qs ++ more) held_next ∙ append_assoc (flat g.leaves) ps more in
+        subst (λ qs. PartsAt (bytes_in (all_of bits version qs)) next (length read)) (sym e)
+        (leaf_parts more (λ h. some (back_none ps more h)) (inl some)
+        (all_back IsPair (flat g.leaves) (ps ++ more)
+        (subst (AllByRecursion IsPair) e lawful))))
 
 -- ---- a chunk that is due
 
@@ -539,9 +519,9 @@ end_taken bits version read due due' from chunk g e =
       not_whole = g.not_whole;
       lawful = g.lawful;
       held = same_held read chunk (taken_due due due' chunk e g.none_due) ∙ g.held;
-      before = take_before read chunk from within ∙ g.before;
+      before = take_before read (chunk ∷ []) from within ∙ g.before;
       within = omega (arith, one_longer read chunk);
-      there = ap pairs_held (get_before read chunk from within) ∙ g.there;
+      there = ap pairs_held (get_before read (chunk ∷ []) from within) ∙ g.there;
       sent = append_assoc read (chunk ∷ []) (bytes_in due') ∙ ap (λ cs. read ++ cs) (sym e) ∙
           g.sent;
       none_due = left_due due due' chunk e g.none_due;
@@ -565,14 +545,14 @@ module _ (bits : ℕ) (version : Version) (read : List (List ℕ)) (due : List C
       let within = g.within in
       other_parts bits version g.leaves (g.last ++ more) then from
       (omega (arith, one_longer read chunk))
-      (take_before read chunk from within ∙ g.before)
+      (take_before read (chunk ∷ []) from within ∙ g.before)
       (other_next bits version g.leaves g.last more (get_or then from []) g.whole
-      (ap pairs_held (get_before read chunk from within) ∙ g.there) g.not_whole
+      (ap pairs_held (get_before read (chunk ∷ []) from within) ∙ g.there) g.not_whole
       (λ e. some (back_none g.last more e)) (inl some) lawful)
 
   -- a leaf with pairs
   pub leaf_behind_end : (pairs_held chunk ≡ [] → ⊥) →
-      IsOutOfPlace bits version then (NotCanonical from)
+      IsOutOfPlace bits version then from (NotCanonical from)
   leaf_behind_end some =
       let parts : (more : List Pair) → AllByRecursion IsPair (held_in then ++ more) →
       PartsAt (bytes_in (all_of bits version (held_in then ++ more))) then from = λ more lawful.
@@ -588,15 +568,15 @@ module _ (bits : ℕ) (version : Version) (read : List (List ℕ)) (due : List C
       ap (λ qs. qs ++ pairs_held chunk) g.held) ∙ sym (append-nil (held_in then)))
       (all_append IsPair (flat g.leaves ++ g.last) (pairs_held chunk) g.lawful
       (held_lawful version chunk w)) in
-      out_of_place bits version then from
+      out_of_place bits version then from from
       (subst (λ qs. PartsAt (bytes_in (all_of bits version qs)) then from)
       (append-nil (held_in then)) (parts [] lawful))
-      (λ more lawful. record { number = from; at = parts more lawful })
+      (λ more others lawful. parts more lawful)
 
   -- another chunk than the one that is due
   pub not_due_at_end : pairs_held chunk ≡ [] →
       ((rest : List (List ℕ)) → bytes_in due ≡ chunk ∷ rest → ⊥) →
-      IsOutOfPlace bits version then (NotCanonical (length read))
+      IsOutOfPlace bits version then from (NotCanonical (length read))
   not_due_at_end empty other =
       let here : PartsAt (bytes_in (all_of bits version (held_in then))) then (length read) =
       record {
@@ -606,25 +586,13 @@ module _ (bits : ℕ) (version : Version) (read : List (List ℕ)) (due : List C
             sym g.sent ∙ ap (λ cs. cs ++ bytes_in due) (sym (take_front read (chunk ∷ [])));
         other = λ rest e. other rest (e ∙ ap (λ c. c ∷ rest) (get_next read [] chunk));
       } in
-      out_of_place bits version then (length read) here (parts here)
-    where
-      parts : PartsAt (bytes_in (all_of bits version (held_in then))) then (length read) →
-          (more : List Pair) → AllByRecursion IsPair (held_in then ++ more) →
-          Part (bytes_in (all_of bits version (held_in then ++ more))) then
-      parts here [] lawful = record {
-        number = length read;
-        at = subst (λ qs. PartsAt (bytes_in (all_of bits version qs)) then (length read))
-            (sym (append-nil (held_in then))) here;
-      }
-      parts here (q ∷ more) lawful =
-          let e = ap (λ qs. qs ++ q ∷ more) (same_held read chunk empty ∙ g.held) ∙
-          append_assoc (flat g.leaves) g.last (q ∷ more) in record {
-            number = from;
-            at = subst (λ qs. PartsAt (bytes_in (all_of bits version qs)) then from) (sym e)
-                (more_parts (q ∷ more) (λ h. absurd (cc h))
-                (all_back IsPair (flat g.leaves) (g.last ++ q ∷ more)
-                (subst (AllByRecursion IsPair) e lawful)));
-          }
+      out_of_place bits version then (length read) from here
+      (λ more some lawful.
+      let e = ap (λ qs. qs ++ more) (same_held read chunk empty ∙ g.held) ∙
+      append_assoc (flat g.leaves) g.last more in
+      subst (λ qs. PartsAt (bytes_in (all_of bits version qs)) then from) (sym e)
+      (more_parts more some (all_back IsPair (flat g.leaves) (g.last ++ more)
+      (subst (AllByRecursion IsPair) e lawful))))
 
 -- ---- the same, as the code has it
 
@@ -645,13 +613,14 @@ pub expected_going : (old new : Follower) (read : List (List ℕ)) (number : ℕ
     IsAlike old new → new.nodes ≡ old.nodes → new.ending ≡ old.ending →
     number ≡ length read → Follows read old →
     MatchResult result (λ done. Follows (read ++ chunk ∷ []) new)
-    (UnlessMemory (IsOutOfPlace old.cut old.version (read ++ chunk ∷ [])))
+    (UnlessMemory (IsOutOfPlace old.cut old.version (read ++ chunk ∷ [])
+    (place_of_end old.ending number)))
 expected_going old new read number chunk (Ok done) none some w due err alike nodes ending n h =
     as_parts (read ++ chunk ∷ []) new alike.0 alike.1 (ap (λ v. v.items) nodes) refl
     (ending ∙ none) (due_taken old.cut old.version read old.nodes.items old.due.items
     new.due.items chunk (rw none at h) due)
 expected_going old new read number chunk (Err fault) none some w due err alike nodes ending n h =
-    rw (err.0, n) (inr (not_due old.cut old.version read old.nodes.items old.due.items
+    rw (none, err.0, n) (inr (not_due old.cut old.version read old.nodes.items old.due.items
     (rw none at h) chunk w some err.1))
 
 -- the same where the end has begun
@@ -664,13 +633,14 @@ pub expected_ending : (old new : Follower) (read : List (List ℕ)) (number from
     IsAlike old new → new.nodes ≡ old.nodes → new.ending ≡ old.ending →
     number ≡ length read → Follows read old →
     MatchResult result (λ done. Follows (read ++ chunk ∷ []) new)
-    (UnlessMemory (IsOutOfPlace old.cut old.version (read ++ chunk ∷ [])))
+    (UnlessMemory (IsOutOfPlace old.cut old.version (read ++ chunk ∷ [])
+    (place_of_end old.ending number)))
 expected_ending old new read number from chunk (Ok done) some empty w due err alike nodes ending n h =
     as_parts (read ++ chunk ∷ []) new alike.0 alike.1 (ap (λ v. v.items) nodes) refl
     (ending ∙ some) (end_taken old.cut old.version read old.due.items new.due.items from chunk
     (rw some at h) due)
 expected_ending old new read number from chunk (Err fault) some empty w due err alike nodes ending n h =
-    rw (err.0, n) (inr (not_due_at_end old.cut old.version read old.due.items from
+    rw (some, err.0, n) (inr (not_due_at_end old.cut old.version read old.due.items from
     (rw some at h) chunk w empty err.1))
 
 -- ---- the end
@@ -753,7 +723,7 @@ pub expected_first : (bits : ℕ) (version : Version) (read : List (List ℕ))
     ((rest : List (List ℕ)) → bytes_in mid.due.items ≡ chunk ∷ rest → ⊥)) →
     IsAlike mid new → new.nodes ≡ mid.nodes → new.ending ≡ mid.ending →
     MatchResult result (λ done. Follows (read ++ chunk ∷ []) new)
-    (UnlessMemory (IsOutOfPlace bits version (read ++ chunk ∷ [])))
+    (UnlessMemory (IsOutOfPlace bits version (read ++ chunk ∷ []) number))
 expected_first bits version read nodes due g chunk w none not_whole empty mid new number (Ok done) n
     c v some all taken err alike same ending =
     as_parts (read ++ chunk ∷ []) new (alike.0 ∙ c) (alike.1 ∙ v) refl refl

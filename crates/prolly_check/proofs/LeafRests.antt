@@ -4,6 +4,7 @@ use Rattle.std.proofs.Common.{◌++◌, length, drop, take, get_or, refl, sym, a
 use Rattle.std.proofs.Common.{take-append-drop, Ok, Err, append_assoc}
 use Rattle.std.specs.List.{flat_map}
 use Rattle.std.specs.Ordering.{is_lt}
+use Rattle.std.proofs.Math.Seq.{drop-cons}
 use Rattle.std.proofs.lemmas.List.{drop_all}
 use Rattle.std.proofs.lemmas.List.Concat.{flat_map-append}
 use Rattle.prolly_entry.specs.Keys.{KeyBelow, key_order}
@@ -23,7 +24,13 @@ use Rattle.prolly_check.specs.Leaves.{pairs_from}
 use Rattle.prolly_check.specs.ScanWay.{AreFirstFrom, next_key}
 use Rattle.prolly_check.proofs.HeldPairs.{map_holds}
 use Rattle.prolly_check.proofs.PairsFrom.{above_some, from_all, pairs_from-append}
-use Rattle.prolly_check.proofs.RebuildSteps.{held_next}
+
+-- the pairs of the next chunk
+held_next : (chunks : List (List ℕ)) (number : ℕ) (held : List Pair) → number < length chunks →
+    held ≡ pairs_held (get_or chunks number []) →
+    flat_map pairs_held (drop number chunks) ≡ held ++
+    flat_map pairs_held (drop (number + 1) chunks)
+held_next chunks number held within e = grind (arith, drop-cons)
 
 -- ---- what is left of a map from a key on, leaf by leaf
 

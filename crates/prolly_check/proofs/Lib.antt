@@ -20,10 +20,8 @@ pub mod PairsFrom
 pub mod MapTree
 -- What is left of a map, leaf by leaf, and what was written of it.
 pub mod LeafRests
--- Events that pass levels of nodes, and the chunks of a file.
-pub mod Rebuilds
--- Rebuilding the chunks of pairs, and their end.
-pub mod RebuildSteps
+-- Levels of nodes that stand one above another: what they send of events, and of all of them.
+pub mod OpenLevels
 -- The child of a node that a look-up goes on in.
 pub mod Chosen
 -- The ways of look-ups down a tree, for who knows the root alone.
@@ -36,6 +34,8 @@ pub mod NextLeaf
 pub mod Followed
 -- What the chunks of a file that were read so far say of those that must follow, step by step.
 pub mod FollowerSteps
+-- The chunks of a file, followed from the first to the last.
+pub mod Canonical
 -- The chunks of a file that were read so far, one after another.
 pub mod ChunkSteps
 -- What the bytes behind a header tell of the file of a map.

@@ -23,11 +23,11 @@ use Rattle.prolly_laws.specs.Splits.{parts, open_rest_of, split_parts, split_spl
 use Rattle.prolly_chunk.specs.LeafLevel.{is_whole_leaf}
 use Rattle.prolly_check.specs.Follower.{AllWhole, leaf_chunks, sent_of_leaves, all_of}
 use Rattle.prolly_check.specs.HeldPairs.{bytes_in, pairs_held}
-use Rattle.prolly_check.specs.Rebuild.{node_levels, sent_through}
+use Rattle.prolly_check.specs.OpenLevels.{node_levels, sent_through}
 use Rattle.prolly_check.proofs.EntryLists.{leaf_pairs}
 use Rattle.prolly_check.proofs.HeldPairs.{bytes_append}
-use Rattle.prolly_check.proofs.Rebuilds.{prefix_of, sent_first, sent_prefix}
-use Rattle.prolly_check.proofs.RebuildSteps.{sends_prefix}
+use Rattle.prolly_check.proofs.OpenLevels.{prefix_of, sent_first, sent_prefix}
+use Rattle.prolly_check.proofs.OpenLevels.{sends_prefix}
 
 -- ---- the pairs that chunks hold
 

@@ -1,38 +1,24 @@
--- Events that pass levels of nodes, and the chunks of a file.
-use Rattle.std.proofs.Common.{rules, ◌≡◌, ℕ, zero, suc, ◌+◌, ◌<◌, ◌≤◌, Bool, true, false, cond}
-use Rattle.std.proofs.Common.{List, [], ◌∷◌, ◌++◌, length, map, take, drop, get_or, Option, Some}
-use Rattle.std.proofs.Common.{None, Result, Ok, Err, refl, sym, ap, ◌∙◌, subst, arith, append_assoc}
-use Rattle.std.proofs.Common.{append-nil, length-take}
+-- Levels of nodes that stand one above another: what they send of events, and of all of them.
+use Rattle.std.proofs.Common.{Bool, List, None, Option, [], ap, append-nil, append_assoc, arith}
+use Rattle.std.proofs.Common.{cond, drop, false, get_or, length, map, refl, rules, subst, suc, sym}
+use Rattle.std.proofs.Common.{take, true, zero, ℕ, ◌++◌, ◌+◌, ◌<◌, ◌^◌, ◌∙◌, ◌∷◌, ◌≡◌, ◌≤◌}
 use Rattle.std.specs.Option.{option_to_list}
-use Rattle.std.specs.Str.{bytes_eq}
-use Rattle.std.proofs.Math.Seq.{drop-cons}
-use Rattle.std.proofs.lemmas.Bool.{cond-false, false_from_ne_true}
 use Rattle.std.proofs.lemmas.Grind.{common_steps}
-use Rattle.std.proofs.lemmas.List.{length-append, length-map, append_cancel_left, take_more}
-use Rattle.std.proofs.lemmas.List.{drop_all, map-append}
-use Rattle.std.proofs.lemmas.Result.{on_ok_weaker}
-use Rattle.std.proofs.lemmas.Slice.Eq.{bytes_eq-Decides}
+use Rattle.std.proofs.lemmas.List.{append_cancel_left}
 use Rattle.prolly_entry.specs.Cut.{Cut, sha512_cut}
 use Rattle.prolly_entry.specs.Pair.{Pair}
 use Rattle.prolly_entry.specs.Prefix.{IsPrefix}
-use Rattle.prolly_entry.specs.Reference.{reference_of}
-use Rattle.prolly_entry.specs.declared.reference.Ref.{Ref}
 use Rattle.prolly_entry.specs.declared.version.Version.{Version}
-use Rattle.prolly_entry.specs.lemmas.Lists.{all_back}
-use Rattle.prolly_tree.specs.Chunk.{Chunk, chunk_of}
-use Rattle.prolly_tree.specs.Events.{Closing, clean, faulty, leaf_events, inner_events, group_event}
-use Rattle.prolly_tree.specs.Events.{event_is_boundary}
-use Rattle.prolly_tree.specs.Tree.{leaves}
-use Rattle.prolly_laws.specs.Stages.{fault_is_prefix, stage_step}
-use Rattle.prolly_chunk.specs.NodeLevel.{NodeState, NodeTakes, node_level}
+use Rattle.prolly_tree.specs.Chunk.{Chunk, chunks}
+use Rattle.prolly_tree.specs.Events.{clean, event_is_boundary, faulty, group_event, inner_events}
+use Rattle.prolly_tree.specs.Tree.{level_count}
+use Rattle.prolly_laws.specs.Stages.{enough_stages, fault_is_prefix, stage_step}
+use Rattle.prolly_chunk.specs.NodeLevel.{NodeBegins, NodeState, NodeTakes, node_level}
 use Rattle.prolly_chunk.specs.lemmas.{node_passes}
 use Rattle.prolly_check.specs.FirstFault.{difference}
-use Rattle.prolly_check.specs.Rebuild.{sent_through, AreBehind, AreBelow, AreFirst, DifferAs}
-use Rattle.prolly_check.specs.Rebuild.{AreOrDiffer, IsExpected, PassesUp}
-use Rattle.prolly_check.specs.Verdict.{UnlessMemory}
-use Rattle.prolly_check.specs.declared.verdict.fault.CheckFault.{CheckFault}
-use Rattle.prolly_check.proofs.HeldPairs.{bytes_in, bytes_append}
-use Rattle.prolly_check.specs.declared.verdict.fault.CheckFault.TheVariants as faults
+use Rattle.prolly_check.specs.OpenLevels.{AreBehind, AreBelow, AreUnused, node_levels, sent_through}
+use Rattle.prolly_tree.specs.Pipeline.{pipeline_events}
+use Rattle.prolly_laws.specs.Trees.{few_levels}
 
 -- ---- what is sent of more events goes on
 
@@ -92,62 +78,6 @@ difference_along chunks rest start zero h = search rules
 difference_along [] rest start (suc number) h = absurd (omega arith)
 difference_along (c ∷ chunks) rest start (suc number) h =
     search (rules, difference_along chunks rest (suc start) number (omega arith))
-
--- a difference stays one
-pub still_differ : (chunks : List (List ℕ)) (sent all : List Chunk) (fault : CheckFault) →
-    IsPrefix sent all →
-    UnlessMemory (DifferAs chunks sent) fault → UnlessMemory (DifferAs chunks all) fault
-still_differ chunks sent all fault p = search (rules, bytes_append, append_assoc)
-
--- there are as many references as chunks that were sent
-pub as_many_sent : (chunks : List (List ℕ)) (references : List Ref) (sent : List Chunk) →
-    AreFirst chunks references sent → length references ≡ length sent
-as_many_sent chunks references sent a = search (rules, length-map)
-
-pub first_are : (chunks : List (List ℕ)) (references : List Ref) (sent : List Chunk) →
-    AreFirst chunks references sent → bytes_in sent ≡ take (length references) chunks
-first_are chunks references sent a = search (rules, as_many_sent)
-
--- one chunk more
-module _ (chunks : List (List ℕ)) (references : List Ref) (event : Chunk) (sent : List Chunk)
-    (a : AreFirst chunks references sent) where
-  abbrev number : ℕ
-  number = length references
-
-  count : number ≡ length sent
-  count = as_many_sent chunks references sent a
-
-  within : number ≤ length chunks
-  within = grind (arith, length-map, length-take)
-
-  one_more : bytes_in (sent ++ event ∷ []) ≡ take number chunks ++ event.bytes ∷ []
-  one_more = search (rules, bytes_append, first_are)
-
-  then : (more : List (List ℕ)) → difference 0 (bytes_in (sent ++ event ∷ []) ++ more) chunks ≡
-      difference number (event.bytes ∷ more) (drop number chunks)
-  then more = grind (arith, one_more, append_assoc, difference_along, within)
-
-  pub is_past : length chunks ≤ number → DifferAs chunks (sent ++ event ∷ [])
-      (faults.NotCanonical number)
-  is_past h more = then more ∙ ap (difference number (event.bytes ∷ more))
-      (drop_all number chunks h)
-
-  pub is_other : number < length chunks → (get_or chunks number [] ≡ event.bytes → ⊥) →
-      DifferAs chunks (sent ++ event ∷ []) (faults.NotCanonical number)
-  is_other h other more =
-      let there = get_or chunks number [] in
-      then more ∙ ap (difference number (event.bytes ∷ more)) (drop-cons chunks number [] h)
-      ∙ cond-false (bytes_eq event.bytes there)
-      (difference (suc number) more (drop (suc number) chunks))
-      (Some (faults.NotCanonical number))
-      (false_from_ne_true (bytes_eq event.bytes there)
-      (λ t. other (sym ((bytes_eq-Decides event.bytes there).0 t))))
-
-  pub is_same : (reference : Ref) → reference.0 ≡ reference_of event.bytes →
-      number < length chunks → get_or chunks number [] ≡ event.bytes →
-      AreFirst chunks (references ++ reference ∷ []) (sent ++ event ∷ [])
-  is_same reference is h same =
-      search (rules, count, length-append, one_more, take_more, map-append, bytes_in, bytes_append)
 
 -- ---- what the levels do with an event
 
@@ -210,73 +140,72 @@ ended_below cut version zero events last e = search (rules, common_steps)
 ended_below cut version (suc below) events last e =
     search (rules, append_cancel_left, grouped_below)
 
-leaves_below : (version : Version) (leaves : List (List Pair)) →
-    AreBelow 1 (map (chunk_of version 0) leaves)
-leaves_below version [] = tt
-leaves_below version (l ∷ leaves) = (omega arith, leaves_below version leaves)
+-- ---- levels that took nothing
 
-pub leaf_below : (cut : Cut) (version : Version) (closing : Closing) (pairs : List Pair)
-    (sent : List Chunk) (last : Option Chunk) →
-    leaf_events cut version closing pairs ≡ sent ++ option_to_list last →
-    AreBelow 1 (option_to_list last)
-leaf_below cut version closing pairs sent last e = search (rules, all_back, leaves_below)
+-- levels that took nothing are those behind no chunks, and send none
+pub unused_behind : (bits : ℕ) (version : Version) (level : ℕ) (states : List (NodeState ℕ)) →
+    AreUnused bits version level states → AreBehind bits version level states []
+unused_behind bits version level [] h = tt
+unused_behind bits version level (s ∷ states) h =
+    search (rules, unused_behind bits version (suc level) states h.1)
 
--- ---- an event on its way
+pub unused_sent : (bits : ℕ) (version : Version) (level : ℕ) (states : List (NodeState ℕ)) →
+    AreUnused bits version level states → sent_through (sha512_cut bits) version level
+    (length states) [] ≡ []
+unused_sent bits version level [] h = refl
+unused_sent bits version level (s ∷ states) h =
+    search (rules, unused_sent bits version (suc level) states h.1)
 
--- none is no event
-pub none_passes : (chunks : List (List ℕ)) (levels : List (NodeState ℕ)) (references : List Ref) →
-    PassesUp chunks levels levels None references references (Ok tt)
-none_passes chunks levels references bits version level events below behind first =
-    rw (append-nil events) (record { behind = behind; compared = first })
+pub unused_more : (bits : ℕ) (version : Version) (level next : ℕ) (states : List (NodeState ℕ))
+    (s : NodeState ℕ) → next ≡ level + length states → AreUnused bits version level states →
+    NodeBegins sha512_cut bits version next s → AreUnused bits version level (states ++ s ∷ [])
+unused_more bits version level next [] s e h b = search rules
+unused_more bits version level next (t ∷ states) s e h b =
+    (h.0, unused_more bits version (suc level) next states s (omega arith) h.1 b)
 
-module _ (chunks : List (List ℕ)) (old mid : List Ref) (event : Chunk) where
-  -- no level is left
-  pub top_passes : {A : Type 0} (reference : A) → IsExpected chunks old mid event (Ok reference) →
-      PassesUp chunks [] [] (Some event) old mid (Ok tt)
-  top_passes reference there bits version level events below behind first =
-      record { behind = tt; compared = there events first }
+-- ---- the levels above send a prefix of what the last one sends
 
-  -- the file has another chunk in its place
-  pub is_refused : (A : Type 0) (levels : List (NodeState ℕ)) (fault : CheckFault) →
-      IsExpected {A = A} chunks old mid event (Err fault) →
-      PassesUp chunks levels levels (Some event) old mid (Err fault)
-  is_refused A levels fault other bits version level events below behind first =
-      let sent = sent_through (sha512_cut bits) version level (length levels) in record {
-        behind = tt;
-        compared = still_differ chunks (sent events ++ event ∷ []) (sent (events ++ event ∷ []))
-            fault
-            (sent_first (sha512_cut bits) version level (length levels) events event)
-            (other (sent events) first);
-      }
+module _ (bits : ℕ) (version : Version) (pairs : List Pair) where
+  abbrev cut : Cut
+  cut = sha512_cut bits
 
-  -- the first level takes it, those above let it pass, and then they take what the first one closes
-  pub one_level : {A : Type 0} (next : A) (state state' : NodeState ℕ)
-      (above above' : List (NodeState ℕ)) (closed : Option Chunk) (new : List Ref)
-      (result : Result (Unit {0}) CheckFault) → IsExpected chunks old mid event (Ok next) →
-      NodeTakes sha512_cut state state' event closed →
-      PassesUp chunks above above' closed mid new result →
-      PassesUp chunks (state ∷ above) (state' ∷ above') (Some event) old new result
-  one_level next state state' above above' closed new result there takes passes bits version level
-      events below behind first =
-      let cut = sha512_cut bits in
-      let inner = inner_events level cut version faulty in
-      let low : event.level < level = below.0 in
-      let sends = takes.events bits version level events behind.0 in
-      let sent : inner (events ++ event ∷ []) ≡ (inner events ++ event ∷ []) ++
-      option_to_list closed =
-      sends ∙ sym (append_assoc (inner events) (event ∷ []) (option_to_list closed)) in
-      let p = passes bits version (suc level) (inner events ++ event ∷ [])
-      (closed_below cut version level events event closed sends)
-      (behind_on bits version (suc level) above (inner events) event (omega arith) behind.1)
-      (subst (AreFirst chunks mid) (sym (sent_on bits version (suc level) (length above)
-      (inner events) event (omega arith)))
-      (there (sent_through cut version (suc level) (length above) (inner events)) first)) in
-      record {
-        behind = on_ok_weaker result (λ b. (
-          takes.state bits version level events behind.0,
-          subst (AreBehind bits version (suc level) above') (sym sent) b,
-        )) p.behind;
-        compared = subst (λ es. AreOrDiffer chunks
-            (sent_through cut version (suc level) (length above') es) new result) (sym sent)
-            p.compared;
-      }
+  abbrev pub clean_events : ℕ → List Chunk
+  clean_events level = pipeline_events level (sha512_cut bits) version clean pairs
+
+  pub sends_prefix : (level count : ℕ) → IsPrefix
+      (sent_through cut version (suc level) count (clean_events level))
+      (clean_events (level + count))
+  sends_prefix level zero = grind (arith, append-nil)
+  sends_prefix level (suc count) =
+      let sent = sent_through cut version (suc (suc level)) count in
+      let below = clean_events level in
+      let inner = inner_events (suc level) cut version faulty below in
+      let p = (fault_is_prefix cut version).1 clean (suc level) below [] in
+      let more : IsPrefix inner (clean_events (suc level)) =
+      (p.0, ap (inner_events (suc level) cut version clean) (sym (append-nil below)) ∙ p.1) in
+      let e : suc level + count ≡ level + suc count = omega arith in
+      subst (λ n. IsPrefix (sent inner) (clean_events n)) e
+      (prefix_of (sent inner) (sent (clean_events (suc level))) (clean_events (suc level + count))
+      (sent_prefix cut version (suc (suc level)) count inner (clean_events (suc level)) more)
+      (sends_prefix (suc level) count))
+
+-- ---- the same, as the code has it
+
+-- the first of the levels was taken out
+pub taken_out : {A : Type 0} (old new : List A) (first : A) → 0 < length old →
+    first ≡ get_or old 0 first → new ≡ take 0 old ++ drop (0 + 1) old → old ≡ first ∷ new
+taken_out [] new first some v e = absurd (omega arith)
+taken_out (x ∷ xs) new first some v e = ap (λ y. y ∷ xs) (sym v) ∙ ap (λ ys. first ∷ ys) (sym e)
+
+-- ---- all that is sent
+
+-- so many levels are enough
+levels_enough : (cut : Cut) (version : Version) (pairs : List Pair) → length pairs < 2 ^ 64 →
+    level_count cut version pairs ≤ suc node_levels
+unfolding node_levels
+levels_enough cut version pairs few = few_levels cut version pairs 64 (omega arith)
+
+pub all_sent : (bits : ℕ) (version : Version) (pairs : List Pair) → length pairs < 2 ^ 64 →
+    pipeline_events node_levels (sha512_cut bits) version clean pairs ≡ chunks (sha512_cut bits)
+    version pairs
+all_sent bits version pairs few = search (rules, enough_stages, levels_enough)

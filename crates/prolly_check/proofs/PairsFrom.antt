@@ -1,22 +1,21 @@
 -- What is found among the pairs of a map: at a key, from a key on, at a number.
 use mathlib.Core.List.{cons≢nil}
-use Rattle.std.proofs.Common.{rules, ◌≡◌, ℕ, zero, suc, ◌+◌, ◌<◌, false, cond, List, [], ◌∷◌, ◌++◌}
-use Rattle.std.proofs.Common.{length, None, Ordering, refl, sym, ap, ◌∙◌, subst, arith, ◌≤◌, Bool}
+use Rattle.std.proofs.Common.{rules, ◌≡◌, ℕ, zero, suc, ◌<◌, false, cond, List, [], ◌∷◌, ◌++◌}
+use Rattle.std.proofs.Common.{length, Ordering, refl, sym, ap, ◌∙◌, subst, arith, ◌≤◌, Bool}
 use Rattle.std.proofs.Common.{true, not, take, inl, inr, ◌⊎◌, append_assoc, append-nil}
-use Rattle.std.specs.List.{slice_get, AllByRecursion}
+use Rattle.std.specs.List.{AllByRecursion}
 use Rattle.std.specs.Ordering.{is_lt, nat_cmp, ordering_reverse, ordering_then}
 use Rattle.std.specs.declared.cmp.Ordering.TheVariants.{Less, Equal, Greater}
-use Rattle.std.proofs.lemmas.Bool.{cases_Bool, cond_both, false≢true}
+use Rattle.std.proofs.lemmas.Bool.{cases_Bool, cond_both}
 use Rattle.std.proofs.lemmas.Cmp.{nat_cmp_total}
 use Rattle.std.proofs.lemmas.Grind.{common_steps}
-use Rattle.std.proofs.lemmas.List.Elements.{filter-append}
 use Rattle.prolly_entry.specs.Keys.{key_order, KeyBelow, Rising, RisingFrom}
 use Rattle.prolly_entry.specs.Pair.{Pair}
 use Rattle.prolly_entry.specs.lemmas.Lists.{all_append, all_back}
-use Rattle.prolly_entry.specs.lemmas.Orders.{order_trans, order_same, greater_below, below_greater}
+use Rattle.prolly_entry.specs.lemmas.Orders.{order_trans}
 use Rattle.prolly_tree.specs.LookUp.{find}
 use Rattle.prolly_tree.specs.Tree.{last_key}
-use Rattle.prolly_tree.specs.lemmas.Maps.{Above, Rises, rises_front, rises_back, above_more}
+use Rattle.prolly_tree.specs.lemmas.Maps.{Above, Rises, rises_front, rises_back}
 use Rattle.prolly_tree.specs.lemmas.Maps.{above_last, find_above}
 use Rattle.prolly_file.specs.Scratch.{keys_in}
 use Rattle.prolly_check.specs.Leaves.{pairs_from}

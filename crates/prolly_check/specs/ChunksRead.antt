@@ -16,7 +16,7 @@ use Rattle.prolly_check.specs.HeldPairs.{pairs_held}
 use Rattle.prolly_check.specs.Incoming.{IsFilled}
 use Rattle.prolly_check.specs.Verdict.{UnlessMemory}
 use Rattle.prolly_check.specs.declared.stream.chunks_read.ChunksRead.{ChunksRead}
-use Rattle.prolly_check.specs.declared.stream.follower.Follower.{Follower}
+use Rattle.prolly_check.specs.declared.verdict.follower.Follower.{Follower}
 use Rattle.prolly_check.specs.declared.verdict.fault.CheckFault.{CheckFault}
 
 -- These chunks were read: they are whole, their keys rise up to the last one, and they follow one

@@ -12,6 +12,12 @@ pub record IsDigest (bits : ℕ) (chunk : List ℕ) (digest : ChunkDigest) : Typ
   pub reference : digest.reference.0 ≡ reference_of chunk
   pub whole : digest.is_whole_leaf ≡ is_whole_leaf (sha512_cut bits) (pairs_held chunk)
 
+-- The references of chunks, in the order of the chunks, as their digests have them.
+pub record AreNamed (chunks : List (List ℕ)) (digests : List ChunkDigest) : Type 0 where
+  pub many : length digests ≡ length chunks
+  pub each : (number : ℕ) (other : ChunkDigest) → number < length chunks →
+      (get_or digests number other).reference.0 ≡ reference_of (get_or chunks number [])
+
 -- The digests of chunks, in their order.
 pub record AreDigests (bits : ℕ) (chunks : List (List ℕ)) (digests : List ChunkDigest) : Type 0 where
   pub many : length digests ≡ length chunks

@@ -12,11 +12,10 @@ use Rattle.prolly_tree.specs.Pipeline.{pipeline_events}
 use Rattle.prolly_tree.specs.lemmas.Splits.{flat}
 use Rattle.prolly_chunk.specs.LeafLevel.{is_whole_leaf}
 use Rattle.prolly_chunk.specs.NodeLevel.{NodeState}
-use Rattle.prolly_check.specs.FirstFault.{difference}
 use Rattle.prolly_check.specs.HeldPairs.{bytes_in, pairs_held}
-use Rattle.prolly_check.specs.Rebuild.{AreBehind, node_levels, sent_through}
+use Rattle.prolly_check.specs.OpenLevels.{AreBehind, node_levels, sent_through}
 use Rattle.prolly_check.specs.Verdict.{UnlessMemory}
-use Rattle.prolly_check.specs.declared.stream.follower.Follower.{Follower}
+use Rattle.prolly_check.specs.declared.verdict.follower.Follower.{Follower}
 use Rattle.prolly_check.specs.declared.verdict.fault.CheckFault.{CheckFault}
 use Rattle.prolly_check.specs.declared.verdict.fault.CheckFault.TheVariants.{NotCanonical}
 
@@ -87,24 +86,45 @@ IsAlike old new = (new.cut ≡ old.cut) × (new.version ≡ old.version)
 
 -- ---- a chunk that is out of its place
 
+-- Chunks begin as the others do, and the one of this number is another one there.
+pub record PartsAt (wanted read : List (List ℕ)) (n : ℕ) : Type 0 where
+  pub within : n < length read
+  pub tail : List (List ℕ)
+  pub are : wanted ≡ take n read ++ tail
+  pub other : (rest : List (List ℕ)) → tail ≡ get_or read n [] ∷ rest → ⊥
+
+-- The chunks part from those of the file of the pairs, where they hold these pairs or the first of
+-- them.
+abbrev pub PartsFrom : ℕ → Version → List Pair → List (List ℕ) → ℕ → Type 0
+PartsFrom bits version pairs read n = PartsAt (bytes_in (all_of bits version pairs)) read n
+
 -- The last one of these chunks shows that the one of this number is not that of the file of the
--- pairs that they hold, and that no file of a map begins with them.
-pub record IsOutOfPlace (bits : ℕ) (version : Version) (read : List (List ℕ)) (fault : CheckFault)
-    : Type 0 where
+-- pairs that they hold; that the one of the other number is not that of any file of more pairs; and
+-- so that no file of a map begins with them.
+pub record IsOutOfPlace (bits : ℕ) (version : Version) (read : List (List ℕ)) (later : ℕ)
+    (fault : CheckFault) : Type 0 where
   pub number : ℕ
   pub is : fault ≡ NotCanonical number
-  pub within : number < length read
-  pub parts : difference 0 (bytes_in (all_of bits version (flat_map pairs_held read))) read ≡
-      Some fault
+  pub parts : PartsFrom bits version (flat_map pairs_held read) read number
+  pub parts_later : (more : List Pair) → (more ≡ [] → ⊥) →
+      AllByRecursion IsPair (flat_map pairs_held read ++ more) →
+      PartsFrom bits version (flat_map pairs_held read ++ more) read later
   pub none : (m : List Pair) → AllByRecursion IsPair m →
       IsPrefix read (bytes_in (all_of bits version m)) → ⊥
+
+-- Where chunks part from the file of more pairs, if the one of this number is out of its place: at
+-- the first one of the end, if the end has been met.
+abbrev pub place_of_end : Option ℕ → ℕ → ℕ
+place_of_end None number = number
+place_of_end (Some from) number = from
 
 -- The chunk is the next one, or out of its place, unless memory was refused.
 abbrev pub TakesNext : Follower → Follower → ℕ → List ℕ → Result (Unit {0}) CheckFault → Type 0
 TakesNext old new number chunk result = (read : List (List ℕ)) → number ≡ length read →
     Follows read old →
     MatchResult result (λ done. Follows (read ++ chunk ∷ []) new)
-    (UnlessMemory (IsOutOfPlace old.cut old.version (read ++ chunk ∷ [])))
+    (UnlessMemory (IsOutOfPlace old.cut old.version (read ++ chunk ∷ [])
+    (place_of_end old.ending number)))
 
 -- The chunks are all of the file of the pairs that they hold; or another one must follow, unless
 -- memory was refused.

@@ -26,8 +26,8 @@ pub mod Descent
 pub mod FoundPairs
 -- The pairs of a map from a key on.
 pub mod Leaves
--- Rebuilding the chunks of pairs one by one, by levels that stand one above another.
-pub mod Rebuild
+-- Levels of nodes that stand one above another, each of which takes what the one below it sent.
+pub mod OpenLevels
 -- The bytes of a source as they come.
 pub mod Incoming
 -- What is kept of the chunks of a file that were read so far.

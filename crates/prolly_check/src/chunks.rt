@@ -1,20 +1,18 @@
 //! The chunks of a file that was checked, and the order of their references.
-ghost use Rattle.std.specs.Prelude.{◌≡◌, ℕ, ◌<◌, List, [], get_or, length, ◌+◌, true, None, IfOk};
+ghost use Rattle.std.specs.Prelude.{◌≡◌, ℕ, ◌<◌, List, [], get_or, length, None, IfOk};
 ghost use Rattle.std.specs.Prelude.{IfErr, MatchOption, OnOk, option_map};
 ghost use Rattle.std.specs.List.{AllByRecursion};
-ghost use Rattle.prolly_entry.specs.declared.version.Version.TheVariants.{One};
-ghost use Rattle.prolly_tree.specs.Chunk.{chunk_of};
 ghost use Rattle.prolly_check.specs.HeldPairs.{pairs_held};
 ghost use Rattle.prolly_check.specs.Frames.{IsWithin, chunks_in};
+ghost use Rattle.prolly_check.specs.Digests.{AreNamed};
 ghost use Rattle.prolly_check.specs.Entries.{AreWhole};
 ghost use Rattle.prolly_check.specs.Way.{level_of};
 ghost use Rattle.prolly_check.specs.Chunks.{AreNumbered, AreReferences, HasAt, IsIndex};
 ghost use Rattle.prolly_check.specs.FirstFault.{reuse};
 ghost use Rattle.prolly_check.specs.Verdict.{UnlessMemory};
 
-use crate::entries::{Pairs, leaf_event, pairs_of};
-use crate::verdict::{CheckFault, chunk_at};
-use prolly_chunk::BorrowedEvent;
+use crate::entries::{Pairs, pairs_of};
+use crate::verdict::{CheckFault, ChunkDigest, Following, chunk_at};
 use prolly_entry::Ref;
 use prolly_file::Header;
 use std::alloc::{AllocError, Global};
@@ -88,14 +86,15 @@ impl<'a> Chunks<'a> {
         pairs_of(self.layout.header.version, self.chunk(number))
     }
 
-    /// The event of the chunk of this number, which is a leaf with pairs. Takes no memory and no
-    /// hash, and goes over the pairs once.
-    pub(crate) fn leaf_event(&self, number: usize) -> BorrowedEvent<'a>
-        requires number { number < length self.now }
-        requires some { 0 < length (pairs_held (get_or self.now number [])) }
-        ensures { result ≡ chunk_of One 0 (pairs_held (get_or self.now number [])) }
+    /// The chunks from this number on, with their digests.
+    pub(crate) fn following<'b>(
+        &self,
+        digests: &'b [ChunkDigest],
+        first: usize,
+    ) -> Following<'a, 'b>
+        requires { AreNamed self.now digests.now }
     {
-        leaf_event(self.layout.header.version, self.chunk(number))
+        Following::new(self.bytes, &self.layout.spans, digests, first)
     }
 }
 

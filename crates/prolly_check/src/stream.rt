@@ -1,7 +1,6 @@
 //! Checking a file of any size while it is read, by its root.
 mod chunks_read;
 mod fault;
-mod follower;
 mod incoming;
 mod root_checker;
 

@@ -1,6 +1,6 @@
 -- What is found in lists that stand one behind another: at a key, at a number, from a key on.
 use Rattle.std.proofs.Common.{rules, ◌≡◌, ℕ, zero, suc, ◌+◌, ◌<◌, List, [], ◌∷◌, ◌++◌, length, None}
-use Rattle.std.proofs.Common.{Ordering, refl, sym, ap, subst, arith, not, false}
+use Rattle.std.proofs.Common.{Ordering, refl, sym, subst, arith, not, false}
 use Rattle.std.specs.List.{slice_get, AllByRecursion}
 use Rattle.std.specs.Ordering.{is_lt}
 use Rattle.std.specs.declared.cmp.Ordering.TheVariants.{Less, Equal, Greater}

@@ -12,8 +12,9 @@ ghost use Rattle.prolly_check.specs.Follower.{IsAlike};
 ghost use Rattle.prolly_check.specs.HeldPairs.{pairs_held};
 
 use crate::entries::{Pairs, pairs_of};
-use crate::stream::follower::Follower;
-use crate::verdict::{CheckFault, ChunkDigest, ChunkHasher, chunk_at, last_in, test_chunks};
+use crate::verdict::{
+    CheckFault, ChunkDigest, ChunkHasher, Follower, Following, chunk_at, last_in, test_chunks,
+};
 use prolly_entry::{Ref, Sha512Cut, Version};
 use prolly_file::{END_LETTER, END_SIZE, FRAME_LETTER, end_record};
 use std::alloc::{AllocError, Global};
@@ -54,6 +55,7 @@ impl ChunksRead {
         alloc: Global,
         chunk: &[u8],
         digest: ChunkDigest,
+        next: &Following,
     ) -> Result<(), CheckFault>
         requires whole { IsWhole self.old.follower.version chunk.now }
         requires digest { IsDigest self.old.follower.cut chunk.now digest }
@@ -67,7 +69,7 @@ impl ChunksRead {
         if !self.rises_to(alloc, pairs_of(self.follower.version, chunk))? {
             return Err(CheckFault::KeysOutOfOrder { chunk: number });
         }
-        self.follower.take(alloc, number, chunk, digest)?;
+        self.follower.take(alloc, number, chunk, digest, next)?;
         self.count = number + 1;
         self.reference = digest.reference;
         Ok(())
@@ -122,7 +124,13 @@ impl ChunksRead {
         let (cut, version) = (self.follower.cut, self.follower.version);
         let digests = hasher.digests(alloc, cut, version, bytes, spans)?;
         for number in 0..spans.len() {
-            self.take(alloc, chunk_at(bytes, &spans[number]), digests[number])?;
+            let next = Following::new(bytes, spans, &digests, number + 1);
+            self.take(
+                alloc,
+                chunk_at(bytes, &spans[number]),
+                digests[number],
+                &next,
+            )?;
         }
         Ok(())
     }

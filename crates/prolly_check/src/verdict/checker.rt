@@ -7,16 +7,17 @@ ghost use Rattle.prolly_check.specs.Verdict.{IsRefusal, IsFileOf, IsVerdict, Unl
 ghost use Rattle.prolly_check.specs.Chunks.{IsChecked, IsFile, IsLaidOut, AreReferences};
 ghost use Rattle.prolly_check.specs.Content.{Content};
 ghost use Rattle.prolly_check.specs.Digests.{AreDigests};
+ghost use Rattle.prolly_check.specs.Entries.{AreWhole};
 ghost use Rattle.prolly_check.specs.HeldPairs.{pairs_held};
 ghost use Rattle.prolly_check.specs.Frames.{chunks_in};
 
 use crate::chunks::{Chunks, Index, Layout};
 use crate::tree::Tree;
-use crate::verdict::digests::{ChunkDigest, ChunkHasher, OneThread};
+use crate::verdict::canonical::test_followed;
+use crate::verdict::digests::{ChunkDigest, ChunkHasher, OneThread, references_of};
 use crate::verdict::fault::CheckFault;
 use crate::verdict::frames::{find_frames, test_chunks, test_ending};
 use crate::verdict::order::test_order;
-use crate::verdict::rebuild::test_rebuilt;
 use prolly_entry::{Ref, Sha512Cut, Version};
 use prolly_file::{HEADER_SIZE, Source, end_record, read_header, read_whole};
 use std::alloc::Global;
@@ -31,8 +32,7 @@ use std::alloc::Global;
 /// Takes time linear in the bytes, but for the ordering of the references. Hashes each chunk once,
 /// and each entry once; the entries of a leaf that is not whole, as the last one often is not, it
 /// hashes twice. Beside the bytes it holds the place and the digest of each chunk, while the chunks
-/// are rebuilt one open chunk of each level and the reference of each chunk that was found right,
-/// and then the index of the references.
+/// are followed one open node of each level, and then the index of the references.
 pub fn check<S: Source>(alloc: Global, source: &mut S, max_bytes: u32) -> Result<Tree, CheckFault>
     // What is accepted are the bytes of the source, and they are the file of a map.
     ensures same { (S.seen source.old).is_honest ≡ true →
@@ -156,6 +156,7 @@ fn test_canonical(
     digests: Vec<ChunkDigest>,
     end: &[u8],
 ) -> Result<Vec<Ref>, CheckFault>
+    requires whole { AreWhole version chunks.now }
     requires few { length (flat_map pairs_held chunks.now) < 2 ^ 64 }
     requires digests { AreDigests cut chunks.now digests.items }
     ensures ok { OnOk result (Says version cut chunks.now end.now None) }
@@ -165,7 +166,8 @@ fn test_canonical(
         Says version cut chunks.now end.now (Some fault))) }
 {
     test_order(chunks)?;
-    let references = test_rebuilt(alloc, cut, version, chunks, &digests)?;
+    test_followed(alloc, cut, version, chunks, &digests)?;
+    let references = references_of(alloc, &digests)?;
     test_end(end, chunks, &references)?;
     Ok(references)
 }

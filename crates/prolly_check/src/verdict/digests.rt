@@ -1,5 +1,5 @@
 //! The hashes of a file, taken by one thread or by many, and what they tell of each chunk.
-ghost use Rattle.std.specs.Prelude.{◌≡◌, ◌<◌, ⊤, [], true, get_or, length, IfOk};
+ghost use Rattle.std.specs.Prelude.{◌≡◌, ◌<◌, ⊤, [], true, get_or, length, map, IfOk};
 ghost use Rattle.std.specs.List.{AllByRecursion};
 ghost use Rattle.std.specs.Thread.{IsSync};
 ghost use Rattle.prolly_entry.specs.Cut.{sha512_cut};
@@ -185,4 +185,16 @@ fn ends_whole(cut: Sha512Cut, mut leaf: Pairs) -> bool
         }
     }
     false
+}
+
+/// The references of chunks, of which these are the digests.
+pub(crate) fn references_of(alloc: Global, digests: &[ChunkDigest]) -> Result<Vec<Ref>, AllocError>
+    ensures { IfOk result (λ references.
+        references.items ≡ map (λ digest. digest.reference) digests.now) }
+{
+    let mut references = Vec::with_capacity(alloc, digests.len())?;
+    for digest in digests {
+        references.push(digest.reference)?;
+    }
+    Ok(references)
 }

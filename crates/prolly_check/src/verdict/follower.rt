@@ -10,11 +10,14 @@ ghost use Rattle.prolly_entry.specs.declared.version.Version.TheVariants.{One};
 ghost use Rattle.prolly_check.specs.Digests.{IsDigest};
 ghost use Rattle.prolly_check.specs.Entries.{IsWhole};
 ghost use Rattle.prolly_check.specs.Follower.{ClosesAll, ClosesBehind, EndsWith, Follows, IsAlike};
-ghost use Rattle.prolly_check.specs.Follower.{PassesOn, TakesNext};
+ghost use Rattle.prolly_check.specs.Follower.{PassesOn, TakesNext, place_of_end};
 ghost use Rattle.prolly_check.specs.HeldPairs.{bytes_in, pairs_held};
 
 use crate::entries::{Pairs, leaf_event, pairs_of};
-use crate::verdict::{CheckFault, ChunkDigest, new_nodes};
+use crate::verdict::digests::ChunkDigest;
+use crate::verdict::fault::CheckFault;
+use crate::verdict::following::Following;
+use crate::verdict::levels::new_nodes;
 use prolly_chunk::{BorrowedEvent, ChunkEvent, LeafLevel, NodeLevel};
 use prolly_entry::{Cut, Ref, Sha512Cut, Version};
 use std::alloc::{AllocError, Global};
@@ -58,14 +61,15 @@ impl Follower {
 
     /// Takes the next chunk, of this number, or tells the first chunk that is out of its place.
     ///
-    /// Takes no hash of the chunk, and one of each node that it closes. After an `Err` the follower
-    /// is of no use.
+    /// Takes no hash of the chunk, nor of a node that it closes where that is found in its place in
+    /// `next`, the chunks that follow. After an `Err` the follower is of no use.
     pub(crate) fn take(
         &mut self,
         alloc: Global,
         number: usize,
         chunk: &[u8],
         digest: ChunkDigest,
+        next: &Following,
     ) -> Result<(), CheckFault>
         requires whole { IsWhole self.old.version chunk.now }
         requires digest { IsDigest self.old.cut chunk.now digest }
@@ -76,7 +80,7 @@ impl Follower {
         match self.ending {
             None => {
                 if self.due.is_empty() {
-                    return self.go_on(alloc, number, chunk, digest);
+                    return self.go_on(alloc, number, chunk, digest, next);
                 }
                 self.expect(number, chunk)
             }
@@ -87,6 +91,14 @@ impl Follower {
                 self.expect(number, chunk)
             }
         }
+    }
+
+    /// At which chunk the file parts from these where the next one, of this number, is out of its
+    /// place and pairs follow it.
+    pub(crate) fn place_of_end(&self, number: usize) -> usize
+        ensures { result ≡ place_of_end self.now.ending number }
+    {
+        self.ending.unwrap_or(number)
     }
 
     /// Tests that so many chunks are all of the file, or tells that one more must follow.
@@ -100,7 +112,14 @@ impl Follower {
         if !self.due.is_empty() {
             return Err(CheckFault::NotCanonical { chunk: number });
         }
-        close_behind(alloc, self.cut, number, &mut self.nodes, &mut self.due)?;
+        close_behind(
+            alloc,
+            self.cut,
+            number,
+            &mut self.nodes,
+            &Following::none(),
+            &mut self.due,
+        )?;
         test_none_due(&self.due, number)
     }
 
@@ -111,6 +130,7 @@ impl Follower {
         number: usize,
         chunk: &[u8],
         digest: ChunkDigest,
+        next: &Following,
     ) -> Result<(), CheckFault>
         requires whole { IsWhole self.old.version chunk.now }
         requires digest { IsDigest self.old.cut chunk.now digest }
@@ -127,6 +147,7 @@ impl Follower {
                 &mut self.nodes,
                 &event,
                 &digest.reference,
+                next,
                 &mut self.due,
             )?;
             return Ok(());
@@ -134,7 +155,7 @@ impl Follower {
         if has_boundary(self.cut, pairs_of(self.version, chunk)) {
             return Err(CheckFault::NotCanonical { chunk: number });
         }
-        self.end(alloc, number, chunk, &digest.reference)
+        self.end(alloc, number, chunk, &digest.reference, next)
     }
 
     /// Takes the first chunk of the end, which is no whole leaf and has no boundary: the last leaf,
@@ -145,6 +166,7 @@ impl Follower {
         number: usize,
         chunk: &[u8],
         reference: &Ref,
+        next: &Following,
     ) -> Result<(), CheckFault>
         requires whole { IsWhole self.old.version chunk.now }
         requires reference { reference.now.0 ≡ reference_of chunk.now }
@@ -158,12 +180,26 @@ impl Follower {
     {
         self.ending = Some(number);
         if pairs_of(self.version, chunk).is_empty() {
-            close_behind(alloc, self.cut, number, &mut self.nodes, &mut self.due)?;
+            close_behind(
+                alloc,
+                self.cut,
+                number,
+                &mut self.nodes,
+                next,
+                &mut self.due,
+            )?;
             return self.expect(number, chunk);
         }
         let event = leaf_event(self.version, chunk);
-        pass_leaf(alloc, &mut self.nodes, &event, reference, &mut self.due)?;
-        close_all(alloc, &mut self.nodes, &mut self.due)?;
+        pass_leaf(
+            alloc,
+            &mut self.nodes,
+            &event,
+            reference,
+            next,
+            &mut self.due,
+        )?;
+        close_all(alloc, &mut self.nodes, next, &mut self.due)?;
         Ok(())
     }
 
@@ -201,6 +237,7 @@ fn pass_on(
     alloc: Global,
     levels: &mut [NodeLevel<Sha512Cut>],
     event: ChunkEvent,
+    next: &Following,
     due: &mut VecDeque<ChunkEvent>,
 ) -> Result<(), AllocError>
     ensures passes { OnOk result (PassesOn levels.old levels.new event
@@ -213,11 +250,12 @@ fn pass_on(
             Ok(())
         }
         Some((level, above)) => {
-            let closed = level.push(alloc, &event)?;
+            let reference = next.reference_of(due.len(), event.bytes());
+            let closed = level.push_known(alloc, &event.as_borrowed(), &reference)?;
             due.push_back(event)?;
             match closed {
                 None => Ok(()),
-                Some(closed) => pass_on(alloc, above, closed, due),
+                Some(closed) => pass_on(alloc, above, closed, next, due),
             }
         }
     }
@@ -229,6 +267,7 @@ fn pass_leaf(
     levels: &mut [NodeLevel<Sha512Cut>],
     leaf: &BorrowedEvent,
     reference: &Ref,
+    next: &Following,
     due: &mut VecDeque<ChunkEvent>,
 ) -> Result<(), AllocError>
     requires reference { reference.now.0 ≡ reference_of leaf.now.bytes }
@@ -242,7 +281,7 @@ fn pass_leaf(
     };
     match level.push_known(alloc, leaf, reference)? {
         None => Ok(()),
-        Some(closed) => pass_on(alloc, above, closed, due),
+        Some(closed) => pass_on(alloc, above, closed, next, due),
     }
 }
 
@@ -251,6 +290,7 @@ fn pass_empty(
     alloc: Global,
     cut: Sha512Cut,
     levels: &mut [NodeLevel<Sha512Cut>],
+    next: &Following,
     due: &mut VecDeque<ChunkEvent>,
 ) -> Result<(), AllocError>
     ensures passes { OnOk result (PassesOn levels.old levels.new (chunk_of One 0 [])
@@ -259,7 +299,7 @@ fn pass_empty(
 {
     match LeafLevel::new(alloc, cut)?.finish() {
         None => Ok(()),
-        Some(leaf) => pass_on(alloc, levels, leaf, due),
+        Some(leaf) => pass_on(alloc, levels, leaf, next, due),
     }
 }
 
@@ -270,16 +310,17 @@ fn close_behind(
     cut: Sha512Cut,
     number: usize,
     nodes: &mut Vec<NodeLevel<Sha512Cut>>,
+    next: &Following,
     due: &mut VecDeque<ChunkEvent>,
 ) -> Result<(), AllocError>
     requires { due.old.items ≡ [] }
     ensures { OnOk result (ClosesBehind cut nodes.old.items number (bytes_in due.new.items)) }
 {
     if number == 0 {
-        pass_empty(alloc, cut, nodes, due)?;
-        return close_all(alloc, nodes, due);
+        pass_empty(alloc, cut, nodes, next, due)?;
+        return close_all(alloc, nodes, next, due);
     }
-    close_all(alloc, nodes, due)
+    close_all(alloc, nodes, next, due)
 }
 
 /// Tests that no chunk must follow so many.
@@ -298,6 +339,7 @@ fn test_none_due(due: &VecDeque<ChunkEvent>, number: usize) -> Result<(), CheckF
 fn close_all(
     alloc: Global,
     nodes: &mut Vec<NodeLevel<Sha512Cut>>,
+    next: &Following,
     due: &mut VecDeque<ChunkEvent>,
 ) -> Result<(), AllocError>
     ensures { OnOk result (ClosesAll nodes.old.items (bytes_in due.old.items)
@@ -305,7 +347,7 @@ fn close_all(
 {
     while nodes.len() > 0 {
         if let Some(last) = nodes.remove(0).finish() {
-            pass_on(alloc, nodes, last, due)?;
+            pass_on(alloc, nodes, last, next, due)?;
         }
     }
     Ok(())

@@ -1,7 +1,7 @@
 use Rattle.std.proofs.Common.{arith}
-use Rattle.prolly_check.specs.Rebuild.{node_levels}
-use Rattle.prolly_check.proofs.RebuildSteps.{unused_more}
-use Rattle.prolly_check.proofs.verdict.rebuild.new_nodes.Goals as goal
+use Rattle.prolly_check.specs.OpenLevels.{node_levels}
+use Rattle.prolly_check.proofs.OpenLevels.{unused_more}
+use Rattle.prolly_check.proofs.verdict.levels.new_nodes.Goals as goal
 
 pub loop-level-preserved : goal.loop-level-preserved
 loop-level-preserved c = grind (arith, unused_more)

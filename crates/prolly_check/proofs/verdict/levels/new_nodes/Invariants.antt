@@ -1,6 +1,6 @@
 use Rattle.std.proofs.Common.{◌≡◌, length}
-use Rattle.prolly_check.specs.Rebuild.{AreUnused}
-use Rattle.prolly_check.proofs.verdict.rebuild.new_nodes.Given as goal
+use Rattle.prolly_check.specs.OpenLevels.{AreUnused}
+use Rattle.prolly_check.proofs.verdict.levels.new_nodes.Given as goal
 
 abbrev pub invariant-loop-level : goal.invariant-loop-level
 invariant-loop-level l = record {

@@ -19,7 +19,7 @@ returns-in_err-take-clause-takes c = λ chunks r few.
     rw (p.1, p.2)
     (⊎_map (λ memory. memory)
     (flaw_of_place c.args.self.now.follower.cut c.args.self.now.follower.version chunks
-    c.args.chunk.now _ c.requires.whole
+    c.args.chunk.now _ _ c.requires.whole
     (keys_rise chunks c.args.chunk.now c.args.self.now r rises) few)
     (rw c.in_ok-rises_to.ensures.same.0 at
     (c.in_err-take.ensures.takes chunks r.count (rw c.in_ok-rises_to.ensures.same.0 r.follows))))

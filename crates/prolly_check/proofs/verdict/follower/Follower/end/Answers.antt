@@ -5,7 +5,7 @@ use Rattle.prolly_check.specs.HeldPairs.{bytes_in, pairs_held}
 use Rattle.prolly_check.proofs.FollowerSteps.{all_behind, expected_first, leaf_closes, leaf_ends}
 use Rattle.prolly_check.proofs.FollowerSteps.{none_held, some_there}
 use Rattle.prolly_check.proofs.NextLeaf.{open_not_whole}
-use Rattle.prolly_check.proofs.stream.follower.Follower.end.Goals as goal
+use Rattle.prolly_check.proofs.verdict.follower.Follower.end.Goals as goal
 
 pub returns-then-is_empty-clause-takes : goal.returns-then-is_empty-clause-takes
 returns-then-is_empty-clause-takes c = λ read n h.
@@ -14,7 +14,7 @@ returns-then-is_empty-clause-takes c = λ read n h.
     let nodes = c.args.self.now.nodes.items in
     let due = c.args.self.now.due.items in
     let g = rw c.requires.going at h in
-    expected_first bits version read nodes due g c.args.chunk.now c.requires.whole
+    rw c.requires.going (expected_first bits version read nodes due g c.args.chunk.now c.requires.whole
     c.requires.none (open_not_whole (sha512_cut bits) (pairs_held c.args.chunk.now) c.requires.open)
     (none_held _ (pairs_held c.args.chunk.now) _ c.pairs_of.ensures c.is_empty.ensures
     c.if-is_empty.true) (record {
@@ -26,7 +26,7 @@ returns-then-is_empty-clause-takes c = λ read n h.
     }) c.expect.new.self c.args.number c.expect.result n refl refl refl
     (all_behind bits version read nodes due g c.args.number c.close_behind.new.due.items
     c.requires.none n c.in_ok-close_behind.ensures) c.expect.ensures.due c.expect.ensures.other
-    c.expect.ensures.alike.0 c.expect.ensures.alike.1 c.expect.ensures.alike.2
+    c.expect.ensures.alike.0 c.expect.ensures.alike.1 c.expect.ensures.alike.2)
 
 pub returns-clause-takes : goal.returns-clause-takes
 returns-clause-takes c = λ read n h.

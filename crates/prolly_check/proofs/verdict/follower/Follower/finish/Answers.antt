@@ -1,6 +1,6 @@
 use Rattle.std.proofs.Common.{rules, ◌≡◌, [], arith, inr, length, sym, ◌∙◌}
 use Rattle.prolly_check.proofs.FollowerSteps.{end_is_all, going_short, is_none, leaves_are_all, no_items}
-use Rattle.prolly_check.proofs.stream.follower.Follower.finish.Goals as goal
+use Rattle.prolly_check.proofs.verdict.follower.Follower.finish.Goals as goal
 
 pub returns-then-is_some-clause-ends : goal.returns-then-is_some-clause-ends
 returns-then-is_some-clause-ends c = λ read n h.

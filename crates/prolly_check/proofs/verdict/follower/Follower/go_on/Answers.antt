@@ -4,7 +4,7 @@ use Rattle.prolly_entry.specs.Cut.{sha512_cut}
 use Rattle.prolly_chunk.specs.LeafLevel.{is_whole_leaf}
 use Rattle.prolly_check.specs.HeldPairs.{pairs_held}
 use Rattle.prolly_check.proofs.FollowerSteps.{leaf_is_cut, leaf_taken, some_held}
-use Rattle.prolly_check.proofs.stream.follower.Follower.go_on.Goals as goal
+use Rattle.prolly_check.proofs.verdict.follower.Follower.go_on.Goals as goal
 
 pub returns-then-digest-clause-takes : goal.returns-then-digest-clause-takes
 returns-then-digest-clause-takes c = λ read n h.
@@ -26,7 +26,7 @@ returns-then-digest-clause-takes c = λ read n h.
 
 pub returns-then-has_boundary-clause-takes : goal.returns-then-has_boundary-clause-takes
 returns-then-has_boundary-clause-takes c = λ read n h.
-    rw n (inr (leaf_is_cut c.args.self.now.cut c.args.self.now.version read
+    rw (c.requires.going, n) (inr (leaf_is_cut c.args.self.now.cut c.args.self.now.version read
     c.args.self.now.nodes.items c.args.self.now.due.items (rw c.requires.going at h)
     c.args.chunk.now c.requires.whole c.requires.none
     (sym c.requires.digest.whole ∙ c.if-digest.false)

@@ -1,6 +1,6 @@
 use Rattle.std.proofs.Common.{refl}
 use Rattle.prolly_check.proofs.FollowerSteps.{going_begins}
-use Rattle.prolly_check.proofs.stream.follower.Follower.new.Goals as goal
+use Rattle.prolly_check.proofs.verdict.follower.Follower.new.Goals as goal
 
 pub returns : goal.returns
 returns c = (

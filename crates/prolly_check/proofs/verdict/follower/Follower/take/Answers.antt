@@ -2,15 +2,15 @@ use Rattle.std.proofs.Common.{rules, ◌≡◌, [], inr}
 use Rattle.prolly_check.specs.HeldPairs.{pairs_held}
 use Rattle.prolly_check.proofs.FollowerSteps.{expected_ending, expected_going, leaf_behind_end}
 use Rattle.prolly_check.proofs.FollowerSteps.{none_held, some_there}
-use Rattle.prolly_check.proofs.stream.follower.Follower.take.Goals as goal
+use Rattle.prolly_check.proofs.verdict.follower.Follower.take.Goals as goal
 
 pub returns-then-not-is_empty-clause-takes : goal.returns-then-not-is_empty-clause-takes
 returns-then-not-is_empty-clause-takes c = λ read n h.
-    inr (leaf_behind_end c.args.self.now.cut c.args.self.now.version read
+    rw c.in-Some.is (inr (leaf_behind_end c.args.self.now.cut c.args.self.now.version read
     c.args.self.now.due.items c.in-Some.from (rw c.in-Some.is at h) c.args.chunk.now
     c.requires.whole
     (some_there _ (pairs_held c.args.chunk.now) _ c.pairs_of.ensures c.is_empty-in-Some.ensures
-    c.if-not-is_empty.true))
+    c.if-not-is_empty.true)))
 
 pub returns-else-is_empty-clause-takes : goal.returns-else-is_empty-clause-takes
 returns-else-is_empty-clause-takes c = λ read n h.
