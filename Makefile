@@ -33,7 +33,7 @@ check:
 	rt all check
 
 # All wrong bodies, those that the gate leaves out too, over what `make check` kept: of all crates, or as
-# `make edits CRATE="prolly_text prolly_tool"`. JOBS=2 tries the edits of two crates at once.
+# `make edits CRATE="prolly_text prolly_answer"`. JOBS=2 tries the edits of two crates at once.
 edits:
 	tools/edits.py $(if $(JOBS),--jobs $(JOBS)) $(CRATE)
 

@@ -1,10 +1,10 @@
 //! The files that a command reads.
 use crate::file_id::Found;
 use crate::refusal::Refusal;
+use prolly_answer::{Fault, INPUT_LIMIT, NameFault, Notation, read_keys};
 use prolly_check::CheckFault;
 use prolly_file::{Blocks, FromRead, FromSeek};
 use prolly_root::FileChunks;
-use prolly_tool::{Fault, INPUT_LIMIT, NameFault, Notation, read_keys};
 use std::fs;
 use std::fs::File;
 use std::os::unix::fs::FileExt;

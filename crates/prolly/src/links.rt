@@ -1,7 +1,7 @@
 //! Where a name leads.
 use crate::file_id::Found;
 use crate::refusal::Refusal;
-use prolly_tool::NameFault;
+use prolly_answer::NameFault;
 use std::io::ErrorKind;
 use std::path::PathBuf;
 use std::{fs, io};

@@ -1,5 +1,5 @@
 //! The program `prolly`: it reads its words, opens and makes the files that they name, and prints
-//! the answer. What it says, and the status with which it ends, are those of `prolly_tool`.
+//! the answer. What it says, and the status with which it ends, are those of `prolly_answer`.
 #![tactic(auto)]
 
 mod commands;
@@ -20,7 +20,7 @@ use crate::commands::answer_of;
 use crate::patient::Patient;
 use crate::streams::ClosedStreams;
 use crate::words::read_words;
-use prolly_tool::{Answer, Fault, parse};
+use prolly_answer::{Answer, Fault, parse};
 use std::alloc::AllocError;
 use std::io::Write;
 use std::process::ExitCode;

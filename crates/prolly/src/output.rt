@@ -1,6 +1,6 @@
 //! The file that a command writes.
 use crate::refusal::Refusal;
-use prolly_tool::{Answer, Fault, NameFault};
+use prolly_answer::{Answer, Fault, NameFault};
 use std::alloc::AllocError;
 use std::fs::{File, Permissions};
 use std::io::{ErrorKind, Seek, SeekFrom, Write};

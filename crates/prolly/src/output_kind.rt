@@ -1,7 +1,7 @@
 //! What kind of file a command writes, and whether a file is one.
+use prolly_answer::NameFault;
 use prolly_entry::{FrontRecord, front_record};
 use prolly_file::{FromRead, take_front};
-use prolly_tool::NameFault;
 use std::alloc::AllocError;
 use std::fs;
 

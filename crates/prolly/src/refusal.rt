@@ -1,5 +1,5 @@
 //! Why a command does not come to its files.
-use prolly_tool::{Answer, Fault, NameFault};
+use prolly_answer::{Answer, Fault, NameFault};
 use std::alloc::{AllocError, AllocFailed};
 
 /// A file that is not to be had, or want of memory.

@@ -1,7 +1,7 @@
 //! What standard input and standard output are.
 use crate::file_id::Found;
 use crate::refusal::Refusal;
-use prolly_tool::NameFault;
+use prolly_answer::NameFault;
 use std::fs;
 use std::fs::File;
 use std::os::fd::AsRawFd;

@@ -5,7 +5,7 @@ use crate::output::{Output, Place, Replacement};
 use crate::output_kind::{LookFault, OutputKind};
 use crate::refusal::Refusal;
 use crate::streams::Stream;
-use prolly_tool::{Fault, NameFault, WriteMode};
+use prolly_answer::{Fault, NameFault, WriteMode};
 use std::fs::{File, OpenOptions, TryLockError};
 use std::io::ErrorKind;
 use std::os::unix::fs::{MetadataExt, OpenOptionsExt};

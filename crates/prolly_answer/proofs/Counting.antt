@@ -13,10 +13,10 @@ use Rattle.prolly_check.specs.Content.{Content}
 use Rattle.prolly_check.specs.Numbers.{AreSo, lacking}
 use Rattle.prolly_check.specs.Verdict.{IsFileOf}
 use Rattle.prolly_check.specs.declared.numbers.Missing.{Missing}
-use Rattle.prolly_tool.specs.Counts.{AreCounts, is_added, is_changed, is_removed, counts_line}
-use Rattle.prolly_tool.specs.Counts.{stat_text}
-use Rattle.prolly_tool.specs.Diff.{stat_shown}
-use Rattle.prolly_tool.specs.declared.answers.diff.ChangeCounts.{ChangeCounts}
+use Rattle.prolly_answer.specs.Counts.{AreCounts, is_added, is_changed, is_removed, counts_line}
+use Rattle.prolly_answer.specs.Counts.{stat_text}
+use Rattle.prolly_answer.specs.Diff.{stat_shown}
+use Rattle.prolly_answer.specs.declared.answers.diff.ChangeCounts.{ChangeCounts}
 
 -- ---- kinds of records
 

@@ -25,20 +25,20 @@ use Rattle.prolly_check.specs.Chunks.{IsFile}
 use Rattle.prolly_check.specs.Content.{Content}
 use Rattle.prolly_check.specs.Verdict.{IsFileOf}
 use Rattle.prolly_check.proofs.CheckedFile.{few_pairs}
-use Rattle.prolly_tool.specs.declared.faults.output_fault.OutputFault.TheVariants.{Memory, Write}
-use Rattle.prolly_tool.specs.declared.answers.answer.Answer.{Answer}
-use Rattle.prolly_tool.specs.declared.answers.diff.ChangeCounts.{ChangeCounts}
+use Rattle.prolly_answer.specs.declared.faults.output_fault.OutputFault.TheVariants.{Memory, Write}
+use Rattle.prolly_answer.specs.declared.answers.answer.Answer.{Answer}
+use Rattle.prolly_answer.specs.declared.answers.diff.ChangeCounts.{ChangeCounts}
 use Rattle.prolly_text.specs.declared.lines.form.RecordForm.{RecordForm}
-use Rattle.prolly_tool.specs.Counts.{AreCounts}
-use Rattle.prolly_tool.specs.Diff.{AreTwoFiles, AreStopped, AreWritten, HasDifference}
-use Rattle.prolly_tool.specs.Diff.{HaveChanges, ShowsDiff}
-use Rattle.prolly_tool.specs.LookUps.{file_limit}
-use Rattle.prolly_tool.specs.Outputs.{IsPart, TookAll, TookPrefix, TookUntil}
+use Rattle.prolly_answer.specs.Counts.{AreCounts}
+use Rattle.prolly_answer.specs.Diff.{AreTwoFiles, AreStopped, AreWritten, HasDifference}
+use Rattle.prolly_answer.specs.Diff.{HaveChanges, ShowsDiff}
+use Rattle.prolly_answer.specs.LookUps.{file_limit}
+use Rattle.prolly_answer.specs.Outputs.{IsPart, TookAll, TookPrefix, TookUntil}
 use Rattle.prolly_text.specs.RecordForms.{spelled, spelled_in, written_records}
-use Rattle.prolly_tool.proofs.Answering.{looked_up}
-use Rattle.prolly_tool.proofs.Writing.{TookSoFar, took_none, took_more, took_front, took_until}
-use Rattle.prolly_tool.proofs.Writing.{flushed, other_failures, unflushed}
-use Rattle.prolly_tool.proofs.Counting.{all_counted}
+use Rattle.prolly_answer.proofs.Answering.{looked_up}
+use Rattle.prolly_answer.proofs.Writing.{TookSoFar, took_none, took_more, took_front, took_until}
+use Rattle.prolly_answer.proofs.Writing.{flushed, other_failures, unflushed}
+use Rattle.prolly_answer.proofs.Counting.{all_counted}
 
 -- ---- the records of a difference are lawful
 

@@ -10,14 +10,14 @@ use Rattle.prolly_file.specs.Writes.{Writes}
 use Rattle.prolly_text.specs.declared.notation.Notation.{Notation}
 use Rattle.prolly_tree.specs.Difference.{puts}
 use Rattle.prolly_tree.specs.RecordFile.{record_file}
-use Rattle.prolly_tool.specs.declared.faults.output_fault.OutputFault.TheVariants.{Write}
+use Rattle.prolly_answer.specs.declared.faults.output_fault.OutputFault.TheVariants.{Write}
 use Rattle.prolly_text.specs.declared.lines.form.RecordForm.{RecordForm}
 use Rattle.prolly_text.specs.declared.lines.form.RecordForm.TheVariants.{Lines, Records}
-use Rattle.prolly_tool.specs.Dump.{IsStoppedDump, MayStop, RecordFilesAreDumped}
-use Rattle.prolly_tool.specs.Outputs.{TookAll, TookPart, TookPrefix, TookUntil}
+use Rattle.prolly_answer.specs.Dump.{IsStoppedDump, MayStop, RecordFilesAreDumped}
+use Rattle.prolly_answer.specs.Outputs.{TookAll, TookPart, TookPrefix, TookUntil}
 use Rattle.prolly_text.specs.RecordForms.{record_line, spelled, written_records}
-use Rattle.prolly_tool.proofs.Writing.{TookSoFar, took_none, took_more, took_front, took_until}
-use Rattle.prolly_tool.proofs.Writing.{flushed, unflushed, wrote_all, wrote_part}
+use Rattle.prolly_answer.proofs.Writing.{TookSoFar, took_none, took_more, took_front, took_until}
+use Rattle.prolly_answer.proofs.Writing.{flushed, unflushed, wrote_all, wrote_part}
 
 -- The record that puts a pair.
 abbrev pub put_of : Pair → Record

@@ -4,7 +4,7 @@ use Rattle.std.proofs.Common.{sym, ap, ◌∙◌, arith, append_assoc, append-ni
 use Rattle.std.proofs.lemmas.List.Concat.{flat_map-append}
 use Rattle.prolly_entry.specs.Pair.{Pair}
 use Rattle.prolly_text.specs.declared.notation.Notation.{Notation}
-use Rattle.prolly_tool.specs.LookUps.{pair_lines, pair_text}
+use Rattle.prolly_answer.specs.LookUps.{pair_lines, pair_text}
 
 -- ---- the first of some pairs
 

@@ -9,7 +9,7 @@ use Rattle.prolly_entry.specs.Pair.{Pair}
 use Rattle.prolly_range.specs.KeySet.{is_before, pairs_wanted}
 use Rattle.prolly_range.specs.KeySet.KeySet.{Range}
 use Rattle.prolly_range.specs.SetProof.{TakenAreRight}
-use Rattle.prolly_tool.specs.SetProofs.{RangesAreRight, scanned_range}
+use Rattle.prolly_answer.specs.SetProofs.{RangesAreRight, scanned_range}
 
 abbrev is_from : List ℕ → Pair → Bool
 is_from from p = not (is_lt (key_order p.key from))

@@ -32,23 +32,23 @@ use Rattle.prolly_text.specs.RecordForms.{spelled, written_records}
 use Rattle.prolly_text.specs.declared.lines.form.RecordForm.{RecordForm}
 use Rattle.prolly_tree.specs.File.{root_reference}
 use Rattle.prolly_tree.specs.Tree.{Tree}
-use Rattle.prolly_tool.specs.Counts.{AreCounts, are_some, counts_line}
-use Rattle.prolly_tool.specs.Diff.{AreStopped, AreWritten}
-use Rattle.prolly_tool.specs.Outputs.{TookAll, TookSoFar, TookUntil}
-use Rattle.prolly_tool.specs.RootDiffs.{Counts, GaveFirst, IsDoneDiff, IsStatLine, IsStoppedDiff}
-use Rattle.prolly_tool.specs.RootDiffs.{OfRoots, TellsDiffReads, TellsNumbers, before_of, fault_of}
+use Rattle.prolly_answer.specs.Counts.{AreCounts, are_some, counts_line}
+use Rattle.prolly_answer.specs.Diff.{AreStopped, AreWritten}
+use Rattle.prolly_answer.specs.Outputs.{TookAll, TookSoFar, TookUntil}
+use Rattle.prolly_answer.specs.RootDiffs.{Counts, GaveFirst, IsDoneDiff, IsStatLine, IsStoppedDiff}
+use Rattle.prolly_answer.specs.RootDiffs.{OfRoots, TellsDiffReads, TellsNumbers, before_of, fault_of}
 use Rattle.std.specs.Prelude.{IfErr, IfOk}
-use Rattle.prolly_tool.specs.declared.answers.root_diff.Told.{Told}
-use Rattle.prolly_tool.specs.declared.answers.diff.ChangeCounts.{ChangeCounts}
-use Rattle.prolly_tool.specs.OutputFault.{told}
-use Rattle.prolly_tool.specs.RootDiffs.{WroteIn, record_of}
-use Rattle.prolly_tool.specs.declared.faults.output_fault.OutputFault.{OutputFault}
-use Rattle.prolly_tool.specs.declared.faults.output_fault.OutputFault.TheVariants as outputs
-use Rattle.prolly_tool.specs.RootScans.{IsFlushed, RefusesNone}
-use Rattle.prolly_tool.specs.declared.faults.fault.Fault.{Fault}
-use Rattle.prolly_tool.specs.declared.faults.fault.Fault.TheVariants as faults
-use Rattle.prolly_tool.proofs.Counting.{line_is}
-use Rattle.prolly_tool.proofs.Writing.{flushed, took_more, took_none, took_until, unflushed}
+use Rattle.prolly_answer.specs.declared.answers.root_diff.Told.{Told}
+use Rattle.prolly_answer.specs.declared.answers.diff.ChangeCounts.{ChangeCounts}
+use Rattle.prolly_answer.specs.OutputFault.{told}
+use Rattle.prolly_answer.specs.RootDiffs.{WroteIn, record_of}
+use Rattle.prolly_answer.specs.declared.faults.output_fault.OutputFault.{OutputFault}
+use Rattle.prolly_answer.specs.declared.faults.output_fault.OutputFault.TheVariants as outputs
+use Rattle.prolly_answer.specs.RootScans.{IsFlushed, RefusesNone}
+use Rattle.prolly_answer.specs.declared.faults.fault.Fault.{Fault}
+use Rattle.prolly_answer.specs.declared.faults.fault.Fault.TheVariants as faults
+use Rattle.prolly_answer.proofs.Counting.{line_is}
+use Rattle.prolly_answer.proofs.Writing.{flushed, took_more, took_none, took_until, unflushed}
 
 -- ---- the trees
 

@@ -24,21 +24,21 @@ use Rattle.prolly_text.specs.declared.lines.form.RecordForm.TheVariants.{Records
 use Rattle.prolly_tree.specs.Difference.{puts}
 use Rattle.prolly_tree.specs.RecordFile.{record_file}
 use Rattle.prolly_tree.specs.Tree.{last_key}
-use Rattle.prolly_tool.specs.Outputs.{TookBytes, TookPart, TookUntil}
-use Rattle.prolly_tool.specs.RootDumps.{FitsOutcome, IsDumpedByRoot, IsSettledAs}
-use Rattle.prolly_tool.specs.RootDumps.{Outcome, TakesAllFor, TakesFor}
-use Rattle.prolly_tool.specs.RootDumps.{written_pairs}
-use Rattle.prolly_tool.specs.RootScans.{Scanned}
-use Rattle.prolly_tool.specs.declared.faults.output_fault.OutputFault.{OutputFault}
-use Rattle.prolly_tool.specs.declared.faults.output_fault.OutputFault.TheVariants.{Memory, Write}
-use Rattle.prolly_tool.specs.declared.faults.root_output_fault.RootOutputFault.TheVariants.{Output}
-use Rattle.prolly_tool.specs.declared.faults.root_output_fault.RootOutputFault.TheVariants.{Root}
-use Rattle.prolly_tool.proofs.DumpSteps.{put_of, record_files_are_dumped}
-use Rattle.prolly_tool.proofs.KeyRanks.{AreBytes, less_room_above, room_above}
-use Rattle.prolly_tool.proofs.ScanSteps.{all_flushed, all_unflushed, behind, behind_more, ends_empty}
-use Rattle.prolly_tool.proofs.ScanSteps.{ends_full, joined_more, prefix_flushed}
-use Rattle.prolly_tool.proofs.ScanSteps.{prefix_unflushed, scanned_more, took_also, until_also}
-use Rattle.prolly_tool.proofs.Writing.{TookSoFar, took_front, took_none, wrote_part}
+use Rattle.prolly_answer.specs.Outputs.{TookBytes, TookPart, TookUntil}
+use Rattle.prolly_answer.specs.RootDumps.{FitsOutcome, IsDumpedByRoot, IsSettledAs}
+use Rattle.prolly_answer.specs.RootDumps.{Outcome, TakesAllFor, TakesFor}
+use Rattle.prolly_answer.specs.RootDumps.{written_pairs}
+use Rattle.prolly_answer.specs.RootScans.{Scanned}
+use Rattle.prolly_answer.specs.declared.faults.output_fault.OutputFault.{OutputFault}
+use Rattle.prolly_answer.specs.declared.faults.output_fault.OutputFault.TheVariants.{Memory, Write}
+use Rattle.prolly_answer.specs.declared.faults.root_output_fault.RootOutputFault.TheVariants.{Output}
+use Rattle.prolly_answer.specs.declared.faults.root_output_fault.RootOutputFault.TheVariants.{Root}
+use Rattle.prolly_answer.proofs.DumpSteps.{put_of, record_files_are_dumped}
+use Rattle.prolly_answer.proofs.KeyRanks.{AreBytes, less_room_above, room_above}
+use Rattle.prolly_answer.proofs.ScanSteps.{all_flushed, all_unflushed, behind, behind_more, ends_empty}
+use Rattle.prolly_answer.proofs.ScanSteps.{ends_full, joined_more, prefix_flushed}
+use Rattle.prolly_answer.proofs.ScanSteps.{prefix_unflushed, scanned_more, took_also, until_also}
+use Rattle.prolly_answer.proofs.Writing.{TookSoFar, took_front, took_none, wrote_part}
 
 -- ---- the pairs of a leaf from a key on
 

@@ -22,7 +22,7 @@ use Rattle.prolly_entry.specs.Spelling.{value_spelling}
 use Rattle.prolly_entry.specs.declared.next.RecordAt.{RecordAt}
 use Rattle.prolly_laws.specs.Readings.{begins_more, begins_none, ends_clean, ends_cut, ends_flawed}
 use Rattle.prolly_laws.specs.Readings.{last_more}
-use Rattle.prolly_tool.specs.ChunkBytes.{ArePuts, entry_bytes}
+use Rattle.prolly_answer.specs.ChunkBytes.{ArePuts, entry_bytes}
 
 -- Some records were counted, and the rest of the bytes follows.
 pub record IsCounting (front rest : List ℕ) (count : ℕ) (position : Position) (entries bytes : ℕ)

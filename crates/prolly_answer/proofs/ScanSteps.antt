@@ -20,18 +20,18 @@ use Rattle.prolly_root.specs.declared.root_fault.RootFault.{RootFault}
 use Rattle.prolly_root.specs.declared.root_fault.RootFault.TheVariants as roots
 use Rattle.prolly_tree.specs.Tree.{last_key}
 use Rattle.prolly_text.specs.declared.notation.Notation.{Notation}
-use Rattle.prolly_tool.specs.LookUps.{pair_lines, pair_text}
-use Rattle.prolly_tool.specs.OutputFault.{told as told_by}
-use Rattle.prolly_tool.specs.Outputs.{TookAll, TookBytes, TookPart, TookPrefix, TookUntil}
-use Rattle.prolly_tool.specs.RootScans.{AreTooFew, IsDoneScan, IsFlushed, IsStoppedScan}
-use Rattle.prolly_tool.specs.RootScans.{Scanned, StoppedScan, TellsScanReads, limited_lines}
-use Rattle.prolly_tool.specs.declared.faults.fault.Fault.{Fault}
-use Rattle.prolly_tool.specs.declared.faults.fault.Fault.TheVariants as faults
-use Rattle.prolly_tool.specs.declared.faults.fault.Fault.TheVariants.{Root, Write}
-use Rattle.prolly_tool.specs.declared.faults.output_fault.OutputFault.{OutputFault}
-use Rattle.prolly_tool.specs.declared.faults.output_fault.OutputFault.TheVariants as outputs
-use Rattle.prolly_tool.proofs.Writing.{TookSoFar, flushed, other_failures, took_front, took_none}
-use Rattle.prolly_tool.proofs.Writing.{unflushed}
+use Rattle.prolly_answer.specs.LookUps.{pair_lines, pair_text}
+use Rattle.prolly_answer.specs.OutputFault.{told as told_by}
+use Rattle.prolly_answer.specs.Outputs.{TookAll, TookBytes, TookPart, TookPrefix, TookUntil}
+use Rattle.prolly_answer.specs.RootScans.{AreTooFew, IsDoneScan, IsFlushed, IsStoppedScan}
+use Rattle.prolly_answer.specs.RootScans.{Scanned, StoppedScan, TellsScanReads, limited_lines}
+use Rattle.prolly_answer.specs.declared.faults.fault.Fault.{Fault}
+use Rattle.prolly_answer.specs.declared.faults.fault.Fault.TheVariants as faults
+use Rattle.prolly_answer.specs.declared.faults.fault.Fault.TheVariants.{Root, Write}
+use Rattle.prolly_answer.specs.declared.faults.output_fault.OutputFault.{OutputFault}
+use Rattle.prolly_answer.specs.declared.faults.output_fault.OutputFault.TheVariants as outputs
+use Rattle.prolly_answer.proofs.Writing.{TookSoFar, flushed, other_failures, took_front, took_none}
+use Rattle.prolly_answer.proofs.Writing.{unflushed}
 
 -- ---- the last pair of a leaf
 

@@ -25,23 +25,23 @@ use Rattle.prolly_range.specs.declared.fault.SetFault.TheVariants as sets
 use Rattle.prolly_range.specs.lemmas.Taken.{taken_more}
 use Rattle.prolly_text.specs.declared.notation.Notation.{Notation}
 use Rattle.prolly_tree.specs.Events.{greatest_count}
-use Rattle.prolly_tool.specs.OutputFault.{told}
-use Rattle.prolly_tool.specs.Outputs.{TookAll, TookBytes, TookPart, TookUntil}
-use Rattle.prolly_tool.specs.RootScans.{IsFlushed}
-use Rattle.prolly_tool.specs.SetLines.{FitsLeft, RisesIn, alone_lines, left_at_first, left_behind}
-use Rattle.prolly_tool.specs.SetLines.{lines_at_end, lines_so_far, more_lines}
-use Rattle.prolly_tool.specs.SetProofs.{IsNoSetProof, IsStoppedSet, IsVerifiedSet, StoppedSet}
-use Rattle.prolly_tool.specs.SetProofs.{TellsProofReads, told_set}
-use Rattle.prolly_tool.specs.declared.faults.fault.Fault.{Fault}
-use Rattle.prolly_tool.specs.declared.faults.fault.Fault.TheVariants.{Read, Write}
-use Rattle.prolly_tool.specs.declared.faults.output_fault.OutputFault.{OutputFault}
-use Rattle.prolly_tool.specs.declared.faults.output_fault.OutputFault.TheVariants as outputs
-use Rattle.prolly_tool.proofs.ScanSteps.{all_flushed, all_unflushed, prefix_flushed}
-use Rattle.prolly_tool.proofs.ScanSteps.{prefix_unflushed, took_also, until_also}
-use Rattle.prolly_tool.proofs.SetRests.{not_begun, rest_behind, rest_begins}
-use Rattle.prolly_tool.proofs.ShownKeys.{IsLeft, SomeOfSet, left_begins, left_fits, left_goes_on}
-use Rattle.prolly_tool.proofs.ShownKeys.{lines_ended, lines_more, lines_of_none, some_of_set}
-use Rattle.prolly_tool.proofs.Writing.{TookSoFar, took_none}
+use Rattle.prolly_answer.specs.OutputFault.{told}
+use Rattle.prolly_answer.specs.Outputs.{TookAll, TookBytes, TookPart, TookUntil}
+use Rattle.prolly_answer.specs.RootScans.{IsFlushed}
+use Rattle.prolly_answer.specs.SetLines.{FitsLeft, RisesIn, alone_lines, left_at_first, left_behind}
+use Rattle.prolly_answer.specs.SetLines.{lines_at_end, lines_so_far, more_lines}
+use Rattle.prolly_answer.specs.SetProofs.{IsNoSetProof, IsStoppedSet, IsVerifiedSet, StoppedSet}
+use Rattle.prolly_answer.specs.SetProofs.{TellsProofReads, told_set}
+use Rattle.prolly_answer.specs.declared.faults.fault.Fault.{Fault}
+use Rattle.prolly_answer.specs.declared.faults.fault.Fault.TheVariants.{Read, Write}
+use Rattle.prolly_answer.specs.declared.faults.output_fault.OutputFault.{OutputFault}
+use Rattle.prolly_answer.specs.declared.faults.output_fault.OutputFault.TheVariants as outputs
+use Rattle.prolly_answer.proofs.ScanSteps.{all_flushed, all_unflushed, prefix_flushed}
+use Rattle.prolly_answer.proofs.ScanSteps.{prefix_unflushed, took_also, until_also}
+use Rattle.prolly_answer.proofs.SetRests.{not_begun, rest_behind, rest_begins}
+use Rattle.prolly_answer.proofs.ShownKeys.{IsLeft, SomeOfSet, left_begins, left_fits, left_goes_on}
+use Rattle.prolly_answer.proofs.ShownKeys.{lines_ended, lines_more, lines_of_none, some_of_set}
+use Rattle.prolly_answer.proofs.Writing.{TookSoFar, took_none}
 
 -- ---- what a call came to
 

@@ -25,12 +25,12 @@ use Rattle.prolly_text.specs.declared.notation.Notation.{Notation}
 use Rattle.prolly_tree.specs.Difference.{IsMap}
 use Rattle.prolly_tree.specs.LookUp.{find}
 use Rattle.prolly_tree.specs.lemmas.Maps.{Above, above_more, find_above}
-use Rattle.prolly_tool.specs.KeyLookUps.{found_at, found_line, found_lines}
-use Rattle.prolly_tool.specs.LookUps.{pair_lines, pair_text}
-use Rattle.prolly_tool.specs.SetLines.{FitsLeft, RisesIn, alone_lines, is_past, keys_left, keys_past}
-use Rattle.prolly_tool.specs.SetLines.{left_at_first, left_behind, lines_at_end, lines_so_far}
-use Rattle.prolly_tool.specs.SetLines.{more_lines}
-use Rattle.prolly_tool.specs.SetProofs.{ShownKeysAreRight}
+use Rattle.prolly_answer.specs.KeyLookUps.{found_at, found_line, found_lines}
+use Rattle.prolly_answer.specs.LookUps.{pair_lines, pair_text}
+use Rattle.prolly_answer.specs.SetLines.{FitsLeft, RisesIn, alone_lines, is_past, keys_left, keys_past}
+use Rattle.prolly_answer.specs.SetLines.{left_at_first, left_behind, lines_at_end, lines_so_far}
+use Rattle.prolly_answer.specs.SetLines.{more_lines}
+use Rattle.prolly_answer.specs.SetProofs.{ShownKeysAreRight}
 
 -- ---- where nothing was shown
 

@@ -11,9 +11,9 @@ use Rattle.prolly_range.specs.SortedKeys.{is_one_of, keys_above, keys_up_to}
 use Rattle.prolly_range.specs.lemmas.Splits.{above_one_of, all_behind, none_behind}
 use Rattle.prolly_text.specs.declared.notation.Notation.{Notation}
 use Rattle.prolly_tree.specs.LookUp.{find}
-use Rattle.prolly_tool.specs.KeyLookUps.{found_at, found_line, found_lines}
-use Rattle.prolly_tool.specs.SetLines.{keys_past}
-use Rattle.prolly_tool.proofs.ShownKeys.{found_past, some_rise}
+use Rattle.prolly_answer.specs.KeyLookUps.{found_at, found_line, found_lines}
+use Rattle.prolly_answer.specs.SetLines.{keys_past}
+use Rattle.prolly_answer.proofs.ShownKeys.{found_past, some_rise}
 
 -- ---- key by key
 

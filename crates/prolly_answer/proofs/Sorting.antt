@@ -12,8 +12,8 @@ use Rattle.prolly_tree.specs.Split.{in_front}
 use Rattle.prolly_sort.specs.Run.{AreDoubled}
 use Rattle.prolly_sort.specs.declared.fault.SorterFault.{SorterFault}
 use Rattle.prolly_sort.specs.declared.fault.SorterFault.TheVariants as sorters
-use Rattle.prolly_tool.specs.Faults.{of_read_lines, of_sorter}
-use Rattle.prolly_tool.specs.SortedPack.{IsSortingFault, IsTooLongAt}
+use Rattle.prolly_answer.specs.Faults.{of_read_lines, of_sorter}
+use Rattle.prolly_answer.specs.SortedPack.{IsSortingFault, IsTooLongAt}
 
 -- A text of some bytes has a first line.
 in_some_line : (b : ℕ) (lines : List (List ℕ)) → 1 ≤ length (in_front b lines)

@@ -4,8 +4,8 @@ use Rattle.std.proofs.Common.{◌∙◌, subst, arith, append_assoc, append-nil}
 use Rattle.prolly_file.specs.Failures.{after_failure}
 use Rattle.prolly_file.specs.Sink.{IsSettled, SinkView}
 use Rattle.prolly_file.specs.Writes.{Writes}
-use Rattle.prolly_tool.specs.Outputs.{TookAll, TookPart, TookPrefix}
-pub use Rattle.prolly_tool.specs.Outputs.{TookSoFar}
+use Rattle.prolly_answer.specs.Outputs.{TookAll, TookPart, TookPrefix}
+pub use Rattle.prolly_answer.specs.Outputs.{TookSoFar}
 
 -- What is written of a buffer that was cleared is what was appended to it.
 pub own_writes : {T E : Type 0} (bytes items cleared own : List ℕ) (old new : SinkView)

@@ -7,14 +7,14 @@ use Rattle.prolly_line.specs.declared.command.ParseFault.TheVariants.{BadTextKey
 use Rattle.prolly_line.specs.declared.command.ParseFault.TheVariants.{BadRoot as BadRootWord}
 use Rattle.prolly_line.specs.declared.command.ParseFault.TheVariants.{LoneRoot as LoneRootWord}
 use Rattle.prolly_text.specs.Names.{shown_name}
-use Rattle.prolly_tool.specs.declared.answers.answer.Answer.{Answer}
-use Rattle.prolly_tool.specs.declared.faults.fault.Fault.{Fault}
-use Rattle.prolly_tool.specs.declared.faults.name_fault.NameFault.{NameFault}
-use Rattle.prolly_tool.specs.declared.faults.fault.Fault.TheVariants.{BadKey, BadTextKey, BadRoot}
-use Rattle.prolly_tool.specs.declared.faults.fault.Fault.TheVariants.{LoneRoot}
-use Rattle.prolly_tool.specs.declared.faults.fault.Fault.TheVariants.{Memory as OutOfMemory}
-use Rattle.prolly_tool.specs.Faults.{fault_text, fault_status, fault_line}
-use Rattle.prolly_tool.specs.Names.{name_fault_text}
+use Rattle.prolly_answer.specs.declared.answers.answer.Answer.{Answer}
+use Rattle.prolly_answer.specs.declared.faults.fault.Fault.{Fault}
+use Rattle.prolly_answer.specs.declared.faults.name_fault.NameFault.{NameFault}
+use Rattle.prolly_answer.specs.declared.faults.fault.Fault.TheVariants.{BadKey, BadTextKey, BadRoot}
+use Rattle.prolly_answer.specs.declared.faults.fault.Fault.TheVariants.{LoneRoot}
+use Rattle.prolly_answer.specs.declared.faults.fault.Fault.TheVariants.{Memory as OutOfMemory}
+use Rattle.prolly_answer.specs.Faults.{fault_text, fault_status, fault_line}
+use Rattle.prolly_answer.specs.Names.{name_fault_text}
 
 -- The answer has this status, and these bytes for standard output and standard error.
 pub record Shows (answer : Answer) (status : ℕ) (out err : List ℕ) : Type 0 where

@@ -1,17 +1,17 @@
 -- What the command `apply` asks of the old file's header, and what it prints.
 use Rattle.std.specs.Prelude.{◌≡◌, ℕ, Option, IfSome, Result, Ok, Err}
-use Rattle.prolly_build.specs.declared.driver.Report.{Report}
-use Rattle.prolly_build.specs.declared.apply.ApplyFault.{ApplyFault}
-use Rattle.prolly_build.specs.declared.apply.ApplyFault.TheVariants as applied
+use Rattle.prolly_report.specs.declared.report.Report.{Report}
+use Rattle.prolly_report.specs.declared.apply_fault.ApplyFault.{ApplyFault}
+use Rattle.prolly_report.specs.declared.apply_fault.ApplyFault.TheVariants as applied
 use Rattle.prolly_entry.specs.declared.version.Version.{Version}
 use Rattle.prolly_file.specs.declared.format.header.Header.{Header}
 use Rattle.prolly_root.specs.declared.root_fault.RootFault.{RootFault}
-use Rattle.prolly_tool.specs.Answers.{ShowsFault, ShowsLine}
-use Rattle.prolly_tool.specs.Build.{report_text}
-use Rattle.prolly_tool.specs.declared.answers.answer.Answer.{Answer}
-use Rattle.prolly_tool.specs.declared.faults.fault.Fault.{Fault}
-use Rattle.prolly_tool.specs.declared.faults.fault.Fault.TheVariants.{OtherHeader, RootOld, Run}
-use Rattle.prolly_tool.specs.declared.faults.fault.Fault.TheVariants.{WrongBits}
+use Rattle.prolly_answer.specs.Answers.{ShowsFault, ShowsLine}
+use Rattle.prolly_answer.specs.Build.{report_text}
+use Rattle.prolly_answer.specs.declared.answers.answer.Answer.{Answer}
+use Rattle.prolly_answer.specs.declared.faults.fault.Fault.{Fault}
+use Rattle.prolly_answer.specs.declared.faults.fault.Fault.TheVariants.{OtherHeader, RootOld, Run}
+use Rattle.prolly_answer.specs.declared.faults.fault.Fault.TheVariants.{WrongBits}
 
 -- The header says the bits and the version that are given, as far as they are.
 abbrev pub AgreesWith : Option ℕ → Option Version → Header → Type 0

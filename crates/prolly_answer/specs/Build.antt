@@ -1,12 +1,12 @@
 -- What the command `build` prints.
 use Rattle.std.specs.Prelude.{ℕ, List, ◌∷◌, ◌++◌, Result, Ok, Err}
 use Rattle.std.specs.Fmt.{decimal}
-use Rattle.prolly_build.specs.declared.driver.Report.{Report}
+use Rattle.prolly_report.specs.declared.report.Report.{Report}
 use Rattle.prolly_entry.specs.Reference.{reference_text}
 use Rattle.prolly_link.specs.declared.fault.RunFault.{RunFault}
-use Rattle.prolly_tool.specs.Answers.{ShowsLine, ShowsFault}
-use Rattle.prolly_tool.specs.declared.answers.answer.Answer.{Answer}
-use Rattle.prolly_tool.specs.declared.faults.fault.Fault.TheVariants.{Run}
+use Rattle.prolly_answer.specs.Answers.{ShowsLine, ShowsFault}
+use Rattle.prolly_answer.specs.declared.answers.answer.Answer.{Answer}
+use Rattle.prolly_answer.specs.declared.faults.fault.Fault.TheVariants.{Run}
 
 -- The text of the root, and the numbers of chunks, pairs and levels, with a space before each.
 abbrev pub report_text : Report → List ℕ

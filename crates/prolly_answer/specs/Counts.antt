@@ -9,7 +9,7 @@ use Rattle.prolly_tree.specs.LookUp.{find}
 use Rattle.prolly_check.specs.Chunks.{chunks_of}
 use Rattle.prolly_check.specs.Content.{Content}
 use Rattle.prolly_check.specs.Numbers.{lacking, chunks_size}
-use Rattle.prolly_tool.specs.declared.answers.diff.ChangeCounts.{ChangeCounts}
+use Rattle.prolly_answer.specs.declared.answers.diff.ChangeCounts.{ChangeCounts}
 
 -- ---- kinds of changes
 

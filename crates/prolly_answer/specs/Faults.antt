@@ -21,19 +21,19 @@ use Rattle.prolly_text.specs.declared.lines.reader.ReadLinesFault.{ReadLinesFaul
 use Rattle.prolly_text.specs.declared.lines.reader.ReadLinesFault.TheVariants as read_lines
 use Rattle.prolly_text.specs.declared.lines.pack.LinesFault.TheVariants as lines
 use Rattle.prolly_text.specs.declared.lines.pack.PackFault.TheVariants as packs
-use Rattle.prolly_tool.specs.declared.faults.fault.Fault.{Fault}
-use Rattle.prolly_tool.specs.declared.faults.fault.Fault.TheVariants.{Memory, Read, Write}
-use Rattle.prolly_tool.specs.declared.faults.fault.Fault.TheVariants.{Run, Pack, Keys, Check, NoCounts}
-use Rattle.prolly_tool.specs.declared.faults.fault.Fault.TheVariants.{InputTooLong, BadKey}
-use Rattle.prolly_tool.specs.declared.faults.fault.Fault.TheVariants.{BadTextKey}
-use Rattle.prolly_tool.specs.declared.faults.fault.Fault.TheVariants.{NotUnicode}
-use Rattle.prolly_tool.specs.declared.faults.fault.Fault.TheVariants.{OutIsStdout, CheckOld}
-use Rattle.prolly_tool.specs.declared.faults.fault.Fault.TheVariants.{CheckNew}
-use Rattle.prolly_tool.specs.declared.faults.fault.Fault.TheVariants.{Proof, Root, RootOld, RootNew}
-use Rattle.prolly_tool.specs.declared.faults.fault.Fault.TheVariants.{BadRoot, LoneRoot, Stream}
-use Rattle.prolly_tool.specs.declared.faults.fault.Fault.TheVariants.{WrongBits, OtherHeader}
-use Rattle.prolly_tool.specs.declared.faults.fault.Fault.TheVariants.{LineTooLong, TooManyLines}
-use Rattle.prolly_tool.specs.declared.faults.fault.Fault.TheVariants.{DoubledKey, Store}
+use Rattle.prolly_answer.specs.declared.faults.fault.Fault.{Fault}
+use Rattle.prolly_answer.specs.declared.faults.fault.Fault.TheVariants.{Memory, Read, Write}
+use Rattle.prolly_answer.specs.declared.faults.fault.Fault.TheVariants.{Run, Pack, Keys, Check, NoCounts}
+use Rattle.prolly_answer.specs.declared.faults.fault.Fault.TheVariants.{InputTooLong, BadKey}
+use Rattle.prolly_answer.specs.declared.faults.fault.Fault.TheVariants.{BadTextKey}
+use Rattle.prolly_answer.specs.declared.faults.fault.Fault.TheVariants.{NotUnicode}
+use Rattle.prolly_answer.specs.declared.faults.fault.Fault.TheVariants.{OutIsStdout, CheckOld}
+use Rattle.prolly_answer.specs.declared.faults.fault.Fault.TheVariants.{CheckNew}
+use Rattle.prolly_answer.specs.declared.faults.fault.Fault.TheVariants.{Proof, Root, RootOld, RootNew}
+use Rattle.prolly_answer.specs.declared.faults.fault.Fault.TheVariants.{BadRoot, LoneRoot, Stream}
+use Rattle.prolly_answer.specs.declared.faults.fault.Fault.TheVariants.{WrongBits, OtherHeader}
+use Rattle.prolly_answer.specs.declared.faults.fault.Fault.TheVariants.{LineTooLong, TooManyLines}
+use Rattle.prolly_answer.specs.declared.faults.fault.Fault.TheVariants.{DoubledKey, Store}
 use Rattle.std.specs.Fmt.{decimal}
 use Rattle.prolly_text.specs.LinesFaults.{keys_text, lines_text}
 

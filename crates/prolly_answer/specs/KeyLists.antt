@@ -3,9 +3,9 @@ use Rattle.std.specs.Prelude.{ℕ, List}
 use Rattle.prolly_text.specs.KeyLines.{AreKeysOf, IsKeysFault}
 use Rattle.prolly_text.specs.Lines.{lines_of}
 use Rattle.prolly_text.specs.declared.notation.Notation.{Notation}
-use Rattle.prolly_tool.specs.Input.{IsInputFault, IsReadWhole}
-use Rattle.prolly_tool.specs.declared.faults.fault.Fault.{Fault}
-use Rattle.prolly_tool.specs.declared.faults.fault.Fault.TheVariants.{Keys}
+use Rattle.prolly_answer.specs.Input.{IsInputFault, IsReadWhole}
+use Rattle.prolly_answer.specs.declared.faults.fault.Fault.{Fault}
+use Rattle.prolly_answer.specs.declared.faults.fault.Fault.TheVariants.{Keys}
 
 -- The text was read whole, and its lines stand for these keys.
 pub record ReadsKeys (notation : Notation) (text : List ℕ) (has_failed : Type 0)

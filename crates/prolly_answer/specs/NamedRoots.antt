@@ -9,9 +9,9 @@ use Rattle.prolly_entry.specs.declared.reference.Ref.{Ref}
 use Rattle.prolly_file.specs.Failures.{after_failure}
 use Rattle.prolly_root.specs.NamedRoot.{TellsEnd}
 use Rattle.prolly_tree.specs.File.{root_reference}
-use Rattle.prolly_tool.specs.Answers.{ShowsFault, ShowsLine}
-use Rattle.prolly_tool.specs.declared.answers.answer.Answer.{Answer}
-use Rattle.prolly_tool.specs.declared.faults.fault.Fault.TheVariants.{Check}
+use Rattle.prolly_answer.specs.Answers.{ShowsFault, ShowsLine}
+use Rattle.prolly_answer.specs.declared.answers.answer.Answer.{Answer}
+use Rattle.prolly_answer.specs.declared.faults.fault.Fault.TheVariants.{Check}
 
 -- The answer shows the root that the end of the file tells; or the fault of the header or the end, or
 -- that a read failed.

@@ -1,14 +1,14 @@
 -- What a line says of a file that it names. (This project's texts.)
 use Rattle.std.specs.Prelude.{ℕ, List, codes}
-use Rattle.prolly_tool.specs.declared.faults.name_fault.NameFault.{NameFault}
-use Rattle.prolly_tool.specs.declared.faults.name_fault.NameFault.TheVariants.{CannotOpen}
-use Rattle.prolly_tool.specs.declared.faults.name_fault.NameFault.TheVariants.{CannotReplace}
-use Rattle.prolly_tool.specs.declared.faults.name_fault.NameFault.TheVariants.{IsInput}
-use Rattle.prolly_tool.specs.declared.faults.name_fault.NameFault.TheVariants.{NotChunkFile}
-use Rattle.prolly_tool.specs.declared.faults.name_fault.NameFault.TheVariants.{NotProof}
-use Rattle.prolly_tool.specs.declared.faults.name_fault.NameFault.TheVariants.{NotRecordFile}
-use Rattle.prolly_tool.specs.declared.faults.name_fault.NameFault.TheVariants.{NotLines, NotEmpty}
-use Rattle.prolly_tool.specs.declared.faults.name_fault.NameFault.TheVariants.{IsBusy}
+use Rattle.prolly_answer.specs.declared.faults.name_fault.NameFault.{NameFault}
+use Rattle.prolly_answer.specs.declared.faults.name_fault.NameFault.TheVariants.{CannotOpen}
+use Rattle.prolly_answer.specs.declared.faults.name_fault.NameFault.TheVariants.{CannotReplace}
+use Rattle.prolly_answer.specs.declared.faults.name_fault.NameFault.TheVariants.{IsInput}
+use Rattle.prolly_answer.specs.declared.faults.name_fault.NameFault.TheVariants.{NotChunkFile}
+use Rattle.prolly_answer.specs.declared.faults.name_fault.NameFault.TheVariants.{NotProof}
+use Rattle.prolly_answer.specs.declared.faults.name_fault.NameFault.TheVariants.{NotRecordFile}
+use Rattle.prolly_answer.specs.declared.faults.name_fault.NameFault.TheVariants.{NotLines, NotEmpty}
+use Rattle.prolly_answer.specs.declared.faults.name_fault.NameFault.TheVariants.{IsBusy}
 
 -- What a line says of a file, before its name.
 abbrev pub name_fault_text : NameFault → List ℕ

@@ -1,11 +1,11 @@
 -- Why an output is not written whole, or what is found by a root.
-use Rattle.prolly_tool.specs.declared.faults.fault.Fault.{Fault}
-use Rattle.prolly_tool.specs.declared.faults.fault.Fault.TheVariants as faults
-use Rattle.prolly_tool.specs.declared.faults.output_fault.OutputFault.{OutputFault}
-use Rattle.prolly_tool.specs.declared.faults.output_fault.OutputFault.TheVariants.{Memory, Write}
-use Rattle.prolly_tool.specs.declared.faults.root_output_fault.RootOutputFault.{RootOutputFault}
-use Rattle.prolly_tool.specs.declared.faults.root_output_fault.RootOutputFault.TheVariants.{Output}
-use Rattle.prolly_tool.specs.declared.faults.root_output_fault.RootOutputFault.TheVariants.{Root}
+use Rattle.prolly_answer.specs.declared.faults.fault.Fault.{Fault}
+use Rattle.prolly_answer.specs.declared.faults.fault.Fault.TheVariants as faults
+use Rattle.prolly_answer.specs.declared.faults.output_fault.OutputFault.{OutputFault}
+use Rattle.prolly_answer.specs.declared.faults.output_fault.OutputFault.TheVariants.{Memory, Write}
+use Rattle.prolly_answer.specs.declared.faults.root_output_fault.RootOutputFault.{RootOutputFault}
+use Rattle.prolly_answer.specs.declared.faults.root_output_fault.RootOutputFault.TheVariants.{Output}
+use Rattle.prolly_answer.specs.declared.faults.root_output_fault.RootOutputFault.TheVariants.{Root}
 
 -- The fault of the command that it is.
 abbrev pub told : OutputFault → Fault

@@ -2,13 +2,13 @@
 use Rattle.std.specs.Prelude.{◌≡◌, ◌≢◌, ℕ, ◌⊎◌, true, List, ◌++◌, Option, Some, None}
 use Rattle.prolly_entry.specs.Record.{Record}
 use Rattle.prolly_file.specs.Sink.{IsSettled, SinkView, TakesPrefix}
-use Rattle.prolly_tool.specs.declared.answers.answer.Answer.{Answer}
-use Rattle.prolly_tool.specs.declared.faults.fault.Fault.{Fault}
-use Rattle.prolly_tool.specs.declared.faults.fault.Fault.TheVariants as faults
-use Rattle.prolly_tool.specs.declared.faults.output_fault.OutputFault.{OutputFault}
-use Rattle.prolly_tool.specs.declared.faults.output_fault.OutputFault.TheVariants.{Memory, Write}
-use Rattle.prolly_tool.specs.Answers.{ShowsLine, ShowsFault}
-use Rattle.prolly_tool.specs.OutputFault.{told}
+use Rattle.prolly_answer.specs.declared.answers.answer.Answer.{Answer}
+use Rattle.prolly_answer.specs.declared.faults.fault.Fault.{Fault}
+use Rattle.prolly_answer.specs.declared.faults.fault.Fault.TheVariants as faults
+use Rattle.prolly_answer.specs.declared.faults.output_fault.OutputFault.{OutputFault}
+use Rattle.prolly_answer.specs.declared.faults.output_fault.OutputFault.TheVariants.{Memory, Write}
+use Rattle.prolly_answer.specs.Answers.{ShowsLine, ShowsFault}
+use Rattle.prolly_answer.specs.OutputFault.{told}
 
 -- ---- sinks
 

@@ -4,14 +4,14 @@ use Rattle.std.specs.Prelude.{◌≢◌, Result, IfOk, OnErr}
 use Rattle.std.specs.declared.alloc.AllocError.{AllocError}
 use Rattle.std.specs.Fmt.{decimal}
 use Rattle.prolly_text.specs.declared.lines.form.LineForm.{LineForm}
-use Rattle.prolly_tool.specs.declared.faults.fault.Fault.{Fault}
-use Rattle.prolly_tool.specs.declared.faults.fault.Fault.TheVariants.{Pack, Read}
+use Rattle.prolly_answer.specs.declared.faults.fault.Fault.{Fault}
+use Rattle.prolly_answer.specs.declared.faults.fault.Fault.TheVariants.{Pack, Read}
 use Rattle.prolly_file.specs.Sink.{SinkView}
 use Rattle.prolly_file.specs.Source.{SourceView}
-use Rattle.prolly_tool.specs.Answers.{ShowsFault}
-use Rattle.prolly_tool.specs.Outputs.{IsAnswer, IsCutShort, TookAll, TookPart}
-use Rattle.prolly_tool.specs.declared.answers.answer.Answer.{Answer}
-use Rattle.prolly_tool.specs.Input.{IsReadWhole, IsInputFault}
+use Rattle.prolly_answer.specs.Answers.{ShowsFault}
+use Rattle.prolly_answer.specs.Outputs.{IsAnswer, IsCutShort, TookAll, TookPart}
+use Rattle.prolly_answer.specs.declared.answers.answer.Answer.{Answer}
+use Rattle.prolly_answer.specs.Input.{IsReadWhole, IsInputFault}
 use Rattle.prolly_text.specs.PackedLines.{IsLinesFault, Packs}
 
 -- The text was read whole, it is packed into this record file, and the line is the number of its

@@ -11,8 +11,8 @@ use Rattle.prolly_entry.specs.declared.version.Version.{Version}
 use Rattle.prolly_file.specs.Failures.{after_failure}
 use Rattle.prolly_file.specs.Sink.{SinkView}
 use Rattle.prolly_file.specs.Writes.{Writes}
-use Rattle.prolly_tool.specs.declared.faults.output_fault.OutputFault.{OutputFault}
-use Rattle.prolly_tool.specs.declared.faults.output_fault.OutputFault.TheVariants as outputs
+use Rattle.prolly_answer.specs.declared.faults.output_fault.OutputFault.{OutputFault}
+use Rattle.prolly_answer.specs.declared.faults.output_fault.OutputFault.TheVariants as outputs
 use Rattle.prolly_root.specs.declared.root_fault.RootFault.{RootFault}
 use Rattle.prolly_root.specs.declared.root_fault.RootFault.TheVariants.{Read}
 use Rattle.prolly_check.specs.declared.numbers.Missing.{Missing}
@@ -25,16 +25,16 @@ use Rattle.prolly_root_diff.specs.declared.fault.RootDiffFault.{RootDiffFault}
 use Rattle.prolly_root_diff.specs.declared.fault.RootDiffFault.TheVariants as walks
 use Rattle.prolly_text.specs.RecordForms.{spelled}
 use Rattle.prolly_text.specs.declared.lines.form.RecordForm.{RecordForm}
-use Rattle.prolly_tool.specs.Answers.{Shows, ShowsFault}
-use Rattle.prolly_tool.specs.Counts.{AreCounts, are_some, counts_line, stat_text}
-use Rattle.prolly_tool.specs.Diff.{status_of}
+use Rattle.prolly_answer.specs.Answers.{Shows, ShowsFault}
+use Rattle.prolly_answer.specs.Counts.{AreCounts, are_some, counts_line, stat_text}
+use Rattle.prolly_answer.specs.Diff.{status_of}
 use Rattle.prolly_tree.specs.Difference.{IsMap}
 use Rattle.prolly_tree.specs.File.{root_reference}
 use Rattle.prolly_tree.specs.LookUp.{find}
-use Rattle.prolly_tool.specs.declared.answers.answer.Answer.{Answer}
-use Rattle.prolly_tool.specs.declared.answers.diff.ChangeCounts.{ChangeCounts}
-use Rattle.prolly_tool.specs.declared.faults.fault.Fault.{Fault}
-use Rattle.prolly_tool.specs.declared.faults.fault.Fault.TheVariants.{Memory, RootNew, RootOld, Write}
+use Rattle.prolly_answer.specs.declared.answers.answer.Answer.{Answer}
+use Rattle.prolly_answer.specs.declared.answers.diff.ChangeCounts.{ChangeCounts}
+use Rattle.prolly_answer.specs.declared.faults.fault.Fault.{Fault}
+use Rattle.prolly_answer.specs.declared.faults.fault.Fault.TheVariants.{Memory, RootNew, RootOld, Write}
 
 -- ---- what was given
 

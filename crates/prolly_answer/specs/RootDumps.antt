@@ -14,16 +14,16 @@ use Rattle.prolly_tree.specs.Difference.{IsMap, puts}
 use Rattle.prolly_tree.specs.File.{root_reference}
 use Rattle.prolly_text.specs.RecordForms.{written_records}
 use Rattle.prolly_text.specs.declared.lines.form.RecordForm.{RecordForm}
-use Rattle.prolly_tool.specs.Answers.{ShowsDone, ShowsFault}
-use Rattle.prolly_tool.specs.OutputFault.{told_stop}
-use Rattle.prolly_tool.specs.Outputs.{TookAll, TookBytes, TookUntil}
+use Rattle.prolly_answer.specs.Answers.{ShowsDone, ShowsFault}
+use Rattle.prolly_answer.specs.OutputFault.{told_stop}
+use Rattle.prolly_answer.specs.Outputs.{TookAll, TookBytes, TookUntil}
 use Rattle.prolly_file.specs.Sink.{IsSettled, SinkView}
-use Rattle.prolly_tool.specs.RootScans.{Scanned}
-use Rattle.prolly_tool.specs.declared.answers.answer.Answer.{Answer}
-use Rattle.prolly_tool.specs.declared.faults.output_fault.OutputFault.TheVariants.{Write}
-use Rattle.prolly_tool.specs.declared.faults.root_output_fault.RootOutputFault.{RootOutputFault}
-use Rattle.prolly_tool.specs.declared.faults.root_output_fault.RootOutputFault.TheVariants.{Root}
-use Rattle.prolly_tool.specs.declared.faults.root_output_fault.RootOutputFault.TheVariants.{Output}
+use Rattle.prolly_answer.specs.RootScans.{Scanned}
+use Rattle.prolly_answer.specs.declared.answers.answer.Answer.{Answer}
+use Rattle.prolly_answer.specs.declared.faults.output_fault.OutputFault.TheVariants.{Write}
+use Rattle.prolly_answer.specs.declared.faults.root_output_fault.RootOutputFault.{RootOutputFault}
+use Rattle.prolly_answer.specs.declared.faults.root_output_fault.RootOutputFault.TheVariants.{Root}
+use Rattle.prolly_answer.specs.declared.faults.root_output_fault.RootOutputFault.TheVariants.{Output}
 
 -- How a dump ends: all is written, or a fault stops it.
 abbrev pub Outcome : Type 0

@@ -8,8 +8,8 @@ use Rattle.prolly_range.specs.Found.{AreSomeOf}
 use Rattle.prolly_range.specs.KeySet.{KeySet}
 use Rattle.prolly_range.specs.KeySet.KeySet.{Keys, Range}
 use Rattle.prolly_text.specs.declared.notation.Notation.{Notation}
-use Rattle.prolly_tool.specs.KeyLookUps.{found_at, found_lines}
-use Rattle.prolly_tool.specs.LookUps.{pair_lines}
+use Rattle.prolly_answer.specs.KeyLookUps.{found_at, found_lines}
+use Rattle.prolly_answer.specs.LookUps.{pair_lines}
 
 -- The key is past: a pair was shown whose key is not less.
 abbrev pub is_past : List Pair → List ℕ → Bool

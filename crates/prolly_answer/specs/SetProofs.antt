@@ -27,15 +27,15 @@ use Rattle.prolly_tree.specs.Difference.{IsMap}
 use Rattle.prolly_tree.specs.Events.{greatest_count}
 use Rattle.prolly_tree.specs.File.{root_reference}
 use Rattle.prolly_tree.specs.LookUp.{scan}
-use Rattle.prolly_tool.specs.Answers.{ShowsDone, ShowsFault}
-use Rattle.prolly_tool.specs.KeyLookUps.{found_at}
-use Rattle.prolly_tool.specs.LookUps.{IsLookedUp, IsNoFile}
-use Rattle.prolly_tool.specs.OutputFault.{told}
-use Rattle.prolly_tool.specs.SetLines.{keys_past, lines_at_end, lines_so_far}
-use Rattle.prolly_tool.specs.declared.answers.answer.Answer.{Answer}
-use Rattle.prolly_tool.specs.declared.faults.fault.Fault.{Fault}
-use Rattle.prolly_tool.specs.declared.faults.fault.Fault.TheVariants.{Memory, Proof, Read, Root, Write}
-use Rattle.prolly_tool.specs.declared.faults.output_fault.OutputFault.{OutputFault}
+use Rattle.prolly_answer.specs.Answers.{ShowsDone, ShowsFault}
+use Rattle.prolly_answer.specs.KeyLookUps.{found_at}
+use Rattle.prolly_answer.specs.LookUps.{IsLookedUp, IsNoFile}
+use Rattle.prolly_answer.specs.OutputFault.{told}
+use Rattle.prolly_answer.specs.SetLines.{keys_past, lines_at_end, lines_so_far}
+use Rattle.prolly_answer.specs.declared.answers.answer.Answer.{Answer}
+use Rattle.prolly_answer.specs.declared.faults.fault.Fault.{Fault}
+use Rattle.prolly_answer.specs.declared.faults.fault.Fault.TheVariants.{Memory, Proof, Read, Root, Write}
+use Rattle.prolly_answer.specs.declared.faults.output_fault.OutputFault.{OutputFault}
 
 -- ---- what is told
 

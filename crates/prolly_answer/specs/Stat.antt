@@ -18,13 +18,13 @@ use Rattle.prolly_text.specs.Records.{records_of}
 use Rattle.prolly_text.specs.Table.{table_of}
 use Rattle.prolly_text.specs.declared.numbers.records.RecordNumbers.{RecordNumbers}
 use Rattle.prolly_text.specs.declared.numbers.table.TreeNumbers.{TreeNumbers}
-use Rattle.prolly_tool.specs.Answers.{Shows, ShowsFault}
-use Rattle.prolly_tool.specs.LookUps.{IsLookUp, ShowsFailedRead}
-use Rattle.prolly_tool.specs.Surveys.{AreOfSurvey, IsSurveyAnswer, IsReadFailure}
-use Rattle.prolly_tool.specs.declared.answers.answer.Answer.{Answer}
-use Rattle.prolly_tool.specs.declared.faults.fault.Fault.TheVariants.{Read, Run}
-use Rattle.prolly_tool.specs.declared.answers.stat.StatForm.{StatForm}
-use Rattle.prolly_tool.specs.declared.answers.stat.StatForm.TheVariants.{Lines, Json}
+use Rattle.prolly_answer.specs.Answers.{Shows, ShowsFault}
+use Rattle.prolly_answer.specs.LookUps.{IsLookUp, ShowsFailedRead}
+use Rattle.prolly_answer.specs.Surveys.{AreOfSurvey, IsSurveyAnswer, IsReadFailure}
+use Rattle.prolly_answer.specs.declared.answers.answer.Answer.{Answer}
+use Rattle.prolly_answer.specs.declared.faults.fault.Fault.TheVariants.{Read, Run}
+use Rattle.prolly_answer.specs.declared.answers.stat.StatForm.{StatForm}
+use Rattle.prolly_answer.specs.declared.answers.stat.StatForm.TheVariants.{Lines, Json}
 
 -- ---- a chunk file
 

@@ -1,8 +1,8 @@
 //! The bits by which chunks have about so many bytes, chosen by the records that are read first.
 ghost use Rattle.std.specs.Prelude.{◌≡◌, ◌≢◌, ◌↔◌, ◌≤◌, ◌++◌, take, true, IfErr, IfOk, OnErr, OnOk, length};
-ghost use Rattle.prolly_tool.specs.ChunkBytes.{AreLeast, ArePuts, IsChoice, IsEnough, Samples};
-ghost use Rattle.prolly_tool.specs.ChunkBytes.{chosen_note, default_note, note_line};
-ghost use Rattle.prolly_tool.specs.ChunkBytes.{nothing_sampled};
+ghost use Rattle.prolly_answer.specs.ChunkBytes.{AreLeast, ArePuts, IsChoice, IsEnough, Samples};
+ghost use Rattle.prolly_answer.specs.ChunkBytes.{chosen_note, default_note, note_line};
+ghost use Rattle.prolly_answer.specs.ChunkBytes.{nothing_sampled};
 
 use crate::input::RECORD_LIMIT;
 use crate::lines::append_number;
@@ -31,7 +31,7 @@ pub struct Sample {
 
 impl Model for Sample {
     ghost use Rattle.std.specs.Prelude.{◌+◌, ◌≤◌};
-    ghost use Rattle.prolly_tool.specs.ChunkBytes.{Sampled};
+    ghost use Rattle.prolly_answer.specs.ChunkBytes.{Sampled};
 
     ghost Value = { Sampled };
 

@@ -1,6 +1,6 @@
 //! Inputs: how much of them commands read, and standard input, which they read whole.
 ghost use Rattle.std.specs.Prelude.{◌≡◌, ◌≢◌, ◌≤◌, true, length, IfOk, OnOk, IfErr, IsErrOf};
-ghost use Rattle.prolly_tool.specs.Input.{IsReadWhole, IsInputFault};
+ghost use Rattle.prolly_answer.specs.Input.{IsReadWhole, IsInputFault};
 
 use crate::faults::Fault;
 use prolly_file::{Source, WholeFault, read_whole};

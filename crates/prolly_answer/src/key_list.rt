@@ -1,7 +1,7 @@
 //! Lists of keys, out of files.
 ghost use Rattle.std.specs.Prelude.{◌≡◌, ◌≢◌, true, map, IfErr, IfOk, IsErrOf};
 ghost use Rattle.prolly_entry.specs.Keys.{Rising};
-ghost use Rattle.prolly_tool.specs.KeyLists.{IsKeyListFault, ReadsKeys};
+ghost use Rattle.prolly_answer.specs.KeyLists.{IsKeyListFault, ReadsKeys};
 
 use crate::faults::Fault;
 use crate::input::input_of;

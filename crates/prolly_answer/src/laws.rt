@@ -1,10 +1,10 @@
 //! Laws of what is dumped, of what is verified, and of what is found at many keys. Each is the
 //! contract of a function that does nothing: to call it is to know the law, and to prove the crate
 //! is to prove it.
-ghost use Rattle.prolly_tool.specs.Dump.{RecordFilesAreDumped};
-ghost use Rattle.prolly_tool.specs.KeyLookUps.{KeysByRootAreRight};
-ghost use Rattle.prolly_tool.specs.RootDumps.{DumpsAreRight};
-ghost use Rattle.prolly_tool.specs.SetProofs.{RangesAreRight, ShownKeysAreRight};
+ghost use Rattle.prolly_answer.specs.Dump.{RecordFilesAreDumped};
+ghost use Rattle.prolly_answer.specs.KeyLookUps.{KeysByRootAreRight};
+ghost use Rattle.prolly_answer.specs.RootDumps.{DumpsAreRight};
+ghost use Rattle.prolly_answer.specs.SetProofs.{RangesAreRight, ShownKeysAreRight};
 
 use prolly_check::laws::ways_are_right;
 use prolly_range::laws::{keys_are_found, set_proofs_are_right};

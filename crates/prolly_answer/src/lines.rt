@@ -3,8 +3,8 @@ ghost use Rattle.std.specs.Prelude.{◌≡◌, ◌++◌, ◌∷◌, [], List, �
 ghost use Rattle.std.specs.Fmt.{decimal};
 ghost use Rattle.prolly_text.specs.Notations.{separator, written};
 ghost use Rattle.prolly_tree.specs.Difference.{puts};
-ghost use Rattle.prolly_tool.specs.Faults.{fault_line};
-ghost use Rattle.prolly_tool.specs.Outputs.{TookAll, TookUntil};
+ghost use Rattle.prolly_answer.specs.Faults.{fault_line};
+ghost use Rattle.prolly_answer.specs.Outputs.{TookAll, TookUntil};
 ghost use Rattle.prolly_text.specs.Names.{shown_name};
 ghost use Rattle.prolly_text.specs.RecordForms.{written_records};
 ghost use Rattle.prolly_text.specs.declared.lines.form.RecordForm.TheVariants.{Lines};

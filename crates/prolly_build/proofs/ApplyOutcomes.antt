@@ -49,9 +49,9 @@ use Rattle.prolly_build.specs.RecordLinks.{IsFed}
 use Rattle.prolly_build.specs.RunResult.{IsHaltFault}
 use Rattle.prolly_build.specs.Stages.{HasRun}
 use Rattle.prolly_build.specs.WriterState.{frames_of}
-use Rattle.prolly_build.specs.declared.apply.ApplyFault.{ApplyFault}
-use Rattle.prolly_build.specs.declared.apply.ApplyFault.TheVariants as answers
-use Rattle.prolly_build.specs.declared.driver.Report.{Report}
+use Rattle.prolly_report.specs.declared.apply_fault.ApplyFault.{ApplyFault}
+use Rattle.prolly_report.specs.declared.apply_fault.ApplyFault.TheVariants as answers
+use Rattle.prolly_report.specs.declared.report.Report.{Report}
 use Rattle.prolly_build.specs.declared.end.Halt.{Halt}
 use Rattle.prolly_build.specs.declared.end.Halt.TheVariants.{NoThread as NoThread_halt}
 use Rattle.prolly_build.proofs.Applying.{IsOldRun, IsRunOver, StopsOver, changes_are, old_run}

@@ -27,7 +27,7 @@ use Rattle.prolly_link.specs.declared.fault.RunFault.TheVariants.{KeyTooLong, Va
 use Rattle.prolly_link.specs.declared.fault.RunFault.TheVariants.{OutOfOrder, TooManyRecords}
 use Rattle.prolly_link.specs.declared.fault.RunFault.TheVariants.{Write, TooTall, NoThread, Lost}
 use Rattle.prolly_link.specs.declared.fault.RunFault.TheVariants.{TooManyFiles}
-use Rattle.prolly_build.specs.declared.driver.Report.{Report}
+use Rattle.prolly_report.specs.declared.report.Report.{Report}
 use Rattle.prolly_build.specs.BuiltFile.{IsCleanRun, IsMadeFile, IsTooTall, IsCutOff}
 use Rattle.prolly_build.specs.BuiltFile.{IsUnmadeOf}
 use Rattle.prolly_build.specs.BuiltFile.{tall_file, IsInputEnd, IsLoadFault, IsStartFault}

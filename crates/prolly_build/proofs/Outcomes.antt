@@ -24,7 +24,7 @@ use Rattle.prolly_build.specs.Outcome.{IsOutcome}
 use Rattle.prolly_build.specs.RecordLinks.{IsFed}
 use Rattle.prolly_build.specs.Stages.{HasRun}
 use Rattle.prolly_build.specs.Workers.{IsStaged}
-use Rattle.prolly_build.specs.declared.driver.Report.{Report}
+use Rattle.prolly_report.specs.declared.report.Report.{Report}
 use Rattle.prolly_build.proofs.Counted.{LeftAreBytes}
 use Rattle.prolly_build.proofs.Makings.{if_ok, if_ok_any}
 use Rattle.prolly_build.proofs.Refusals.{source_refused, refused}

@@ -30,7 +30,7 @@ use Rattle.prolly_build.specs.BuiltFile.{IsRunOf, IsLoadFault, IsInputEnd, IsSta
 use Rattle.prolly_build.specs.BuiltFile.{IsWriterFault}
 use Rattle.prolly_build.specs.InputFaults.{IsFileFault, IsStopped}
 use Rattle.prolly_build.specs.End.{IsStoppedAt}
-use Rattle.prolly_build.specs.declared.driver.Report.{Report}
+use Rattle.prolly_report.specs.declared.report.Report.{Report}
 use Rattle.prolly_build.specs.LastMerger.{IsGathered}
 use Rattle.prolly_build.specs.Mergers.{MergesAll, sent_input}
 use Rattle.prolly_build.specs.Config.{Settings, AreLawful}

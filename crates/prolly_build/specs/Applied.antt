@@ -29,9 +29,9 @@ use Rattle.prolly_build.specs.Config.{Settings}
 use Rattle.prolly_build.specs.InputFaults.{AreHonest, CountFor, IsFileFault, TookBegun}
 use Rattle.prolly_build.specs.Refusals.{AreGood}
 use Rattle.prolly_build.specs.WriterState.{frames_of}
-use Rattle.prolly_build.specs.declared.apply.ApplyFault.{ApplyFault}
-use Rattle.prolly_build.specs.declared.apply.ApplyFault.TheVariants as answers
-use Rattle.prolly_build.specs.declared.driver.Report.{Report}
+use Rattle.prolly_report.specs.declared.apply_fault.ApplyFault.{ApplyFault}
+use Rattle.prolly_report.specs.declared.apply_fault.ApplyFault.TheVariants as answers
+use Rattle.prolly_report.specs.declared.report.Report.{Report}
 
 -- ---- which fault is told
 

@@ -14,7 +14,7 @@ use Rattle.prolly_build.specs.BuiltFile.{IsBegun}
 use Rattle.prolly_build.specs.Config.{Settings}
 use Rattle.prolly_build.specs.End.{IsFinished}
 use Rattle.prolly_build.specs.Mergers.{received_input, sent_input}
-use Rattle.prolly_build.specs.declared.driver.Report.{Report}
+use Rattle.prolly_report.specs.declared.report.Report.{Report}
 
 -- What is given back went over the link that was given.
 abbrev pub GoesOver : {D T : Type 0} → (LinkId → D → Whole T → Type 0) → Type 0

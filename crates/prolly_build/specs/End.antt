@@ -17,7 +17,7 @@ use Rattle.prolly_build.specs.BuiltFile.{IsInputEnd, IsRunOf, IsWriterFault}
 use Rattle.prolly_build.specs.Config.{Settings}
 use Rattle.prolly_build.specs.InputFaults.{IsFileFault, TookBegun}
 use Rattle.prolly_build.specs.WriterState.{frames_of}
-use Rattle.prolly_build.specs.declared.driver.Report.{Report}
+use Rattle.prolly_report.specs.declared.report.Report.{Report}
 
 -- The writer was at fault, all that was sent came to it, and of a map that this is a run of the file
 -- was not made.

@@ -16,9 +16,9 @@ use Rattle.prolly_build.specs.Config.{Settings}
 use Rattle.prolly_build.specs.End.{IsFinished}
 use Rattle.prolly_build.specs.Mergers.{received_input}
 use Rattle.prolly_build.specs.OldBase.{first_sent}
-use Rattle.prolly_build.specs.declared.apply.ApplyFault.{ApplyFault}
-use Rattle.prolly_build.specs.declared.apply.ApplyFault.TheVariants.{Run}
-use Rattle.prolly_build.specs.declared.driver.Report.{Report}
+use Rattle.prolly_report.specs.declared.apply_fault.ApplyFault.{ApplyFault}
+use Rattle.prolly_report.specs.declared.apply_fault.ApplyFault.TheVariants.{Run}
+use Rattle.prolly_report.specs.declared.report.Report.{Report}
 
 -- The answer that is told of a finished run's.
 abbrev pub TellsOf : Bool → Option RootFault → Result Report RunFault → Result Report ApplyFault →

@@ -9,7 +9,7 @@ use Rattle.prolly_build.specs.BuiltFile.{AreKept}
 use Rattle.prolly_build.specs.Refusals.{IsRefused}
 use Rattle.prolly_build.specs.Config.{Settings}
 use Rattle.prolly_build.specs.InputFaults.{AreHonest, IsFileFault, IsStopped}
-use Rattle.prolly_build.specs.declared.driver.Report.{Report}
+use Rattle.prolly_report.specs.declared.report.Report.{Report}
 
 -- All that a build with these settings promises of its answer: of the sources before and after it,
 -- of which `seen` is what a contract sees, and of the sink as a contract sees it before and after.

@@ -14,7 +14,7 @@ use Rattle.prolly_link.specs.declared.message.End.TheVariants.{Clean, Fault}
 use Rattle.prolly_link.specs.declared.fault.RunFault.{RunFault}
 use Rattle.prolly_link.specs.declared.fault.RunFault.TheVariants.{Write, TooTall as TooTall_fault}
 use Rattle.prolly_link.specs.declared.fault.RunFault.TheVariants.{Lost}
-use Rattle.prolly_build.specs.declared.driver.Report.{Report}
+use Rattle.prolly_report.specs.declared.report.Report.{Report}
 use Rattle.prolly_build.specs.declared.run.writer.OpenFile.{OpenFile}
 use Rattle.prolly_build.specs.declared.run.writer.LastChunk.{LastChunk}
 use Rattle.prolly_build.specs.declared.run.writer.WriterState.{WriterState}

@@ -9,10 +9,9 @@ ghost use Rattle.prolly_build.specs.Config.{AreLawful};
 ghost use Rattle.prolly_build.specs.OldBase.{AreChangesPaired, IsChangesLink, senders_of};
 ghost use Rattle.prolly_build.specs.OldEnd.{IsOldEnded};
 ghost use Rattle.prolly_build.specs.WriterState.{HasWritten};
-ghost use Rattle.prolly_build.specs.declared.apply.ApplyFault.TheVariants.{Run};
+ghost use Rattle.prolly_report.specs.declared.apply_fault.ApplyFault.TheVariants.{Run};
 
 use crate::config::Config;
-use crate::driver::Report;
 use crate::end::finish;
 use crate::links::{StageLinks, both};
 use crate::run::{BaseResult, OldBase, RunResult, meet_old, new_old, run_scoped};
@@ -21,6 +20,7 @@ use prolly_apply::{OLD_TREE, OldLeaf};
 use prolly_entry::{Record, Ref};
 use prolly_file::{Sink, Source};
 use prolly_link::{ClosedBatch, RunFault};
+use prolly_report::{ApplyFault, Report};
 use prolly_root::{ChunkSource, RootFault};
 use prolly_stage::Gate;
 use std::alloc::Global;
@@ -30,17 +30,6 @@ use std::thread::Threads;
 
 /// The greatest number of files of changes that are laid over a tree: it is an input, too.
 pub const CHANGES_LIMIT: usize = 15;
-
-/// Why changes were not applied.
-#[derive(Clone, Copy, Debug, PartialEq, Eq)]
-pub enum ApplyFault {
-    /// A fault that a build may have, too.
-    Run(RunFault),
-    /// The old tree is at fault.
-    Old(RootFault),
-    /// The bits are not those of the old tree.
-    WrongBits,
-}
 
 /// What is told of a fault of a run, where the old tree was refused or not, and its loader had this
 /// fault. A worker sends no fault of its start: who seems to is lost.

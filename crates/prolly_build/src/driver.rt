@@ -15,9 +15,10 @@ use crate::end::finish;
 use crate::links::{StageLinks, both};
 use crate::run::{Base, BaseResult, RunResult, meet_files, new_files, run_scoped};
 use crate::start::{AllStart, CutLeaves, Lent, MergeLast, Permit};
-use prolly_entry::{Pair, Record, Ref};
+use prolly_entry::{Pair, Record};
 use prolly_file::{Sink, Source};
 use prolly_link::{BatchReceiver, RunFault};
+use prolly_report::Report;
 use prolly_stage::Gate;
 use std::alloc::Global;
 use std::mem;
@@ -167,17 +168,4 @@ pub fn build<R: Wait + Threads + Sync, S: Source + Send + Drop, W: Sink, G: Gate
         (sink.new ≡ sink.old) result }
 {
     build_with(rt, alloc, config, sources, sink, gate, &AllStart)
-}
-
-/// What a build has made.
-#[derive(Clone, Copy, Debug, PartialEq, Eq)]
-pub struct Report {
-    /// The reference of the tree's root.
-    pub root: Ref,
-    /// How many chunks the tree has.
-    pub chunks: u64,
-    /// How many pairs the map has.
-    pub pairs: u64,
-    /// How many levels the tree has, the leaves counted as one.
-    pub levels: u8,
 }

@@ -12,12 +12,12 @@ ghost use Rattle.prolly_build.specs.End.{IsFinished};
 ghost use Rattle.prolly_build.specs.declared.run.writer.WriterState.TheVariants.{Writing};
 
 use crate::config::Config;
-use crate::driver::Report;
 use crate::links::meet_link;
 use crate::run::{OpenFile, WriterResult, WriterState};
 use prolly_chunk::ChunkEvent;
 use prolly_file::Sink;
 use prolly_link::{BatchReceiver, BatchSender, ClosedBatch, End, RunFault};
+use prolly_report::Report;
 use std::sync::Wait;
 
 /// Why the workers were not all met.

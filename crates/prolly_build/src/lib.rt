@@ -10,7 +10,8 @@ mod links;
 mod run;
 mod start;
 
-pub use apply::{ApplyFault, CHANGES_LIMIT, apply_changes, apply_changes_with};
+pub use apply::{CHANGES_LIMIT, apply_changes, apply_changes_with};
 pub use config::{Config, ConfigFault};
-pub use driver::{FILES_LIMIT, Report, build, build_with};
+pub use driver::{FILES_LIMIT, build, build_with};
+pub use prolly_report::{ApplyFault, Report};
 pub use start::{AllStart, Permit};

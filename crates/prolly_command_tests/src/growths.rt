@@ -8,14 +8,14 @@ use crate::expect::{expect_bytes, expect_eq};
 use crate::tools::expect_answer;
 use crate::tools::look_up_answers::file_of_three;
 use crate::tools::run_files::RunFiles;
-use prolly_check::OneThread;
-use prolly_entry::{Ref, Version};
-use prolly_file::{FromRead, ScriptSink};
-use prolly_tool::{
+use prolly_answer::{
     Answer, LineForm, LinesFault, Notation, PackFault, RecordForm, answer_check, answer_dump,
     answer_get, answer_nth, answer_pack, answer_pack_sorted, answer_prove, answer_scan,
     answer_scratch, answer_verify, pack_lines_in,
 };
+use prolly_check::OneThread;
+use prolly_entry::{Ref, Version};
+use prolly_file::{FromRead, ScriptSink};
 use std::alloc::{AllocError, Global};
 use std::process::Abort;
 use std::test::Fail;

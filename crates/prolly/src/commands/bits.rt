@@ -2,7 +2,7 @@
 ghost use Rattle.std.specs.Prelude.{◌≤◌, IfOk};
 
 use crate::patient::Patient;
-use prolly_tool::{Sample, bits_note};
+use prolly_answer::{Sample, bits_note};
 use std::alloc::AllocError;
 use std::io::Write;
 

@@ -8,13 +8,13 @@ use crate::patient::Patient;
 use crate::refusal::Refusal;
 use crate::streams::Stream;
 use crate::target::Target;
-use prolly_check::{CheckFault, ChunkHasher};
-use prolly_entry::Version;
-use prolly_file::{Buffered, FromRead, ToWrite};
-use prolly_tool::{
+use prolly_answer::{
     Answer, Fault, Notation, RecordForm, RootDiff, RootPair, WriteMode, answer_diff,
     answer_diff_by_root,
 };
+use prolly_check::{CheckFault, ChunkHasher};
+use prolly_entry::Version;
+use prolly_file::{Buffered, FromRead, ToWrite};
 use std::alloc::AllocError;
 use std::fs::File;
 use std::io::Write;

@@ -6,15 +6,15 @@ use crate::output::OUTPUT_BYTES;
 use crate::patient::Patient;
 use crate::refusal::Refusal;
 use crate::streams::Stream;
-use prolly_check::ChunkHasher;
-use prolly_entry::{Pair, Ref, Version};
-use prolly_file::{Buffered, ToWrite};
-use prolly_root::{ChunkSource, Reader, RootFault};
-use prolly_tool::{
+use prolly_answer::{
     Answer, Fault, Notation, RootScan, answer_found, answer_found_pair, answer_found_raw,
     answer_get_in, answer_get_keys, answer_get_keys_by_root, answer_get_raw, answer_nth_in,
     answer_scan_by_root, answer_scan_in,
 };
+use prolly_check::ChunkHasher;
+use prolly_entry::{Pair, Ref, Version};
+use prolly_file::{Buffered, ToWrite};
+use prolly_root::{ChunkSource, Reader, RootFault};
 
 /// A file of which nothing is believed but what the root of its tree vouches for, and how what is
 /// found in it is shown.

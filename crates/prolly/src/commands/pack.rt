@@ -4,8 +4,8 @@ use crate::patient::{Patient, tell_of_terminal};
 use crate::refusal::Refusal;
 use crate::run_files::{RunFile, RunFiles};
 use crate::target::Target;
+use prolly_answer::{Answer, LineForm, SortedPack, WriteMode, answer_pack_in, answer_pack_sorted};
 use prolly_file::{FromRead, ToWrite};
-use prolly_tool::{Answer, LineForm, SortedPack, WriteMode, answer_pack_in, answer_pack_sorted};
 use std::sync::Wait;
 
 /// `pack [--text] [--removals] [--sync] [--force] OUT`

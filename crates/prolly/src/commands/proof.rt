@@ -7,15 +7,15 @@ use crate::patient::Patient;
 use crate::refusal::Refusal;
 use crate::streams::Stream;
 use crate::target::Target;
+use prolly_answer::{
+    Answer, Fault, NameFault, Notation, Sought, WriteMode, answer_prove, answer_prove_by_root,
+    answer_prove_set, answer_prove_set_by_root, answer_verify, answer_verify_set,
+};
 use prolly_check::ChunkHasher;
 use prolly_entry::{Ref, Version};
 use prolly_file::{Buffered, FromRead, Source, ToWrite};
 use prolly_range::{KeySet, SortedKeys};
 use prolly_root::ChunkSource;
-use prolly_tool::{
-    Answer, Fault, NameFault, Notation, Sought, WriteMode, answer_prove, answer_prove_by_root,
-    answer_prove_set, answer_prove_set_by_root, answer_verify, answer_verify_set,
-};
 use std::alloc::AllocError;
 
 /// The keys from the one on, before the other one.

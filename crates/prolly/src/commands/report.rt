@@ -3,13 +3,13 @@ use crate::inputs::Input;
 use crate::patient::{Patient, tell_of_terminal};
 use crate::refusal::{Refusal, told};
 use crate::streams::Stream;
-use prolly_check::ChunkHasher;
-use prolly_entry::{Ref, Version};
-use prolly_file::{FromRead, FromSeek};
-use prolly_tool::{
+use prolly_answer::{
     Answer, Fault, LineForm, Notation, StatForm, answer_check_by, answer_check_by_root,
     answer_explain, answer_explain_lines, answer_root, answer_stat,
 };
+use prolly_check::ChunkHasher;
+use prolly_entry::{Ref, Version};
+use prolly_file::{FromRead, FromSeek};
 use std::io::Write;
 
 /// `explain [--text] FILE`

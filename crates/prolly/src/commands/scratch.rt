@@ -6,9 +6,9 @@ use crate::output_kind::OutputKind;
 use crate::patient::Patient;
 use crate::refusal::Refusal;
 use crate::target::Target;
+use prolly_answer::{Answer, Fault, Sample, WriteMode, answer_scratch};
 use prolly_entry::Version;
 use prolly_file::{FromRead, Rejoined, Sink, ToWrite};
-use prolly_tool::{Answer, Fault, Sample, WriteMode, answer_scratch};
 use std::alloc::AllocError;
 use std::fs::File;
 

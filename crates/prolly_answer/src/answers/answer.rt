@@ -1,9 +1,9 @@
 //! What the program prints.
 ghost use Rattle.std.specs.Prelude.{ℕ, List, [], IfOk, Some};
 ghost use Rattle.std.specs.Option.{option_copied};
-ghost use Rattle.prolly_tool.specs.Answers.{Shows, ShowsNothing, ShowsLine, ShowsDone, ShowsFault};
-ghost use Rattle.prolly_tool.specs.Answers.{ShowsFileFault, ShowsFileLine, ShowsName, ShowsRefusal};
-ghost use Rattle.prolly_tool.specs.LookUps.{ShowsPair, ShowsRaw, ShowsValue};
+ghost use Rattle.prolly_answer.specs.Answers.{Shows, ShowsNothing, ShowsLine, ShowsDone, ShowsFault};
+ghost use Rattle.prolly_answer.specs.Answers.{ShowsFileFault, ShowsFileLine, ShowsName, ShowsRefusal};
+ghost use Rattle.prolly_answer.specs.LookUps.{ShowsPair, ShowsRaw, ShowsValue};
 
 use crate::faults::{Fault, NameFault};
 use crate::lines::{append_named_fault, append_named_line, append_pair_text};

@@ -1,13 +1,13 @@
 //! What the command `apply` prints, and what it asks of the old file's header.
 ghost use Rattle.std.specs.Prelude.{◌≡◌, Ok, OnOk, IfErr, IfOk};
-ghost use Rattle.prolly_tool.specs.Apply.{AgreesWith, IsRefusedHeader, ShowsApply};
+ghost use Rattle.prolly_answer.specs.Apply.{AgreesWith, IsRefusedHeader, ShowsApply};
 
 use crate::answers::answer::Answer;
 use crate::answers::build::line_of;
 use crate::faults::Fault;
-use prolly_build::{ApplyFault, Report};
 use prolly_entry::Version;
 use prolly_file::Header;
+use prolly_report::{ApplyFault, Report};
 use prolly_root::RootFault;
 use std::alloc::{AllocError, Global};
 

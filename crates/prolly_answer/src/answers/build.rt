@@ -1,11 +1,11 @@
 //! What the command `build` prints.
 ghost use Rattle.std.specs.Prelude.{◌≡◌, IfOk};
-ghost use Rattle.prolly_tool.specs.Build.{report_text, ShowsBuild};
+ghost use Rattle.prolly_answer.specs.Build.{report_text, ShowsBuild};
 
 use crate::answers::answer::Answer;
 use crate::lines::append_number;
-use prolly_build::Report;
 use prolly_link::RunFault;
+use prolly_report::Report;
 use std::alloc::{AllocError, Global};
 
 /// What `build` answers: one line with the text of the root and the numbers of chunks, pairs and

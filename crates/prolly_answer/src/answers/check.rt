@@ -2,9 +2,9 @@
 ghost use Rattle.std.specs.Prelude.{◌≡◌, ◌≢◌, true, IfOk};
 ghost use Rattle.prolly_check.specs.Content.{Content};
 ghost use Rattle.prolly_check.specs.Verdict.{IsFileOf};
-ghost use Rattle.prolly_tool.specs.Answers.{ShowsFault};
-ghost use Rattle.prolly_tool.specs.LookUps.{AnswersFailedRead, AnswersLookUp, IsCheckByRoot};
-ghost use Rattle.prolly_tool.specs.LookUps.{ShowsCheck, check_text, ok_text};
+ghost use Rattle.prolly_answer.specs.Answers.{ShowsFault};
+ghost use Rattle.prolly_answer.specs.LookUps.{AnswersFailedRead, AnswersLookUp, IsCheckByRoot};
+ghost use Rattle.prolly_answer.specs.LookUps.{ShowsCheck, check_text, ok_text};
 
 use crate::answers::answer::Answer;
 use crate::faults::Fault;

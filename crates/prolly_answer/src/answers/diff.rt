@@ -9,11 +9,11 @@ ghost use Rattle.prolly_check.specs.declared.verdict.fault.CheckFault.TheVariant
 ghost use Rattle.prolly_diff.specs.Differences.{AreMaps};
 ghost use Rattle.prolly_entry.specs.Pair.{IsPair, Pair};
 ghost use Rattle.prolly_entry.specs.Record.{Record as RecordValue, Record};
-ghost use Rattle.prolly_tool.specs.Answers.{ShowsFault};
-ghost use Rattle.prolly_tool.specs.Counts.{AreCounts, stat_text, are_some};
-ghost use Rattle.prolly_tool.specs.Diff.{AreStopped, AreWritten, HasDifference, HaveChanges};
-ghost use Rattle.prolly_tool.specs.Diff.{IsDiff, ShowsDiff, stat_shown, status_of};
-ghost use Rattle.prolly_tool.specs.Outputs.{IsPart, TookAll, TookUntil};
+ghost use Rattle.prolly_answer.specs.Answers.{ShowsFault};
+ghost use Rattle.prolly_answer.specs.Counts.{AreCounts, stat_text, are_some};
+ghost use Rattle.prolly_answer.specs.Diff.{AreStopped, AreWritten, HasDifference, HaveChanges};
+ghost use Rattle.prolly_answer.specs.Diff.{IsDiff, ShowsDiff, stat_shown, status_of};
+ghost use Rattle.prolly_answer.specs.Outputs.{IsPart, TookAll, TookUntil};
 ghost use Rattle.std.specs.Option.{option_copied};
 ghost use Rattle.prolly_tree.specs.LookUp.{find};
 

@@ -3,9 +3,9 @@ ghost use Rattle.std.specs.Prelude.{◌≡◌, ◌≢◌, ◌⊎◌, true, IfOk,
 ghost use Rattle.prolly_check.specs.Content.{Content};
 ghost use Rattle.prolly_check.specs.Verdict.{IsFileOf};
 ghost use Rattle.prolly_tree.specs.Difference.{puts};
-ghost use Rattle.prolly_tool.specs.Dump.{IsDump, IsDumped, IsStoppedDump};
-ghost use Rattle.prolly_tool.specs.LookUps.{ShowsFailedRead};
-ghost use Rattle.prolly_tool.specs.Outputs.{IsPart, TookAll, TookUntil};
+ghost use Rattle.prolly_answer.specs.Dump.{IsDump, IsDumped, IsStoppedDump};
+ghost use Rattle.prolly_answer.specs.LookUps.{ShowsFailedRead};
+ghost use Rattle.prolly_answer.specs.Outputs.{IsPart, TookAll, TookUntil};
 ghost use Rattle.prolly_text.specs.RecordForms.{written_records};
 
 use crate::answers::answer::Answer;

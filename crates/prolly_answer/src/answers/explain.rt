@@ -1,7 +1,7 @@
 //! The command `explain`: where and why a record file is not good.
 ghost use Rattle.std.specs.Prelude.{◌≡◌, IfOk};
-ghost use Rattle.prolly_tool.specs.Surveys.{AnswersSurvey, AnswersUnread, ShowsExplanation};
-ghost use Rattle.prolly_tool.specs.Surveys.{ShowsFlaw, good_text};
+ghost use Rattle.prolly_answer.specs.Surveys.{AnswersSurvey, AnswersUnread, ShowsExplanation};
+ghost use Rattle.prolly_answer.specs.Surveys.{ShowsFlaw, good_text};
 
 use crate::answers::answer::Answer;
 use crate::answers::stat::{key_in, numbers_of};

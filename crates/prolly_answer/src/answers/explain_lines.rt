@@ -1,6 +1,6 @@
 //! The command `explain --lines`: where and why lines stand for no record.
-ghost use Rattle.prolly_tool.specs.ExplainedLines.{AnswersLines, ShowsCounts, limit_of};
-ghost use Rattle.prolly_tool.specs.Surveys.{AnswersUnread};
+ghost use Rattle.prolly_answer.specs.ExplainedLines.{AnswersLines, ShowsCounts, limit_of};
+ghost use Rattle.prolly_answer.specs.Surveys.{AnswersUnread};
 ghost use Rattle.std.specs.Prelude.{◌≡◌, IfOk};
 
 use crate::answers::answer::Answer;

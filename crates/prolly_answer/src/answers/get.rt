@@ -1,6 +1,6 @@
 //! What `get` answers, of a checked file and by the root.
 ghost use Rattle.prolly_text.specs.declared.notation.Notation.TheVariants.{Hex};
-ghost use Rattle.prolly_tool.specs.LookUps.{AnswersFailedRead, AnswersLookUp, ShowsGet, ShowsFound};
+ghost use Rattle.prolly_answer.specs.LookUps.{AnswersFailedRead, AnswersLookUp, ShowsGet, ShowsFound};
 ghost use Rattle.std.specs.Prelude.{IfOk};
 
 use crate::answers::answer::Answer;

@@ -3,10 +3,10 @@ ghost use Rattle.std.specs.Option.{option_copied};
 ghost use Rattle.std.specs.Prelude.{◌≡◌, ◌≢◌, ◌⊎◌, ◌++◌, true, map, IfErr, IfOk, OnErr, OnOk};
 ghost use Rattle.prolly_check.specs.Content.{Content};
 ghost use Rattle.prolly_check.specs.Verdict.{IsFileOf};
-ghost use Rattle.prolly_tool.specs.KeyLookUps.{AreFoundIn, IsGetKeys, found_at, found_line};
-ghost use Rattle.prolly_tool.specs.KeyLookUps.{found_lines};
-ghost use Rattle.prolly_tool.specs.LookUps.{ShowsFailedRead};
-ghost use Rattle.prolly_tool.specs.Outputs.{IsPart, TookAll, TookBytes, TookUntil};
+ghost use Rattle.prolly_answer.specs.KeyLookUps.{AreFoundIn, IsGetKeys, found_at, found_line};
+ghost use Rattle.prolly_answer.specs.KeyLookUps.{found_lines};
+ghost use Rattle.prolly_answer.specs.LookUps.{ShowsFailedRead};
+ghost use Rattle.prolly_answer.specs.Outputs.{IsPart, TookAll, TookBytes, TookUntil};
 
 use crate::answers::answer::Answer;
 use crate::faults::{Fault, OutputFault};

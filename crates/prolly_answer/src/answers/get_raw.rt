@@ -1,6 +1,6 @@
 //! What `get --raw` answers, of a checked file and by the root.
-ghost use Rattle.prolly_tool.specs.LookUps.{AnswersFailedRead, AnswersLookUp, ShowsFoundRaw};
-ghost use Rattle.prolly_tool.specs.LookUps.{ShowsGetRaw};
+ghost use Rattle.prolly_answer.specs.LookUps.{AnswersFailedRead, AnswersLookUp, ShowsFoundRaw};
+ghost use Rattle.prolly_answer.specs.LookUps.{ShowsGetRaw};
 ghost use Rattle.std.specs.Prelude.{IfOk};
 
 use crate::answers::answer::Answer;

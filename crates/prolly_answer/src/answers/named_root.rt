@@ -2,7 +2,7 @@
 ghost use Rattle.std.specs.Prelude.{◌≡◌, true, IfOk};
 ghost use Rattle.prolly_check.specs.Content.{Content};
 ghost use Rattle.prolly_root.specs.Walk.{HoldsFile};
-ghost use Rattle.prolly_tool.specs.NamedRoots.{IsNamedRoot, ShowsRootOf, TellsNamedRead};
+ghost use Rattle.prolly_answer.specs.NamedRoots.{IsNamedRoot, ShowsRootOf, TellsNamedRead};
 
 use crate::answers::answer::Answer;
 use crate::faults::Fault;

@@ -6,8 +6,8 @@ ghost use Rattle.prolly_check.specs.Verdict.{IsFileOf};
 ghost use Rattle.prolly_entry.specs.declared.version.Version.TheVariants.{One};
 ghost use Rattle.prolly_text.specs.declared.notation.Notation.TheVariants.{Hex};
 ghost use Rattle.prolly_tree.specs.LookUp.{nth};
-ghost use Rattle.prolly_tool.specs.LookUps.{AnswersFailedRead, AnswersLookUp, ShowsPlace};
-ghost use Rattle.prolly_tool.specs.LookUps.{ShowsFoundPair, ShowsPair};
+ghost use Rattle.prolly_answer.specs.LookUps.{AnswersFailedRead, AnswersLookUp, ShowsPlace};
+ghost use Rattle.prolly_answer.specs.LookUps.{ShowsFoundPair, ShowsPair};
 
 use crate::answers::answer::Answer;
 use crate::faults::Fault;

@@ -1,10 +1,10 @@
 //! The command `pack`: a record file out of text.
 ghost use Rattle.std.specs.Prelude.{◌≡◌, ◌≢◌, true, [], IfOk, IfErr, OnOk, IsErrOf};
-ghost use Rattle.prolly_tool.specs.Input.{IsReadWhole};
+ghost use Rattle.prolly_answer.specs.Input.{IsReadWhole};
 ghost use Rattle.prolly_text.specs.Lines.{hex_lines};
 ghost use Rattle.prolly_text.specs.PackedLines.{Packs};
-ghost use Rattle.prolly_tool.specs.Pack.{AnswersPack, IsPackingFault, LeavesPack};
-ghost use Rattle.prolly_tool.specs.Pack.{TellsPackRead};
+ghost use Rattle.prolly_answer.specs.Pack.{AnswersPack, IsPackingFault, LeavesPack};
+ghost use Rattle.prolly_answer.specs.Pack.{TellsPackRead};
 
 use crate::answers::answer::Answer;
 use crate::faults::Fault;

@@ -2,9 +2,9 @@
 ghost use Rattle.std.specs.Prelude.{◌≡◌, ◌≢◌, ◌++◌, ◌<◌, ◌^◌, ℕ, List, [], true, None, IfOk, IfErr};
 ghost use Rattle.std.specs.Prelude.{IsErrOf, OnOk};
 ghost use Rattle.prolly_sort.specs.Shelf.{CameTo, is_unique};
-ghost use Rattle.prolly_tool.specs.Answers.{ShowsFault};
-ghost use Rattle.prolly_tool.specs.SortedPack.{AreSortedSoFar, IsSortingFault, OnFalse, OnTrue};
-ghost use Rattle.prolly_tool.specs.SortedPack.{ShowsSorted, SortsTo};
+ghost use Rattle.prolly_answer.specs.Answers.{ShowsFault};
+ghost use Rattle.prolly_answer.specs.SortedPack.{AreSortedSoFar, IsSortingFault, OnFalse, OnTrue};
+ghost use Rattle.prolly_answer.specs.SortedPack.{ShowsSorted, SortsTo};
 
 use crate::answers::answer::Answer;
 use crate::faults::Fault;

@@ -3,12 +3,12 @@ ghost use Rattle.std.specs.Prelude.{◌≡◌, ◌≢◌, ◌⊎◌, true, IfErr
 ghost use Rattle.prolly_root.specs.ProofFile.{IsSomeProof};
 ghost use Rattle.prolly_root.specs.RootFault.{TellsReads};
 ghost use Rattle.prolly_root.specs.declared.root_fault.RootFault.{RootFault as RootFaultValue};
-ghost use Rattle.prolly_tool.specs.LookUps.{ShowsFailedRead};
-ghost use Rattle.prolly_tool.specs.Outputs.{TookAll, TookPart};
-ghost use Rattle.prolly_tool.specs.Proofs.{IsProve, IsProveByRoot, IsProvedOf, IsUnproved, IsVerify};
-ghost use Rattle.prolly_tool.specs.Proofs.{ProofByRoot};
-ghost use Rattle.prolly_tool.specs.RootScans.{RefusesNone};
-ghost use Rattle.prolly_tool.specs.Answers.{ShowsFault};
+ghost use Rattle.prolly_answer.specs.LookUps.{ShowsFailedRead};
+ghost use Rattle.prolly_answer.specs.Outputs.{TookAll, TookPart};
+ghost use Rattle.prolly_answer.specs.Proofs.{IsProve, IsProveByRoot, IsProvedOf, IsUnproved, IsVerify};
+ghost use Rattle.prolly_answer.specs.Proofs.{ProofByRoot};
+ghost use Rattle.prolly_answer.specs.RootScans.{RefusesNone};
+ghost use Rattle.prolly_answer.specs.Answers.{ShowsFault};
 
 use crate::answers::answer::Answer;
 use crate::faults::Fault;

@@ -3,15 +3,15 @@ ghost use Rattle.std.specs.Prelude.{◌≡◌, ◌++◌, IfOk, IfErr, OnOk, OnEr
 ghost use Rattle.prolly_root_diff.specs.Notes.{AreNoted};
 ghost use Rattle.prolly_root_diff.specs.Walks.{IsBegun, lefts_of};
 ghost use Rattle.prolly_text.specs.RecordForms.{spelled};
-ghost use Rattle.prolly_tool.specs.Diff.{AreStopped, AreWritten};
-ghost use Rattle.prolly_tool.specs.Outputs.{TookAll, TookSoFar, TookUntil};
-ghost use Rattle.prolly_tool.specs.RootDiffs.{Counts, IsDoneDiff, IsRootDiff, IsStoppedDiff};
-ghost use Rattle.prolly_tool.specs.RootDiffs.{TellsDiffReads, TellsNumbers, WroteIn, WroteOwn};
-ghost use Rattle.prolly_tool.specs.RootDiffs.{fault_of, record_of};
-ghost use Rattle.prolly_tool.specs.RootScans.{RefusesNone};
-ghost use Rattle.prolly_tool.specs.declared.faults.fault.Fault.{Fault as FaultValue};
-ghost use Rattle.prolly_tool.specs.declared.faults.fault.Fault.TheVariants.{Memory, RootNew, RootOld};
-ghost use Rattle.prolly_tool.specs.declared.faults.output_fault.OutputFault.TheVariants.{Write};
+ghost use Rattle.prolly_answer.specs.Diff.{AreStopped, AreWritten};
+ghost use Rattle.prolly_answer.specs.Outputs.{TookAll, TookSoFar, TookUntil};
+ghost use Rattle.prolly_answer.specs.RootDiffs.{Counts, IsDoneDiff, IsRootDiff, IsStoppedDiff};
+ghost use Rattle.prolly_answer.specs.RootDiffs.{TellsDiffReads, TellsNumbers, WroteIn, WroteOwn};
+ghost use Rattle.prolly_answer.specs.RootDiffs.{fault_of, record_of};
+ghost use Rattle.prolly_answer.specs.RootScans.{RefusesNone};
+ghost use Rattle.prolly_answer.specs.declared.faults.fault.Fault.{Fault as FaultValue};
+ghost use Rattle.prolly_answer.specs.declared.faults.fault.Fault.TheVariants.{Memory, RootNew, RootOld};
+ghost use Rattle.prolly_answer.specs.declared.faults.output_fault.OutputFault.TheVariants.{Write};
 
 use crate::answers::answer::Answer;
 use crate::answers::diff::{ChangeCounts, stat_line, status_of};

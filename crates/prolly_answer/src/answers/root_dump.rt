@@ -2,13 +2,13 @@
 ghost use Rattle.std.specs.Prelude.{◌≡◌, ◌↔◌, true, Err, IfErr, IfOk, IsTrue, OnErr, OnOk};
 ghost use Rattle.prolly_text.specs.RecordForms.{written_records};
 ghost use Rattle.prolly_tree.specs.Difference.{puts};
-ghost use Rattle.prolly_tool.specs.Outputs.{TookBytes, TookUntil};
-ghost use Rattle.prolly_tool.specs.RootDumps.{IsDumpedByRoot, IsRootDump, IsSettledAs, TakesAllFor};
-ghost use Rattle.prolly_tool.specs.RootDumps.{TakesFor, TellsDumpReads};
-ghost use Rattle.prolly_tool.specs.RootScans.{RefusesNone, RefusesNoneOf};
-ghost use Rattle.prolly_tool.specs.declared.faults.output_fault.OutputFault.TheVariants.{Write};
-ghost use Rattle.prolly_tool.specs.declared.faults.root_output_fault.RootOutputFault.{RootOutputFault as StopValue};
-ghost use Rattle.prolly_tool.specs.declared.faults.root_output_fault.RootOutputFault.TheVariants.{Output};
+ghost use Rattle.prolly_answer.specs.Outputs.{TookBytes, TookUntil};
+ghost use Rattle.prolly_answer.specs.RootDumps.{IsDumpedByRoot, IsRootDump, IsSettledAs, TakesAllFor};
+ghost use Rattle.prolly_answer.specs.RootDumps.{TakesFor, TellsDumpReads};
+ghost use Rattle.prolly_answer.specs.RootScans.{RefusesNone, RefusesNoneOf};
+ghost use Rattle.prolly_answer.specs.declared.faults.output_fault.OutputFault.TheVariants.{Write};
+ghost use Rattle.prolly_answer.specs.declared.faults.root_output_fault.RootOutputFault.{RootOutputFault as StopValue};
+ghost use Rattle.prolly_answer.specs.declared.faults.root_output_fault.RootOutputFault.TheVariants.{Output};
 
 use crate::answers::answer::Answer;
 use crate::answers::root_scan::key_behind;

@@ -1,9 +1,9 @@
 //! The command `get` of many keys, of a file of which only the root is believed.
 ghost use Rattle.std.specs.Prelude.{◌≡◌, true, map, Err, IfOk, OnErr};
-ghost use Rattle.prolly_tool.specs.KeyLookUps.{AreFoundByRoot};
-ghost use Rattle.prolly_tool.specs.RootDumps.{IsRootDump, TakesAllFor, TakesFor, TellsDumpReads};
-ghost use Rattle.prolly_tool.specs.RootScans.{RefusesNone, RefusesNoneOf};
-ghost use Rattle.prolly_tool.specs.declared.faults.root_output_fault.RootOutputFault.{RootOutputFault as StopValue};
+ghost use Rattle.prolly_answer.specs.KeyLookUps.{AreFoundByRoot};
+ghost use Rattle.prolly_answer.specs.RootDumps.{IsRootDump, TakesAllFor, TakesFor, TellsDumpReads};
+ghost use Rattle.prolly_answer.specs.RootScans.{RefusesNone, RefusesNoneOf};
+ghost use Rattle.prolly_answer.specs.declared.faults.root_output_fault.RootOutputFault.{RootOutputFault as StopValue};
 
 use crate::answers::answer::Answer;
 use crate::answers::get_keys::write_found;

@@ -5,12 +5,12 @@ ghost use Rattle.prolly_check.specs.ScanWay.{next_key};
 ghost use Rattle.prolly_entry.specs.Byte.{IsByte};
 ghost use Rattle.prolly_file.specs.Failures.{CountsFailure};
 ghost use Rattle.prolly_file.specs.Sink.{IsSettled};
-ghost use Rattle.prolly_tool.specs.LookUps.{pair_lines};
-ghost use Rattle.prolly_tool.specs.Outputs.{TookAll, TookBytes, TookUntil};
-ghost use Rattle.prolly_tool.specs.RootScans.{IsDoneScan, IsFlushed, IsRootScan, IsStoppedScan};
-ghost use Rattle.prolly_tool.specs.RootScans.{RefusesNone, RefusesNoneOf, TellsScanReads};
-ghost use Rattle.prolly_tool.specs.declared.faults.fault.Fault.{Fault as FaultValue};
-ghost use Rattle.prolly_tool.specs.declared.faults.fault.Fault.TheVariants.{Write};
+ghost use Rattle.prolly_answer.specs.LookUps.{pair_lines};
+ghost use Rattle.prolly_answer.specs.Outputs.{TookAll, TookBytes, TookUntil};
+ghost use Rattle.prolly_answer.specs.RootScans.{IsDoneScan, IsFlushed, IsRootScan, IsStoppedScan};
+ghost use Rattle.prolly_answer.specs.RootScans.{RefusesNone, RefusesNoneOf, TellsScanReads};
+ghost use Rattle.prolly_answer.specs.declared.faults.fault.Fault.{Fault as FaultValue};
+ghost use Rattle.prolly_answer.specs.declared.faults.fault.Fault.TheVariants.{Write};
 
 use crate::answers::answer::Answer;
 use crate::answers::scan::lines_of;

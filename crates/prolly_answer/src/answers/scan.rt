@@ -1,8 +1,8 @@
 //! The command `scan`: pairs from a key on.
 ghost use Rattle.std.specs.Prelude.{◌≡◌, ◌-◌, ◌++◌, length, take, IfOk, OnOk};
 ghost use Rattle.prolly_text.specs.declared.notation.Notation.TheVariants.{Hex};
-ghost use Rattle.prolly_tool.specs.LookUps.{AnswersFailedRead, AnswersLookUp, ShowsScan};
-ghost use Rattle.prolly_tool.specs.LookUps.{pair_lines};
+ghost use Rattle.prolly_answer.specs.LookUps.{AnswersFailedRead, AnswersLookUp, ShowsScan};
+ghost use Rattle.prolly_answer.specs.LookUps.{pair_lines};
 
 use crate::answers::answer::Answer;
 use crate::faults::Fault;

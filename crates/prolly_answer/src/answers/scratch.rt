@@ -2,11 +2,11 @@
 ghost use Rattle.std.specs.Prelude.{◌≡◌, ◌≢◌, ◌≤◌, ◌⊎◌, true, IfOk, IfErr, OnErr, OnOk, IsErrOf};
 ghost use Rattle.prolly_file.specs.Scratch.{keys_in};
 ghost use Rattle.prolly_entry.specs.Keys.{Rising};
-ghost use Rattle.prolly_tool.specs.Answers.{ShowsFault};
-ghost use Rattle.prolly_tool.specs.Outputs.{TookAll, TookPart, IfSink, OfSink, IsAnswer};
-ghost use Rattle.prolly_tool.specs.Outputs.{IsCutShort};
-ghost use Rattle.prolly_tool.specs.Scratch.{HoldsPairs, MakesFile, Scratches, IsRecordsFault};
-ghost use Rattle.prolly_tool.specs.Scratch.{IsScratchRefusal, run_fault};
+ghost use Rattle.prolly_answer.specs.Answers.{ShowsFault};
+ghost use Rattle.prolly_answer.specs.Outputs.{TookAll, TookPart, IfSink, OfSink, IsAnswer};
+ghost use Rattle.prolly_answer.specs.Outputs.{IsCutShort};
+ghost use Rattle.prolly_answer.specs.Scratch.{HoldsPairs, MakesFile, Scratches, IsRecordsFault};
+ghost use Rattle.prolly_answer.specs.Scratch.{IsScratchRefusal, run_fault};
 
 use crate::answers::answer::Answer;
 use crate::faults::Fault;

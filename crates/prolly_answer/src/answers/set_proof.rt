@@ -2,9 +2,9 @@
 ghost use Rattle.std.specs.Prelude.{◌≡◌, ◌≢◌, ◌⊎◌, true, IfOk, OnErr};
 ghost use Rattle.prolly_range.specs.KeySet.{set_of};
 ghost use Rattle.prolly_range.specs.declared.prove_fault.ProveFault.{ProveFault as ProveFaultValue};
-ghost use Rattle.prolly_tool.specs.LookUps.{ShowsFailedRead};
-ghost use Rattle.prolly_tool.specs.SetProofs.{IsProveSet, IsProveSetByRoot, IsStoppedByRoot};
-ghost use Rattle.prolly_tool.specs.SetProofs.{IsStoppedProof, RefusesNoProof};
+ghost use Rattle.prolly_answer.specs.LookUps.{ShowsFailedRead};
+ghost use Rattle.prolly_answer.specs.SetProofs.{IsProveSet, IsProveSetByRoot, IsStoppedByRoot};
+ghost use Rattle.prolly_answer.specs.SetProofs.{IsStoppedProof, RefusesNoProof};
 
 use crate::answers::answer::Answer;
 use crate::faults::Fault;

@@ -1,12 +1,12 @@
 //! What `verify` answers of a set of keys.
 ghost use Rattle.std.specs.Prelude.{◌≡◌, ◌≢◌, true, map, Err, IfErr, IfOk, OnErr, OnOk};
 ghost use Rattle.prolly_range.specs.KeySet.{set_of};
-ghost use Rattle.prolly_tool.specs.Outputs.{TookAll, TookBytes, TookUntil};
-ghost use Rattle.prolly_tool.specs.SetLines.{FitsLeft, RisesIn, alone_lines, left_at_first};
-ghost use Rattle.prolly_tool.specs.SetLines.{left_behind, more_lines};
-ghost use Rattle.prolly_tool.specs.SetProofs.{IsStoppedSet, IsVerifiedSet, IsVerifySet};
-ghost use Rattle.prolly_tool.specs.SetProofs.{TellsProofReads};
-ghost use Rattle.prolly_tool.specs.declared.faults.fault.Fault.{Fault as FaultValue};
+ghost use Rattle.prolly_answer.specs.Outputs.{TookAll, TookBytes, TookUntil};
+ghost use Rattle.prolly_answer.specs.SetLines.{FitsLeft, RisesIn, alone_lines, left_at_first};
+ghost use Rattle.prolly_answer.specs.SetLines.{left_behind, more_lines};
+ghost use Rattle.prolly_answer.specs.SetProofs.{IsStoppedSet, IsVerifiedSet, IsVerifySet};
+ghost use Rattle.prolly_answer.specs.SetProofs.{TellsProofReads};
+ghost use Rattle.prolly_answer.specs.declared.faults.fault.Fault.{Fault as FaultValue};
 
 use crate::answers::answer::Answer;
 use crate::answers::root_scan::{fault_flushed, flush};

@@ -4,10 +4,10 @@ ghost use Rattle.prolly_entry.specs.Keys.{Rising};
 ghost use Rattle.prolly_range.specs.Found.{AreSomeOf};
 ghost use Rattle.prolly_range.specs.KeySet.{set_of};
 ghost use Rattle.prolly_range.specs.SortedKeys.{is_one_of, keys_above, keys_up_to};
-ghost use Rattle.prolly_tool.specs.KeyLookUps.{found_at, found_lines};
-ghost use Rattle.prolly_tool.specs.LookUps.{pair_lines};
-ghost use Rattle.prolly_tool.specs.SetLines.{FitsLeft, alone_lines, keys_left, keys_past};
-ghost use Rattle.prolly_tool.specs.SetLines.{left_behind, more_lines};
+ghost use Rattle.prolly_answer.specs.KeyLookUps.{found_at, found_lines};
+ghost use Rattle.prolly_answer.specs.LookUps.{pair_lines};
+ghost use Rattle.prolly_answer.specs.SetLines.{FitsLeft, alone_lines, keys_left, keys_past};
+ghost use Rattle.prolly_answer.specs.SetLines.{left_behind, more_lines};
 
 use crate::answers::get_keys::append_found;
 use crate::lines::append_pair_text;

@@ -1,12 +1,12 @@
 //! What `stat` answers.
-ghost use Rattle.prolly_tool.specs.Stat.{AnswersBadRead, AnswersOf, AnswersStat, ShowsTree};
-ghost use Rattle.prolly_tool.specs.Stat.{tree_text, ShowsRecords, ShowsSurvey, records_text};
+ghost use Rattle.prolly_answer.specs.Stat.{AnswersBadRead, AnswersOf, AnswersStat, ShowsTree};
+ghost use Rattle.prolly_answer.specs.Stat.{tree_text, ShowsRecords, ShowsSurvey, records_text};
 ghost use Rattle.std.specs.Prelude.{◌≡◌, ◌++◌, IfOk, OnOk};
 ghost use Rattle.prolly_check.specs.Content.{Content};
 ghost use Rattle.prolly_check.specs.Verdict.{IsFileOf};
 ghost use Rattle.std.specs.Option.{option_copied};
 ghost use Rattle.prolly_load.specs.Survey.{key_bytes};
-ghost use Rattle.prolly_tool.specs.Surveys.{AreOfSurvey};
+ghost use Rattle.prolly_answer.specs.Surveys.{AreOfSurvey};
 
 use crate::answers::answer::Answer;
 use crate::faults::Fault;

@@ -1,8 +1,8 @@
 //! The faults of commands, each with its line and its status.
 ghost use Rattle.std.specs.Prelude.{◌≡◌, Some};
-ghost use Rattle.prolly_tool.specs.Faults.{fault_text, check_status, root_status, run_status};
-ghost use Rattle.prolly_tool.specs.Faults.{fault_status, root_side_text, side_fault_text};
-ghost use Rattle.prolly_tool.specs.Faults.{store_status, stream_status};
+ghost use Rattle.prolly_answer.specs.Faults.{fault_text, check_status, root_status, run_status};
+ghost use Rattle.prolly_answer.specs.Faults.{fault_status, root_side_text, side_fault_text};
+ghost use Rattle.prolly_answer.specs.Faults.{store_status, stream_status};
 
 use prolly_check::{CheckFault, StreamFault};
 use prolly_file::SinkFault;
@@ -113,7 +113,7 @@ impl Fault {
 }
 
 impl From<AllocError> for Fault {
-    ghost use Rattle.prolly_tool.specs.declared.faults.fault.Fault.TheVariants.{Memory};
+    ghost use Rattle.prolly_answer.specs.declared.faults.fault.Fault.TheVariants.{Memory};
 
     ghost from_gives = { λ _ fault. fault ≡ Memory };
 
@@ -123,7 +123,7 @@ impl From<AllocError> for Fault {
 }
 
 impl From<SinkFault> for Fault {
-    ghost use Rattle.prolly_tool.specs.declared.faults.fault.Fault.TheVariants.{Write};
+    ghost use Rattle.prolly_answer.specs.declared.faults.fault.Fault.TheVariants.{Write};
 
     ghost from_gives = { λ _ fault. fault ≡ Write };
 
@@ -133,7 +133,7 @@ impl From<SinkFault> for Fault {
 }
 
 impl From<RunFault> for Fault {
-    ghost use Rattle.prolly_tool.specs.declared.faults.fault.Fault.TheVariants.{Run};
+    ghost use Rattle.prolly_answer.specs.declared.faults.fault.Fault.TheVariants.{Run};
 
     ghost from_gives = { λ run fault. fault ≡ Run run };
 
@@ -143,7 +143,7 @@ impl From<RunFault> for Fault {
 }
 
 impl From<LinesFault> for Fault {
-    ghost use Rattle.prolly_tool.specs.declared.faults.fault.Fault.TheVariants.{Pack};
+    ghost use Rattle.prolly_answer.specs.declared.faults.fault.Fault.TheVariants.{Pack};
 
     ghost from_gives = { λ pack fault. fault ≡ Pack pack };
 
@@ -153,7 +153,7 @@ impl From<LinesFault> for Fault {
 }
 
 impl From<ReadLinesFault> for Fault {
-    ghost use Rattle.prolly_tool.specs.Faults.{of_read_lines};
+    ghost use Rattle.prolly_answer.specs.Faults.{of_read_lines};
 
     ghost from_gives = { λ lines fault. fault ≡ of_read_lines lines };
 
@@ -168,7 +168,7 @@ impl From<ReadLinesFault> for Fault {
 }
 
 impl From<SorterFault> for Fault {
-    ghost use Rattle.prolly_tool.specs.Faults.{of_sorter};
+    ghost use Rattle.prolly_answer.specs.Faults.{of_sorter};
 
     ghost from_gives = { λ sorter fault. fault ≡ of_sorter sorter };
 
@@ -181,7 +181,7 @@ impl From<SorterFault> for Fault {
 }
 
 impl From<KeysFault> for Fault {
-    ghost use Rattle.prolly_tool.specs.declared.faults.fault.Fault.TheVariants.{Keys};
+    ghost use Rattle.prolly_answer.specs.declared.faults.fault.Fault.TheVariants.{Keys};
 
     ghost from_gives = { λ keys fault. fault ≡ Keys keys };
 

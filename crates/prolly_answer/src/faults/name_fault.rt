@@ -1,6 +1,6 @@
 //! The faults of files that the words name.
 ghost use Rattle.std.specs.Prelude.{◌≡◌};
-ghost use Rattle.prolly_tool.specs.Names.{name_fault_text};
+ghost use Rattle.prolly_answer.specs.Names.{name_fault_text};
 
 /// What is wrong with a file that the words name. Its text is the start of a line that ends with
 /// the name; the status is that of a device's fault.

@@ -15,7 +15,7 @@ pub enum OutputFault {
 }
 
 impl From<AllocError> for OutputFault {
-    ghost use Rattle.prolly_tool.specs.declared.faults.output_fault.OutputFault.TheVariants.{Memory};
+    ghost use Rattle.prolly_answer.specs.declared.faults.output_fault.OutputFault.TheVariants.{Memory};
 
     ghost from_gives = { λ _ fault. fault ≡ Memory };
 
@@ -25,7 +25,7 @@ impl From<AllocError> for OutputFault {
 }
 
 impl From<SinkFault> for OutputFault {
-    ghost use Rattle.prolly_tool.specs.declared.faults.output_fault.OutputFault.TheVariants.{Write};
+    ghost use Rattle.prolly_answer.specs.declared.faults.output_fault.OutputFault.TheVariants.{Write};
 
     ghost from_gives = { λ _ fault. fault ≡ Write };
 
@@ -35,7 +35,7 @@ impl From<SinkFault> for OutputFault {
 }
 
 impl From<WriteFault> for OutputFault {
-    ghost use Rattle.prolly_tool.specs.declared.faults.output_fault.OutputFault.TheVariants.{Write};
+    ghost use Rattle.prolly_answer.specs.declared.faults.output_fault.OutputFault.TheVariants.{Write};
 
     ghost from_gives = { λ _ fault. fault ≡ Write };
 
@@ -45,7 +45,7 @@ impl From<WriteFault> for OutputFault {
 }
 
 impl From<OutputFault> for Fault {
-    ghost use Rattle.prolly_tool.specs.OutputFault.{told};
+    ghost use Rattle.prolly_answer.specs.OutputFault.{told};
 
     ghost from_gives = { λ output fault. fault ≡ told output };
 

@@ -17,7 +17,7 @@ pub enum RootOutputFault {
 }
 
 impl From<RootFault> for RootOutputFault {
-    ghost use Rattle.prolly_tool.specs.declared.faults.root_output_fault.RootOutputFault.TheVariants.{Root};
+    ghost use Rattle.prolly_answer.specs.declared.faults.root_output_fault.RootOutputFault.TheVariants.{Root};
 
     ghost from_gives = { λ root fault. fault ≡ Root root };
 
@@ -27,7 +27,7 @@ impl From<RootFault> for RootOutputFault {
 }
 
 impl From<OutputFault> for RootOutputFault {
-    ghost use Rattle.prolly_tool.specs.declared.faults.root_output_fault.RootOutputFault.TheVariants.{Output};
+    ghost use Rattle.prolly_answer.specs.declared.faults.root_output_fault.RootOutputFault.TheVariants.{Output};
 
     ghost from_gives = { λ output fault. fault ≡ Output output };
 
@@ -37,8 +37,8 @@ impl From<OutputFault> for RootOutputFault {
 }
 
 impl From<AllocError> for RootOutputFault {
-    ghost use Rattle.prolly_tool.specs.declared.faults.output_fault.OutputFault.TheVariants.{Memory};
-    ghost use Rattle.prolly_tool.specs.declared.faults.root_output_fault.RootOutputFault.TheVariants.{Output};
+    ghost use Rattle.prolly_answer.specs.declared.faults.output_fault.OutputFault.TheVariants.{Memory};
+    ghost use Rattle.prolly_answer.specs.declared.faults.root_output_fault.RootOutputFault.TheVariants.{Output};
 
     ghost from_gives = { λ _ fault. fault ≡ Output Memory };
 
@@ -48,8 +48,8 @@ impl From<AllocError> for RootOutputFault {
 }
 
 impl From<SinkFault> for RootOutputFault {
-    ghost use Rattle.prolly_tool.specs.declared.faults.output_fault.OutputFault.TheVariants.{Write};
-    ghost use Rattle.prolly_tool.specs.declared.faults.root_output_fault.RootOutputFault.TheVariants.{Output};
+    ghost use Rattle.prolly_answer.specs.declared.faults.output_fault.OutputFault.TheVariants.{Write};
+    ghost use Rattle.prolly_answer.specs.declared.faults.root_output_fault.RootOutputFault.TheVariants.{Output};
 
     ghost from_gives = { λ _ fault. fault ≡ Output Write };
 
@@ -59,7 +59,7 @@ impl From<SinkFault> for RootOutputFault {
 }
 
 impl From<RootOutputFault> for Fault {
-    ghost use Rattle.prolly_tool.specs.OutputFault.{told_stop};
+    ghost use Rattle.prolly_answer.specs.OutputFault.{told_stop};
 
     ghost from_gives = { λ stop fault. fault ≡ told_stop stop };
 

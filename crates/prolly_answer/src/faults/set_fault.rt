@@ -7,7 +7,7 @@ use prolly_root::ProofFault;
 use prolly_text::KeysFault;
 
 impl From<SetFault> for Fault {
-    ghost use Rattle.prolly_tool.specs.SetProofs.{told_set};
+    ghost use Rattle.prolly_answer.specs.SetProofs.{told_set};
 
     ghost from_gives = { λ set fault. fault ≡ told_set set };
 
@@ -23,7 +23,7 @@ impl From<SetFault> for Fault {
 }
 
 impl From<ProveFault> for Fault {
-    ghost use Rattle.prolly_tool.specs.SetProofs.{told_prove};
+    ghost use Rattle.prolly_answer.specs.SetProofs.{told_prove};
 
     ghost from_gives = { λ prove fault. fault ≡ told_prove prove };
 
@@ -37,7 +37,7 @@ impl From<ProveFault> for Fault {
 
 impl From<NotRising> for Fault {
     ghost use Rattle.prolly_text.specs.declared.lines.keys.KeysFault.TheVariants.{NotRising as Falls};
-    ghost use Rattle.prolly_tool.specs.declared.faults.fault.Fault.TheVariants.{Keys};
+    ghost use Rattle.prolly_answer.specs.declared.faults.fault.Fault.TheVariants.{Keys};
 
     ghost from_gives = { λ falls fault. fault ≡ Keys (Falls falls.place) };
 

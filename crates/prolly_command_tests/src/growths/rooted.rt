@@ -3,15 +3,15 @@ use super::differences::RECORDS;
 use super::{FILE_OF_ONE, PROOF, RECORD, expect_begun, expect_shown, expect_written};
 use crate::expect::expect_bytes;
 use crate::tools::look_up_answers::file_of_three;
-use prolly_check::OneThread;
-use prolly_entry::{Pair, Ref, Version};
-use prolly_file::{FromRead, ScriptDevice, ScriptSink};
-use prolly_root::{FileChunks, Reader, RootFault};
-use prolly_tool::{
+use prolly_answer::{
     Notation, RecordForm, RootDiff, RootScan, answer_check_by_root, answer_diff_by_root,
     answer_dump_by_root, answer_found, answer_found_pair, answer_prove_by_root, answer_root,
     answer_scan_by_root,
 };
+use prolly_check::OneThread;
+use prolly_entry::{Pair, Ref, Version};
+use prolly_file::{FromRead, ScriptDevice, ScriptSink};
+use prolly_root::{FileChunks, Reader, RootFault};
 use std::alloc::{AllocError, Global};
 use std::test::Fail;
 

@@ -2,11 +2,11 @@
 use super::expect_answer;
 use super::look_up_answers::file_of_three;
 use crate::expect::{expect_bytes, expect_eq};
+use prolly_answer::{Answer, Notation, RecordForm, RootDiff, answer_diff, answer_diff_by_root};
 use prolly_check::OneThread;
 use prolly_entry::{Pair, Ref, Sha512Cut, Version};
 use prolly_file::{FromRead, ScriptDevice, ScriptSink, scratch_as};
 use prolly_root::FileChunks;
-use prolly_tool::{Answer, Notation, RecordForm, RootDiff, answer_diff, answer_diff_by_root};
 use std::alloc::Global;
 use std::process::Abort;
 use std::test::Fail;

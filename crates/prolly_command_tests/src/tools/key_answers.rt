@@ -2,16 +2,16 @@
 use super::expect_answer;
 use super::look_up_answers::file_of_three;
 use crate::expect::{expect_bytes, expect_eq};
+use prolly_answer::{
+    Answer, Fault, KeysFault, Notation, answer_get_keys, answer_get_keys_by_root,
+    answer_prove_set_by_root, answer_verify_set, keys_of_lines, read_keys,
+};
 use prolly_check::OneThread;
 use prolly_entry::{Ref, Sha512Cut, Version};
 use prolly_file::{FromRead, ScriptDevice, ScriptSink, ScriptSource, scratch_as};
 use prolly_range::{KeySet, SortedKeys};
 use prolly_root::FileChunks;
 use prolly_test_parts::pairs_of;
-use prolly_tool::{
-    Answer, Fault, KeysFault, Notation, answer_get_keys, answer_get_keys_by_root,
-    answer_prove_set_by_root, answer_verify_set, keys_of_lines, read_keys,
-};
 use std::alloc::{AllocError, Global};
 use std::process::Abort;
 use std::test::Fail;

@@ -1,13 +1,13 @@
 //! What `get`, `scan`, `nth` and `check` answer.
 use super::expect_answer;
+use prolly_answer::{
+    Notation, answer_check, answer_get, answer_get_in, answer_nth, answer_nth_in, answer_scan,
+    answer_scan_in,
+};
 use prolly_check::OneThread;
 use prolly_entry::{Sha512Cut, Version};
 use prolly_file::{FromRead, scratch_as};
 use prolly_test_parts::pairs_of;
-use prolly_tool::{
-    Notation, answer_check, answer_get, answer_get_in, answer_nth, answer_nth_in, answer_scan,
-    answer_scan_in,
-};
 use std::alloc::Global;
 use std::process::Abort;
 use std::test::Fail;

@@ -1,6 +1,6 @@
 //! What is told of an output that holds something else.
 use super::expect_answer;
-use prolly_tool::{Answer, NameFault};
+use prolly_answer::{Answer, NameFault};
 use std::test::Fail;
 
 /// What is wrong with the output, and the line that tells it.

@@ -1,11 +1,11 @@
 //! What `prove` and `verify` answer.
 use super::expect_answer;
 use crate::expect::expect_bytes;
+use prolly_answer::{Notation, answer_prove, answer_verify};
 use prolly_check::OneThread;
 use prolly_entry::{Ref, Version};
 use prolly_file::{FromRead, ScriptSink};
 use prolly_test_parts::{chunk_file, joined};
-use prolly_tool::{Notation, answer_prove, answer_verify};
 use std::alloc::Global;
 use std::process::Abort;
 use std::test::Fail;

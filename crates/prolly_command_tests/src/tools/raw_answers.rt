@@ -2,12 +2,12 @@
 use super::expect_answer;
 use super::look_up_answers::file_of_three;
 use crate::expect::{expect_bytes, expect_eq};
+use prolly_answer::{
+    Answer, Fault, Sample, answer_check, answer_found_raw, answer_get_raw, bits_note,
+};
 use prolly_check::OneThread;
 use prolly_entry::Version;
 use prolly_file::FromRead;
-use prolly_tool::{
-    Answer, Fault, Sample, answer_check, answer_found_raw, answer_get_raw, bits_note,
-};
 use std::test::Fail;
 
 /// Keys, the status, and the value.

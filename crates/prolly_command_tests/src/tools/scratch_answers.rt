@@ -1,9 +1,9 @@
 //! What `scratch` answers.
 use super::expect_answer;
 use crate::expect::expect_bytes;
+use prolly_answer::answer_scratch;
 use prolly_entry::Version;
 use prolly_file::{ScriptSink, ScriptSource};
-use prolly_tool::answer_scratch;
 use std::alloc::Global;
 use std::process::Abort;
 use std::test::Fail;

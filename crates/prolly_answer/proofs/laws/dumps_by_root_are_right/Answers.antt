@@ -2,9 +2,9 @@ use Rattle.std.proofs.Common.{[], ◌⊎◌, inl, inr, sym, ◌∙◌}
 use Rattle.prolly_check.specs.FirstFault.{chunk_bytes}
 use Rattle.prolly_check.specs.ScanWay.{HaveFirstFrom, joined}
 use Rattle.prolly_check.specs.Way.{Clash}
-use Rattle.prolly_tool.specs.RootDumps.{HaveFirst}
-use Rattle.prolly_tool.proofs.RootDumpSteps.{from_least}
-use Rattle.prolly_tool.proofs.laws.dumps_by_root_are_right.Goals as goal
+use Rattle.prolly_answer.specs.RootDumps.{HaveFirst}
+use Rattle.prolly_answer.proofs.RootDumpSteps.{from_least}
+use Rattle.prolly_answer.proofs.laws.dumps_by_root_are_right.Goals as goal
 
 pub returns : goal.returns
 returns c version bits m lists ways rising lawful scanned =

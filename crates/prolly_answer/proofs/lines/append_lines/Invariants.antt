@@ -1,6 +1,6 @@
 use Rattle.std.proofs.Common.{◌≡◌, ◌++◌, length}
-use Rattle.prolly_tool.proofs.DumpSteps.{lines_file}
-use Rattle.prolly_tool.proofs.lines.append_lines.Given as goal
+use Rattle.prolly_answer.proofs.DumpSteps.{lines_file}
+use Rattle.prolly_answer.proofs.lines.append_lines.Given as goal
 
 abbrev pub invariant-loop-key : goal.invariant-loop-key
 invariant-loop-key l = l.lines.items ++ lines_file l.notation l.pairs ≡

@@ -1,7 +1,7 @@
 use Rattle.std.proofs.lemmas.Result.{err_from_is_err_and}
-use Rattle.prolly_tool.proofs.DumpSteps.{leaf_failed, leaf_stopped, none_listed, one_listed}
-use Rattle.prolly_tool.proofs.Writing.{own_writes}
-use Rattle.prolly_tool.proofs.lines.write_lines.Goals as goal
+use Rattle.prolly_answer.proofs.DumpSteps.{leaf_failed, leaf_stopped, none_listed, one_listed}
+use Rattle.prolly_answer.proofs.Writing.{own_writes}
+use Rattle.prolly_answer.proofs.lines.write_lines.Goals as goal
 
 pub loop-leaf-preserved : goal.loop-leaf-preserved
 loop-leaf-preserved g c = one_listed g.W.Sink.seen c.args.notation _ _ c.args.sink.now

@@ -1,7 +1,7 @@
 use Rattle.std.proofs.Common.{◌-◌, inl, inr, ap, refl, subst, Ok, Err}
 use Rattle.prolly_build.specs.End.{IsFinished}
 use Rattle.prolly_build.specs.RunResult.{IsHaltFault}
-use Rattle.prolly_build.specs.declared.apply.ApplyFault.TheVariants.{Run}
+use Rattle.prolly_report.specs.declared.apply_fault.ApplyFault.TheVariants.{Run}
 use Rattle.prolly_build.proofs.RanSteps.{written_begun}
 use Rattle.prolly_build.proofs.apply.end_old.Goals as goal
 

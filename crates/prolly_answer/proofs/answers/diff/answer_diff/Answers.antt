@@ -1,11 +1,11 @@
 use Rattle.std.proofs.Common.{◌≡◌, inl, inr, refl}
 use Rattle.std.proofs.lemmas.Result.{IfOk-weaker}
-use Rattle.prolly_tool.specs.Diff.{AreStopped, AreWritten}
-use Rattle.prolly_tool.specs.Outputs.{TookAll, TookUntil}
-use Rattle.prolly_tool.specs.declared.faults.fault.Fault.TheVariants.{CheckOld, CheckNew}
-use Rattle.prolly_tool.proofs.Answering.{cut_off, failed_read, looked_up, no_file, stopped}
-use Rattle.prolly_tool.proofs.DiffSteps.{all_shown, changes_so, few_changes, unshown}
-use Rattle.prolly_tool.proofs.answers.diff.answer_diff.Goals as goal
+use Rattle.prolly_answer.specs.Diff.{AreStopped, AreWritten}
+use Rattle.prolly_answer.specs.Outputs.{TookAll, TookUntil}
+use Rattle.prolly_answer.specs.declared.faults.fault.Fault.TheVariants.{CheckOld, CheckNew}
+use Rattle.prolly_answer.proofs.Answering.{cut_off, failed_read, looked_up, no_file, stopped}
+use Rattle.prolly_answer.proofs.DiffSteps.{all_shown, changes_so, few_changes, unshown}
+use Rattle.prolly_answer.proofs.answers.diff.answer_diff.Goals as goal
 
 pub write_changes-requires-clause-few : goal.write_changes-requires-clause-few
 write_changes-requires-clause-few g c = few_changes _ _ _ _ _ _ c.new-changes.result refl refl

@@ -1,6 +1,6 @@
 use Rattle.std.proofs.Common.{ap, ◌∙◌}
-use Rattle.prolly_tool.specs.Diff.{status_of}
-use Rattle.prolly_tool.proofs.answers.diff.answer_of.Goals as goal
+use Rattle.prolly_answer.specs.Diff.{status_of}
+use Rattle.prolly_answer.proofs.answers.diff.answer_of.Goals as goal
 
 pub returns : goal.returns
 returns c = λ old new records is is' counted. record {

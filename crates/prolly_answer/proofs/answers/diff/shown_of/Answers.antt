@@ -1,5 +1,5 @@
-use Rattle.prolly_tool.proofs.Counting.{line_shown}
-use Rattle.prolly_tool.proofs.answers.diff.shown_of.Goals as goal
+use Rattle.prolly_answer.proofs.Counting.{line_shown}
+use Rattle.prolly_answer.proofs.answers.diff.shown_of.Goals as goal
 
 pub returns : goal.returns
 returns c = line_shown c.stat_line.result (λ out. out.items) c.args.counts.now

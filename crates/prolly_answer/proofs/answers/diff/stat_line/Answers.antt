@@ -1,5 +1,5 @@
-use Rattle.prolly_tool.proofs.Counting.{line_made}
-use Rattle.prolly_tool.proofs.answers.diff.stat_line.Goals as goal
+use Rattle.prolly_answer.proofs.Counting.{line_made}
+use Rattle.prolly_answer.proofs.answers.diff.stat_line.Goals as goal
 
 pub returns : goal.returns
 returns c = line_made _ _ _ _ _ _ _ _ _ _ _ _ c.new-line.ensures.items

@@ -1,10 +1,10 @@
 use Rattle.std.proofs.Common.{refl}
 use Rattle.std.proofs.lemmas.Result.{err_from_is_err_and}
-use Rattle.prolly_tool.proofs.DiffSteps.{none_written}
-use Rattle.prolly_tool.proofs.DiffSteps.{change_lawful, room_for_one, one_written, stopped_short}
-use Rattle.prolly_tool.proofs.DiffSteps.{write_failed, only_counted, all_written, flush_failed}
-use Rattle.prolly_tool.proofs.Writing.{own_writes, own_nothing}
-use Rattle.prolly_tool.proofs.answers.diff.write_changes.Goals as goal
+use Rattle.prolly_answer.proofs.DiffSteps.{none_written}
+use Rattle.prolly_answer.proofs.DiffSteps.{change_lawful, room_for_one, one_written, stopped_short}
+use Rattle.prolly_answer.proofs.DiffSteps.{write_failed, only_counted, all_written, flush_failed}
+use Rattle.prolly_answer.proofs.Writing.{own_writes, own_nothing}
+use Rattle.prolly_answer.proofs.answers.diff.write_changes.Goals as goal
 
 pub count-requires : goal.count-requires
 count-requires g c = room_for_one g.W.Sink.seen _ _ _ _ _ _ _ _ c.in-Some.ensures

@@ -1,10 +1,10 @@
 use Rattle.std.proofs.Common.{inl, inr, refl}
 use Rattle.std.proofs.lemmas.Result.{IfOk-weaker}
-use Rattle.prolly_tool.specs.Dump.{IsDumped, IsStoppedDump}
-use Rattle.prolly_tool.specs.Outputs.{TookUntil}
-use Rattle.prolly_tool.specs.declared.faults.fault.Fault.TheVariants.{Check}
-use Rattle.prolly_tool.proofs.Answering.{cut_off, failed_read, looked_up, no_file, stopped}
-use Rattle.prolly_tool.proofs.answers.dump.answer_dump.Goals as goal
+use Rattle.prolly_answer.specs.Dump.{IsDumped, IsStoppedDump}
+use Rattle.prolly_answer.specs.Outputs.{TookUntil}
+use Rattle.prolly_answer.specs.declared.faults.fault.Fault.TheVariants.{Check}
+use Rattle.prolly_answer.proofs.Answering.{cut_off, failed_read, looked_up, no_file, stopped}
+use Rattle.prolly_answer.proofs.answers.dump.answer_dump.Goals as goal
 
 pub returns-in-Err-clause-ok : goal.returns-in-Err-clause-ok
 returns-in-Err-clause-ok g c = λ honest. IfOk-weaker c.of_fault.result _ _

@@ -1,5 +1,5 @@
-use Rattle.prolly_tool.proofs.DumpSteps.{file_dumped, file_stopped}
-use Rattle.prolly_tool.proofs.answers.dump.write_pairs.Goals as goal
+use Rattle.prolly_answer.proofs.DumpSteps.{file_dumped, file_stopped}
+use Rattle.prolly_answer.proofs.answers.dump.write_pairs.Goals as goal
 
 pub returns-in-Ok-clause-ok : goal.returns-in-Ok-clause-ok
 returns-in-Ok-clause-ok g c = λ content is. file_dumped g.W.Sink.seen c.args.form c.in-Records.is

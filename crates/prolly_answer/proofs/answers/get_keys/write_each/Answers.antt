@@ -2,8 +2,8 @@ use Rattle.std.proofs.Common.{◌∙◌, ap, arith, sym}
 use Rattle.std.proofs.lemmas.Result.{err_from_is_err_and}
 use Rattle.std.specs.Option.{option_copied}
 use Rattle.prolly_tree.specs.LookUp.{find}
-use Rattle.prolly_tool.proofs.KeySteps.{key_cut_off}
-use Rattle.prolly_tool.proofs.answers.get_keys.write_each.Goals as goal
+use Rattle.prolly_answer.proofs.KeySteps.{key_cut_off}
+use Rattle.prolly_answer.proofs.answers.get_keys.write_each.Goals as goal
 
 pub returns-in_err-write_found-clause-err : goal.returns-in_err-write_found-clause-err
 returns-in_err-write_found-clause-err g c = λ content is.

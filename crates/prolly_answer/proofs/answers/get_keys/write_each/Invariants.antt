@@ -1,9 +1,9 @@
 use Rattle.std.proofs.Common.{map, take}
 use Rattle.prolly_check.specs.Content.{Content}
 use Rattle.prolly_check.specs.Verdict.{IsFileOf}
-use Rattle.prolly_tool.specs.KeyLookUps.{found_at}
-use Rattle.prolly_tool.proofs.KeySteps.{HasWritten}
-use Rattle.prolly_tool.proofs.answers.get_keys.write_each.Given as goal
+use Rattle.prolly_answer.specs.KeyLookUps.{found_at}
+use Rattle.prolly_answer.proofs.KeySteps.{HasWritten}
+use Rattle.prolly_answer.proofs.answers.get_keys.write_each.Given as goal
 
 abbrev pub invariant-loop-key : goal.invariant-loop-key
 invariant-loop-key g l = (content : Content) → IsFileOf l.tree content →

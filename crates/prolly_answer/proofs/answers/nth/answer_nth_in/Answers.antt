@@ -1,7 +1,7 @@
 use Rattle.std.proofs.Common.{inl}
 use Rattle.std.proofs.lemmas.Result.{IfOk-weaker}
-use Rattle.prolly_tool.proofs.Answering.{looked_up}
-use Rattle.prolly_tool.proofs.answers.nth.answer_nth_in.Goals as goal
+use Rattle.prolly_answer.proofs.Answering.{looked_up}
+use Rattle.prolly_answer.proofs.answers.nth.answer_nth_in.Goals as goal
 
 pub returns-clause-shown : goal.returns-clause-shown
 returns-clause-shown g c = λ honest. IfOk-weaker c.nth_shown.result _ _

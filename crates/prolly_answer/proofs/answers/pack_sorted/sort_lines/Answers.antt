@@ -3,8 +3,8 @@ use Rattle.std.proofs.lemmas.Result.{err_from_is_err_and}
 use Rattle.prolly_text.specs.RecordLines.{HaveComeOf}
 use Rattle.prolly_text.specs.lemmas.RecordLines.{all_have_come}
 use Rattle.prolly_sort.specs.Shelf.{is_unique}
-use Rattle.prolly_tool.proofs.Sorting.{fault_of_sorter}
-use Rattle.prolly_tool.proofs.answers.pack_sorted.sort_lines.Goals as goal
+use Rattle.prolly_answer.proofs.Sorting.{fault_of_sorter}
+use Rattle.prolly_answer.proofs.answers.pack_sorted.sort_lines.Goals as goal
 
 pub returns-in_err-take_line-clause-fault : goal.returns-in_err-take_line-clause-fault
 returns-in_err-take_line-clause-fault g c = λ honest keeps.

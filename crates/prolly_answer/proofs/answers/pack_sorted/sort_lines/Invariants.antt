@@ -1,7 +1,7 @@
 use Rattle.std.proofs.Common.{◌≡◌, ◌-◌, ◌^◌, true}
 use Rattle.prolly_sort.specs.Shelf.{is_unique}
-use Rattle.prolly_tool.specs.SortedPack.{AreSortedSoFar}
-use Rattle.prolly_tool.proofs.answers.pack_sorted.sort_lines.Given as goal
+use Rattle.prolly_answer.specs.SortedPack.{AreSortedSoFar}
+use Rattle.prolly_answer.proofs.answers.pack_sorted.sort_lines.Given as goal
 
 abbrev pub invariant-loop-lines : goal.invariant-loop-lines
 invariant-loop-lines g l = record {

@@ -4,8 +4,8 @@ use Rattle.prolly_text.specs.declared.lines.reader.ReadLinesFault.{ReadLinesFaul
 use Rattle.prolly_text.specs.RecordLines.{HaveComeOf}
 use Rattle.prolly_text.specs.lemmas.RecordLines.{one_more_has_come}
 use Rattle.prolly_sort.specs.Shelf.{is_unique}
-use Rattle.prolly_tool.proofs.Sorting.{fault_of_sorter, fault_of_text}
-use Rattle.prolly_tool.proofs.answers.pack_sorted.take_line.Goals as goal
+use Rattle.prolly_answer.proofs.Sorting.{fault_of_sorter, fault_of_text}
+use Rattle.prolly_answer.proofs.answers.pack_sorted.take_line.Goals as goal
 
 same_fault : {T : Type 0} (r : Result T ReadLinesFault) (f e : ReadLinesFault) → r ≡ Err f →
     IsErrOf r e → f ≡ e

@@ -1,8 +1,8 @@
 use Rattle.std.proofs.Common.{ℕ, List, Option, ◌∙◌, subst}
 use Rattle.prolly_root.specs.ProofFault.{IsFault}
 use Rattle.prolly_root.specs.ProofFile.{IsProof}
-use Rattle.prolly_tool.proofs.Verifying.{proof_refused}
-use Rattle.prolly_tool.proofs.answers.proof.answer_verify.Goals as goal
+use Rattle.prolly_answer.proofs.Verifying.{proof_refused}
+use Rattle.prolly_answer.proofs.answers.proof.answer_verify.Goals as goal
 
 pub returns-clause-shown : goal.returns-clause-shown
 returns-clause-shown g c = λ honest.

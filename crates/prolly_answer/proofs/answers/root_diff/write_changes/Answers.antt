@@ -1,15 +1,15 @@
 use Rattle.std.proofs.Common.{None, Some, ◌∙◌, subst, sym}
 use Rattle.prolly_root_diff.specs.Notes.{AreNoted}
 use Rattle.prolly_root_diff.specs.Walks.{Gives, at_roots, lefts_of}
-use Rattle.prolly_tool.specs.RootScans.{RefusesNone}
-use Rattle.prolly_tool.specs.declared.faults.fault.Fault.TheVariants.{RootNew, RootOld}
-use Rattle.prolly_tool.proofs.RootDiffSteps.{WrotePart, WroteSoFar, all_told, begins, gave_so_far}
-use Rattle.prolly_tool.proofs.RootDiffSteps.{goes_on, keeps_first, keeps_on, may_new, may_old}
-use Rattle.prolly_tool.proofs.RootDiffSteps.{memory_stopped, memory_tells, new_memory, new_write}
-use Rattle.prolly_tool.proofs.RootDiffSteps.{old_memory, old_write, output_new, output_old, told_reads}
-use Rattle.prolly_tool.proofs.RootDiffSteps.{untold, unwritten, walk_stopped, walk_tells_new}
-use Rattle.prolly_tool.proofs.RootDiffSteps.{walk_tells_old}
-use Rattle.prolly_tool.proofs.answers.root_diff.write_changes.Goals as goal
+use Rattle.prolly_answer.specs.RootScans.{RefusesNone}
+use Rattle.prolly_answer.specs.declared.faults.fault.Fault.TheVariants.{RootNew, RootOld}
+use Rattle.prolly_answer.proofs.RootDiffSteps.{WrotePart, WroteSoFar, all_told, begins, gave_so_far}
+use Rattle.prolly_answer.proofs.RootDiffSteps.{goes_on, keeps_first, keeps_on, may_new, may_old}
+use Rattle.prolly_answer.proofs.RootDiffSteps.{memory_stopped, memory_tells, new_memory, new_write}
+use Rattle.prolly_answer.proofs.RootDiffSteps.{old_memory, old_write, output_new, output_old, told_reads}
+use Rattle.prolly_answer.proofs.RootDiffSteps.{untold, unwritten, walk_stopped, walk_tells_new}
+use Rattle.prolly_answer.proofs.RootDiffSteps.{walk_tells_old}
+use Rattle.prolly_answer.proofs.answers.root_diff.write_changes.Goals as goal
 
 pub walk-init : goal.walk-init
 walk-init g c = record {

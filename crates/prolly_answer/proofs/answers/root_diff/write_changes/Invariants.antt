@@ -1,8 +1,8 @@
 use Rattle.std.proofs.Common.{◌≡◌}
 use Rattle.prolly_root_diff.specs.ToGo.{far}
 use Rattle.prolly_root_diff.specs.Walks.{lefts_of}
-use Rattle.prolly_tool.proofs.RootDiffSteps.{IsUnderWay, KeepsTo}
-use Rattle.prolly_tool.proofs.answers.root_diff.write_changes.Given as goal
+use Rattle.prolly_answer.proofs.RootDiffSteps.{IsUnderWay, KeepsTo}
+use Rattle.prolly_answer.proofs.answers.root_diff.write_changes.Given as goal
 
 abbrev pub invariant-walk : goal.invariant-walk
 invariant-walk g l = record {

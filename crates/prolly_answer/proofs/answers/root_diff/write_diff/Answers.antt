@@ -1,6 +1,6 @@
-use Rattle.prolly_tool.specs.RootScans.{RefusesNone}
-use Rattle.prolly_tool.proofs.RootDiffSteps.{done_unflushed, stopped_flushed}
-use Rattle.prolly_tool.proofs.answers.root_diff.write_diff.Goals as goal
+use Rattle.prolly_answer.specs.RootScans.{RefusesNone}
+use Rattle.prolly_answer.proofs.RootDiffSteps.{done_unflushed, stopped_flushed}
+use Rattle.prolly_answer.proofs.answers.root_diff.write_diff.Goals as goal
 
 pub returns-in-Err-flush-clause-err : goal.returns-in-Err-flush-clause-err
 returns-in-Err-flush-clause-err g c = rw c.in-Err-flush.ensures.fault (done_unflushed

@@ -1,8 +1,8 @@
 use Rattle.std.proofs.Common.{inr}
 use Rattle.std.proofs.lemmas.Result.{err_from_is_err_and}
-use Rattle.prolly_tool.specs.RootScans.{RefusesNone, RefusesNoneOf}
-use Rattle.prolly_tool.proofs.RootDumpSteps.{dump_refused, dump_told}
-use Rattle.prolly_tool.proofs.answers.root_dump.write_dump.Goals as goal
+use Rattle.prolly_answer.specs.RootScans.{RefusesNone, RefusesNoneOf}
+use Rattle.prolly_answer.proofs.RootDumpSteps.{dump_refused, dump_told}
+use Rattle.prolly_answer.proofs.answers.root_dump.write_dump.Goals as goal
 
 pub returns-in_err-reader-clause-dumped : goal.returns-in_err-reader-clause-dumped
 returns-in_err-reader-clause-dumped g c =

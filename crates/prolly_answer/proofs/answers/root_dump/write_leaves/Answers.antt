@@ -2,11 +2,11 @@ use Rattle.std.proofs.Common.{refl, sym, ap, ◌∙◌, subst}
 use Rattle.std.proofs.lemmas.Result.{err_from_is_err_and}
 use Rattle.prolly_check.specs.ScanWay.{next_key}
 use Rattle.prolly_root.specs.Reader.{way_of}
-use Rattle.prolly_tool.specs.RootScans.{RefusesNoneOf}
-use Rattle.prolly_tool.proofs.KeyRanks.{AreBytes, all_bytes, next_bytes, no_bytes}
-use Rattle.prolly_tool.proofs.RootDumpSteps.{dump_begins, dump_ends, dump_fails, dump_goes_on}
-use Rattle.prolly_tool.proofs.RootDumpSteps.{dump_wants, leaf_found, leaf_unwritten, less_room_behind}
-use Rattle.prolly_tool.proofs.answers.root_dump.write_leaves.Goals as goal
+use Rattle.prolly_answer.specs.RootScans.{RefusesNoneOf}
+use Rattle.prolly_answer.proofs.KeyRanks.{AreBytes, all_bytes, next_bytes, no_bytes}
+use Rattle.prolly_answer.proofs.RootDumpSteps.{dump_begins, dump_ends, dump_fails, dump_goes_on}
+use Rattle.prolly_answer.proofs.RootDumpSteps.{dump_wants, leaf_found, leaf_unwritten, less_room_behind}
+use Rattle.prolly_answer.proofs.answers.root_dump.write_leaves.Goals as goal
 
 pub loop-next-init : goal.loop-next-init
 loop-next-init g c = record {

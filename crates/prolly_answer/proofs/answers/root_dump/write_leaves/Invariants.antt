@@ -1,9 +1,9 @@
 use Rattle.std.proofs.Common.{◌≡◌}
 use Rattle.prolly_check.specs.Content.{Content}
 use Rattle.prolly_root.specs.Reader.{IsReaderOf}
-use Rattle.prolly_tool.proofs.KeyRanks.{AreBytes, room_above}
-use Rattle.prolly_tool.proofs.RootDumpSteps.{IsDumping}
-use Rattle.prolly_tool.proofs.answers.root_dump.write_leaves.Given as goal
+use Rattle.prolly_answer.proofs.KeyRanks.{AreBytes, room_above}
+use Rattle.prolly_answer.proofs.RootDumpSteps.{IsDumping}
+use Rattle.prolly_answer.proofs.answers.root_dump.write_leaves.Given as goal
 
 abbrev pub invariant-loop-next : goal.invariant-loop-next
 invariant-loop-next g l = record {

@@ -1,8 +1,8 @@
 use Rattle.std.proofs.Common.{◌≡◌}
 use Rattle.prolly_check.specs.Content.{Content}
 use Rattle.prolly_root.specs.Reader.{IsReaderOf}
-use Rattle.prolly_tool.proofs.KeySteps.{IsAsking}
-use Rattle.prolly_tool.proofs.answers.root_get_keys.write_each.Given as goal
+use Rattle.prolly_answer.proofs.KeySteps.{IsAsking}
+use Rattle.prolly_answer.proofs.answers.root_get_keys.write_each.Given as goal
 
 abbrev pub invariant-loop-key : goal.invariant-loop-key
 invariant-loop-key g l = record {

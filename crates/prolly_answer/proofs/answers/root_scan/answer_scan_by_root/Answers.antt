@@ -1,6 +1,6 @@
 use Rattle.std.proofs.Common.{inr}
-use Rattle.prolly_tool.proofs.Answering.{is_shown, is_unshown}
-use Rattle.prolly_tool.proofs.answers.root_scan.answer_scan_by_root.Goals as goal
+use Rattle.prolly_answer.proofs.Answering.{is_shown, is_unshown}
+use Rattle.prolly_answer.proofs.answers.root_scan.answer_scan_by_root.Goals as goal
 
 pub returns-in-Err-clause-ok : goal.returns-in-Err-clause-ok
 returns-in-Err-clause-ok g c = is_shown _ c.in-Err.fault c.of_fault.result

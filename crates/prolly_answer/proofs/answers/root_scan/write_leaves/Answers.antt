@@ -2,15 +2,15 @@ use Rattle.std.proofs.Common.{◌≡◌, ◌-◌, ◌∙◌, refl, sym, ap, arit
 use Rattle.std.specs.List.{slice_get}
 use Rattle.prolly_check.specs.ScanWay.{next_key}
 use Rattle.prolly_root.specs.Reader.{way_of}
-use Rattle.prolly_tool.specs.LookUps.{pair_lines}
-use Rattle.prolly_tool.specs.Outputs.{TookBytes, TookUntil}
-use Rattle.prolly_tool.proofs.ScanSteps.{all_found, found_from, look_up_tells, many_found}
-use Rattle.prolly_tool.proofs.ScanSteps.{none_found, none_last, scan_begins, scan_ends, scan_fills}
-use Rattle.prolly_tool.proofs.ScanSteps.{scan_fails, scan_full, scan_goes_on, scan_unwritten}
-use Rattle.prolly_tool.proofs.ScanSteps.{scan_wants}
-use Rattle.prolly_tool.specs.RootScans.{RefusesNoneOf, TellsScanReads}
-use Rattle.prolly_tool.specs.declared.faults.fault.Fault.TheVariants.{Root}
-use Rattle.prolly_tool.proofs.answers.root_scan.write_leaves.Goals as goal
+use Rattle.prolly_answer.specs.LookUps.{pair_lines}
+use Rattle.prolly_answer.specs.Outputs.{TookBytes, TookUntil}
+use Rattle.prolly_answer.proofs.ScanSteps.{all_found, found_from, look_up_tells, many_found}
+use Rattle.prolly_answer.proofs.ScanSteps.{none_found, none_last, scan_begins, scan_ends, scan_fills}
+use Rattle.prolly_answer.proofs.ScanSteps.{scan_fails, scan_full, scan_goes_on, scan_unwritten}
+use Rattle.prolly_answer.proofs.ScanSteps.{scan_wants}
+use Rattle.prolly_answer.specs.RootScans.{RefusesNoneOf, TellsScanReads}
+use Rattle.prolly_answer.specs.declared.faults.fault.Fault.TheVariants.{Root}
+use Rattle.prolly_answer.proofs.answers.root_scan.write_leaves.Goals as goal
 
 pub returns-in_default-clause-err : goal.returns-in_default-clause-err
 returns-in_default-clause-err g c = scan_wants g.W.Sink.seen c.args.reader.version

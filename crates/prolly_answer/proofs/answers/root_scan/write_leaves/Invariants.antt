@@ -1,8 +1,8 @@
 use Rattle.std.proofs.Common.{◌≡◌}
 use Rattle.prolly_check.specs.Content.{Content}
 use Rattle.prolly_root.specs.Reader.{IsReaderOf}
-use Rattle.prolly_tool.proofs.ScanSteps.{IsScanning}
-use Rattle.prolly_tool.proofs.answers.root_scan.write_leaves.Given as goal
+use Rattle.prolly_answer.proofs.ScanSteps.{IsScanning}
+use Rattle.prolly_answer.proofs.answers.root_scan.write_leaves.Given as goal
 
 abbrev pub invariant-loop-left : goal.invariant-loop-left
 invariant-loop-left g l = record {

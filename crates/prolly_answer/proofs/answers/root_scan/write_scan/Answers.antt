@@ -6,15 +6,15 @@ use Rattle.prolly_file.specs.Sink.{IsSettled, SinkView}
 use Rattle.prolly_root.specs.Reader.{ReaderView}
 use Rattle.prolly_root.specs.declared.root_fault.RootFault.{RootFault}
 use Rattle.prolly_text.specs.declared.notation.Notation.{Notation}
-use Rattle.prolly_tool.specs.Outputs.{TookAll, TookBytes, TookPart, TookUntil}
-use Rattle.prolly_tool.specs.RootScans.{IsDoneScan, IsFlushed, IsStoppedScan, TellsScanReads}
-use Rattle.prolly_tool.specs.RootScans.{RefusesNone, limited_lines}
-use Rattle.prolly_tool.specs.declared.faults.fault.Fault.{Fault}
-use Rattle.prolly_tool.specs.declared.faults.fault.Fault.TheVariants.{Write}
-use Rattle.prolly_tool.proofs.ScanSteps.{done_ended, done_failed, stopped_flushed}
-use Rattle.prolly_tool.proofs.ScanSteps.{done_tells, flushed_tells, look_up_tells, scan_begins}
-use Rattle.prolly_tool.proofs.ScanSteps.{scan_fails, scan_full, stopped_may, stopped_unflushed}
-use Rattle.prolly_tool.proofs.answers.root_scan.write_scan.Goals as goal
+use Rattle.prolly_answer.specs.Outputs.{TookAll, TookBytes, TookPart, TookUntil}
+use Rattle.prolly_answer.specs.RootScans.{IsDoneScan, IsFlushed, IsStoppedScan, TellsScanReads}
+use Rattle.prolly_answer.specs.RootScans.{RefusesNone, limited_lines}
+use Rattle.prolly_answer.specs.declared.faults.fault.Fault.{Fault}
+use Rattle.prolly_answer.specs.declared.faults.fault.Fault.TheVariants.{Write}
+use Rattle.prolly_answer.proofs.ScanSteps.{done_ended, done_failed, stopped_flushed}
+use Rattle.prolly_answer.proofs.ScanSteps.{done_tells, flushed_tells, look_up_tells, scan_begins}
+use Rattle.prolly_answer.proofs.ScanSteps.{scan_fails, scan_full, stopped_may, stopped_unflushed}
+use Rattle.prolly_answer.proofs.answers.root_scan.write_scan.Goals as goal
 
 -- The flush before a fault is told.
 module _ {W : Type 0} (seen : W → SinkView) (old mid new : W)

@@ -1,7 +1,7 @@
 use Rattle.std.proofs.Common.{◌∙◌, ap, inl, take}
-use Rattle.prolly_tool.specs.LookUps.{pair_lines}
-use Rattle.prolly_tool.proofs.Answering.{looked_up}
-use Rattle.prolly_tool.proofs.answers.scan.answer_scan_in.Goals as goal
+use Rattle.prolly_answer.specs.LookUps.{pair_lines}
+use Rattle.prolly_answer.proofs.Answering.{looked_up}
+use Rattle.prolly_answer.proofs.answers.scan.answer_scan_in.Goals as goal
 
 pub returns-clause-shown : goal.returns-clause-shown
 returns-clause-shown g c = λ honest. inl (

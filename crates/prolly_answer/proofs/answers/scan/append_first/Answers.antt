@@ -1,7 +1,7 @@
 use Rattle.std.proofs.Common.{◌∷◌, length, sym, ap, ◌∙◌, arith, append_assoc}
 use Rattle.prolly_text.specs.Notations.{separator, written}
-use Rattle.prolly_tool.proofs.FirstLines.{no_more, none_within, one_line}
-use Rattle.prolly_tool.proofs.answers.scan.append_first.Goals as goal
+use Rattle.prolly_answer.proofs.FirstLines.{no_more, none_within, one_line}
+use Rattle.prolly_answer.proofs.answers.scan.append_first.Goals as goal
 
 pub loop-left-preserved : goal.loop-left-preserved
 loop-left-preserved c =

@@ -1,6 +1,6 @@
 use Rattle.std.proofs.Common.{◌≡◌, ◌++◌, ◌-◌, length, take}
-use Rattle.prolly_tool.specs.LookUps.{pair_lines}
-use Rattle.prolly_tool.proofs.answers.scan.append_first.Given as goal
+use Rattle.prolly_answer.specs.LookUps.{pair_lines}
+use Rattle.prolly_answer.proofs.answers.scan.append_first.Given as goal
 
 abbrev pub invariant-loop-left : goal.invariant-loop-left
 invariant-loop-left l = record {

@@ -1,6 +1,6 @@
 use Rattle.std.proofs.Common.{sym, ◌∙◌, arith}
-use Rattle.prolly_tool.proofs.FirstLines.{leaf_lines, no_more, none_within}
-use Rattle.prolly_tool.proofs.answers.scan.first_lines.Goals as goal
+use Rattle.prolly_answer.proofs.FirstLines.{leaf_lines, no_more, none_within}
+use Rattle.prolly_answer.proofs.answers.scan.first_lines.Goals as goal
 
 pub loop-left-preserved : goal.loop-left-preserved
 loop-left-preserved c =

@@ -1,6 +1,6 @@
 use Rattle.std.proofs.Common.{◌≡◌, ◌++◌, length, take}
-use Rattle.prolly_tool.specs.LookUps.{pair_lines}
-use Rattle.prolly_tool.proofs.answers.scan.first_lines.Given as goal
+use Rattle.prolly_answer.specs.LookUps.{pair_lines}
+use Rattle.prolly_answer.proofs.answers.scan.first_lines.Given as goal
 
 abbrev pub invariant-loop-left : goal.invariant-loop-left
 invariant-loop-left l = l.lines.items ++ pair_lines l.notation (take l.left l.leaves) ≡

@@ -1,6 +1,6 @@
 use Rattle.std.proofs.Common.{rules, refl}
-use Rattle.prolly_tool.proofs.Answering.{short_answer, short_refused}
-use Rattle.prolly_tool.proofs.answers.scratch.answer_scratch.Goals as goal
+use Rattle.prolly_answer.proofs.Answering.{short_answer, short_refused}
+use Rattle.prolly_answer.proofs.answers.scratch.answer_scratch.Goals as goal
 
 pub returns-clause-ok : goal.returns-clause-ok
 returns-clause-ok g c = λ honest. short_answer _ _ _ _ _ c.of_fault-in-Err-write_to.result (record {

@@ -1,6 +1,6 @@
 use Rattle.std.proofs.Common.{inl}
-use Rattle.prolly_tool.proofs.Answering.{looked_up}
-use Rattle.prolly_tool.proofs.answers.set_proof.answer_prove_set.Goals as goal
+use Rattle.prolly_answer.proofs.Answering.{looked_up}
+use Rattle.prolly_answer.proofs.answers.set_proof.answer_prove_set.Goals as goal
 
 pub returns-in-Ok-prove_checked_set-clause-ok : goal.returns-in-Ok-prove_checked_set-clause-ok
 returns-in-Ok-prove_checked_set-clause-ok g c = λ honest. inl (

@@ -1,8 +1,8 @@
 use Rattle.std.proofs.Common.{[], map, refl}
 use Rattle.std.proofs.lemmas.Result.{err_from_is_err_and}
-use Rattle.prolly_tool.specs.SetLines.{alone_lines}
-use Rattle.prolly_tool.proofs.Writing.{took_front, took_none}
-use Rattle.prolly_tool.proofs.answers.set_verify.write_alone.Goals as goal
+use Rattle.prolly_answer.specs.SetLines.{alone_lines}
+use Rattle.prolly_answer.proofs.Writing.{took_front, took_none}
+use Rattle.prolly_answer.proofs.answers.set_verify.write_alone.Goals as goal
 
 pub returns-in_err-append_alone-clause-err : goal.returns-in_err-append_alone-clause-err
 returns-in_err-append_alone-clause-err g c =

@@ -1,9 +1,9 @@
 use Rattle.std.proofs.Common.{[], map, refl}
 use Rattle.std.proofs.lemmas.Result.{err_from_is_err_and}
 use Rattle.prolly_range.specs.KeySet.{set_of}
-use Rattle.prolly_tool.specs.SetLines.{more_lines}
-use Rattle.prolly_tool.proofs.Writing.{took_front, took_none}
-use Rattle.prolly_tool.proofs.answers.set_verify.write_chunk.Goals as goal
+use Rattle.prolly_answer.specs.SetLines.{more_lines}
+use Rattle.prolly_answer.proofs.Writing.{took_front, took_none}
+use Rattle.prolly_answer.proofs.answers.set_verify.write_chunk.Goals as goal
 
 pub returns-in_err-rest-clause-err : goal.returns-in_err-rest-clause-err
 returns-in_err-rest-clause-err g c =

@@ -5,10 +5,10 @@ use Rattle.prolly_file.specs.Writer.{next_count}
 use Rattle.prolly_range.specs.KeySet.{set_of}
 use Rattle.prolly_range.specs.SetProof.{root_due}
 use Rattle.prolly_range.specs.Verifier.{IsNextFault, IsRestOf}
-use Rattle.prolly_tool.proofs.SetSteps.{chunk_came, chunk_fits, chunk_unwritten, end_came, is_opened}
-use Rattle.prolly_tool.proofs.SetSteps.{lines_tell, range_begins, range_ends, range_fails}
-use Rattle.prolly_tool.proofs.SetSteps.{range_goes_on, range_refused, range_unwritten, unfailed}
-use Rattle.prolly_tool.proofs.answers.set_verify.write_chunks.Goals as goal
+use Rattle.prolly_answer.proofs.SetSteps.{chunk_came, chunk_fits, chunk_unwritten, end_came, is_opened}
+use Rattle.prolly_answer.proofs.SetSteps.{lines_tell, range_begins, range_ends, range_fails}
+use Rattle.prolly_answer.proofs.SetSteps.{range_goes_on, range_refused, range_unwritten, unfailed}
+use Rattle.prolly_answer.proofs.answers.set_verify.write_chunks.Goals as goal
 
 pub returns-in_err-verifier-clause-err : goal.returns-in_err-verifier-clause-err
 returns-in_err-verifier-clause-err g c =

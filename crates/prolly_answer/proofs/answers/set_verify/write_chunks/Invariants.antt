@@ -1,8 +1,8 @@
 use Rattle.std.proofs.Common.{◌≡◌, true, false, map}
 use Rattle.prolly_range.specs.KeySet.{set_of}
 use Rattle.prolly_range.specs.ToGo.{to_go}
-use Rattle.prolly_tool.proofs.SetSteps.{IsReading}
-use Rattle.prolly_tool.proofs.answers.set_verify.write_chunks.Given as goal
+use Rattle.prolly_answer.proofs.SetSteps.{IsReading}
+use Rattle.prolly_answer.proofs.answers.set_verify.write_chunks.Given as goal
 
 abbrev pub invariant-loop-lines : goal.invariant-loop-lines
 invariant-loop-lines g l = record {

@@ -1,7 +1,7 @@
 use Rattle.prolly_range.specs.KeySet.{set_of}
-use Rattle.prolly_tool.proofs.SetSteps.{end_tells, flush_tells, range_ended, range_stopped}
-use Rattle.prolly_tool.proofs.SetSteps.{range_unflushed}
-use Rattle.prolly_tool.proofs.answers.set_verify.write_set.Goals as goal
+use Rattle.prolly_answer.proofs.SetSteps.{end_tells, flush_tells, range_ended, range_stopped}
+use Rattle.prolly_answer.proofs.SetSteps.{range_unflushed}
+use Rattle.prolly_answer.proofs.answers.set_verify.write_set.Goals as goal
 
 pub returns-in-Ok-clause-ok : goal.returns-in-Ok-clause-ok
 returns-in-Ok-clause-ok g c = range_ended g.W.Sink.seen c.args.notation c.args.version

@@ -4,11 +4,11 @@ use Rattle.prolly_entry.specs.Keys.{Rising}
 use Rattle.prolly_range.specs.Found.{AreSomeOf}
 use Rattle.prolly_range.specs.SortedKeys.{keys_above}
 use Rattle.prolly_range.specs.lemmas.Splits.{rising_above}
-use Rattle.prolly_tool.specs.KeyLookUps.{found_at, found_lines}
-use Rattle.prolly_tool.specs.SetLines.{keys_left}
-use Rattle.prolly_tool.proofs.ShownKeys.{left_none, left_step, past_none, some_one_of, some_step}
-use Rattle.prolly_tool.proofs.ShownLines.{past_lines, past_more}
-use Rattle.prolly_tool.proofs.answers.shown_lines.append_past.Goals as goal
+use Rattle.prolly_answer.specs.KeyLookUps.{found_at, found_lines}
+use Rattle.prolly_answer.specs.SetLines.{keys_left}
+use Rattle.prolly_answer.proofs.ShownKeys.{left_none, left_step, past_none, some_one_of, some_step}
+use Rattle.prolly_answer.proofs.ShownLines.{past_lines, past_more}
+use Rattle.prolly_answer.proofs.answers.shown_lines.append_past.Goals as goal
 
 pub append_up_to-requires-clause-one : goal.append_up_to-requires-clause-one
 append_up_to-requires-clause-one c =

@@ -1,9 +1,9 @@
 use Rattle.std.proofs.Common.{◌≡◌, ◌++◌, length, map}
 use Rattle.prolly_entry.specs.Keys.{Rising}
 use Rattle.prolly_range.specs.Found.{AreSomeOf}
-use Rattle.prolly_tool.specs.SetLines.{keys_left}
-use Rattle.prolly_tool.proofs.ShownLines.{past_lines}
-use Rattle.prolly_tool.proofs.answers.shown_lines.append_past.Given as goal
+use Rattle.prolly_answer.specs.SetLines.{keys_left}
+use Rattle.prolly_answer.proofs.ShownLines.{past_lines}
+use Rattle.prolly_answer.proofs.answers.shown_lines.append_past.Given as goal
 
 abbrev pub invariant-loop-key : goal.invariant-loop-key
 invariant-loop-key l = record {

@@ -4,10 +4,10 @@ use Rattle.prolly_entry.specs.Pair.{Pair}
 use Rattle.prolly_entry.specs.Keys.{Rising, key_order}
 use Rattle.prolly_range.specs.SortedKeys.{is_one_of, keys_above}
 use Rattle.prolly_range.specs.lemmas.Splits.{rising_tail}
-use Rattle.prolly_tool.specs.KeyLookUps.{found_line}
-use Rattle.prolly_tool.proofs.ShownLines.{lines_up_to, other_above, other_lines, other_one, same_above}
-use Rattle.prolly_tool.proofs.ShownLines.{same_lines}
-use Rattle.prolly_tool.proofs.answers.shown_lines.append_up_to.Goals as goal
+use Rattle.prolly_answer.specs.KeyLookUps.{found_line}
+use Rattle.prolly_answer.proofs.ShownLines.{lines_up_to, other_above, other_lines, other_one, same_above}
+use Rattle.prolly_answer.proofs.ShownLines.{same_lines}
+use Rattle.prolly_answer.proofs.answers.shown_lines.append_up_to.Goals as goal
 
 pub returns-then-is_eq-clause-left : goal.returns-then-is_eq-clause-left
 returns-then-is_eq-clause-left c =

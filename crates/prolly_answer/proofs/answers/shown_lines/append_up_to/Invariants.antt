@@ -1,8 +1,8 @@
 use Rattle.std.proofs.Common.{◌≡◌, ◌++◌, length, map, true}
 use Rattle.prolly_entry.specs.Keys.{Rising}
 use Rattle.prolly_range.specs.SortedKeys.{is_one_of, keys_above}
-use Rattle.prolly_tool.proofs.ShownLines.{lines_up_to}
-use Rattle.prolly_tool.proofs.answers.shown_lines.append_up_to.Given as goal
+use Rattle.prolly_answer.proofs.ShownLines.{lines_up_to}
+use Rattle.prolly_answer.proofs.answers.shown_lines.append_up_to.Given as goal
 
 abbrev pub invariant-loop-first : goal.invariant-loop-first
 invariant-loop-first l = record {

@@ -1,6 +1,6 @@
 use Rattle.std.proofs.Common.{◌≡◌, ◌++◌, length}
-use Rattle.prolly_tool.specs.LookUps.{pair_lines}
-use Rattle.prolly_tool.proofs.answers.shown_lines.append_wanted.Given as goal
+use Rattle.prolly_answer.specs.LookUps.{pair_lines}
+use Rattle.prolly_answer.proofs.answers.shown_lines.append_wanted.Given as goal
 
 abbrev pub invariant-loop-key : goal.invariant-loop-key
 invariant-loop-key l = l.lines.items ++ pair_lines l.notation l.pairs ≡

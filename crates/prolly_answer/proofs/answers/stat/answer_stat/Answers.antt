@@ -1,7 +1,7 @@
 use Rattle.std.proofs.Common.{rules, ◌≡◌, ◌∙◌, ap, sym, codes, take}
 use Rattle.std.specs.Str.{bytes_eq}
-use Rattle.prolly_tool.proofs.Stating.{stated}
-use Rattle.prolly_tool.proofs.answers.stat.answer_stat.Goals as goal
+use Rattle.prolly_answer.proofs.Stating.{stated}
+use Rattle.prolly_answer.proofs.answers.stat.answer_stat.Goals as goal
 
 pub returns-clause-shown : goal.returns-clause-shown
 returns-clause-shown g c = λ honest.

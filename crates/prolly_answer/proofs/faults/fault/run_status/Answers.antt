@@ -1,5 +1,5 @@
 use Rattle.std.proofs.Common.{rules}
-use Rattle.prolly_tool.proofs.faults.fault.run_status.Goals as goal
+use Rattle.prolly_answer.proofs.faults.fault.run_status.Goals as goal
 
 pub returns-in-TooTall : goal.returns-in-TooTall
 returns-in-TooTall c = search rules

@@ -1,5 +1,5 @@
 use Rattle.std.proofs.Common.{append_assoc}
-use Rattle.prolly_tool.proofs.faults.fault.FaultDisplay.fmt.Goals as goal
+use Rattle.prolly_answer.proofs.faults.fault.FaultDisplay.fmt.Goals as goal
 
 pub returns-in-DoubledKey-clause-writes : goal.returns-in-DoubledKey-clause-writes
 returns-in-DoubledKey-clause-writes g c =
