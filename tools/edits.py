@@ -14,7 +14,8 @@ then ends with the verdict that the crate is not proved.
 
 With --gate only the edits in gate-edits/ are tried, behind a run that has proved all crates and built the libraries. So the
 crate is not checked as it stands, and a round checks no more than the edited functions and those that they call. An edit of
-which that says nothing is tried alone, as above.
+which that says nothing is tried so once more, alone. It is refused if the prover then does not prove its function, and else
+tried as above.
 
 N crates are tried side by side, by default as many as processors, and fewer where memory is short. The status is 0 if all
 edits are refused.
@@ -53,6 +54,9 @@ REASON_LENGTH = 100
 HEAD = re.compile(r'( *)(?:pub(?:\([a-z]+\))? )?(const )?(?:unsafe )?(?:extern "C" )?fn (\w+)')
 """How a function begins."""
 
+IMPORTS = re.compile(r"use [^;]+;(?: use [^;]+;)*(?: (?:pub )?fn (?P<added>\w+)\([^()]*\) -> [^{]*\{.*\})?")
+"""Lines that import names, which lie in no function and change none, and behind them perhaps a function that an edit adds."""
+
 UNREAD = r"is not in scope|has no field|is no name|operand is missing|expected the end|cannot continue"
 """What the prover says of a text that it can't read."""
 
@@ -81,7 +85,7 @@ class BadEdit(Exception):
 @dataclass(frozen=True)
 class Edit:
     """A wrong body: its name, its changes, each a path with an old and a new text, and the functions in whose bodies these
-    lie, or none where one lies elsewhere."""
+    lie, or that they add, or none where one lies elsewhere."""
 
     name: str
     changes: tuple
@@ -275,12 +279,12 @@ class GateTrial(Trial):
         return [word for name in functions for word in ("--only", name)]
 
     def try_round(self, label, edits):
-        """Tries edits together. One of which that says nothing is tried once more by itself, and then judged by the verdict on
-        the crate."""
+        """Tries edits together, and by itself one of which that says nothing. What is not told then either is judged by the
+        verdict on the crate."""
         texts = texts_with(edits, self.kept)
         said = self.check_with(texts, "--allow-holes", *self.scope(edits))
         self.say(f"{label}, {len(edits)} edits", said)
-        reasons = own_reasons(self.crate, said.lines) if is_telling(said, texts) else {}
+        reasons = self.reasons(edits, said.lines) if is_telling(said, texts) else {}
         for edit in edits:
             held = sorted(edit.functions & reasons.keys())
             if held:
@@ -290,15 +294,25 @@ class GateTrial(Trial):
             else:
                 self.try_alone(edit)
 
+    def reasons(self, edits, lines):
+        """Why functions are not proved, by their paths in the crate. Where one edit was made, nothing else can be why, since the
+        crate is proved as it stands."""
+        own = own_reasons(self.crate, lines)
+        return own if len(edits) > 1 else unproved_functions(self.crate, lines) | own
+
 
 def edit_of(file, folder):
-    """Reads an edit of the crate in a folder, and finds the functions in whose bodies it lies."""
+    """Reads an edit of the crate in a folder, and finds the functions in whose bodies it lies, or that it adds."""
     if file.suffix != ".edit":
         raise BadEdit("an edit's name ends in .edit")
     changes, texts, functions = changes_of(file.read_text(encoding="utf-8")), {}, set()
     for path, old, new in changes:
         was = apply((path, old, new), texts, folder)
-        functions.add(function_at(path, was, was.index(old)))
+        imports = IMPORTS.fullmatch(new) if IMPORTS.fullmatch(old) else None
+        if not imports:
+            functions.add(function_at(path, was, was.index(old)))
+        elif imports["added"]:
+            functions.add("::".join([*modules_of(path), imports["added"]]))
     if all(text == (folder / path).read_text(encoding="utf-8") for path, text in texts.items()):
         raise BadEdit("it changes nothing")
     return Edit(file.stem, tuple(changes), frozenset() if None in functions else frozenset(functions))
@@ -380,8 +394,12 @@ def function_at(path, text, place):
     owner = owner_above(lines, head) if margin else ""
     if begin is None or ended or is_const or owner is None:
         return None
-    module = re.sub(r"^src/(?:(?:lib|main)\.rt$)?|\.rt$", "", path).split("/")
-    return "::".join(part for part in (*module, owner, name) if part)
+    return "::".join(part for part in (*modules_of(path), owner, name) if part)
+
+
+def modules_of(path):
+    """The modules in which what stands in a file lies."""
+    return [part for part in re.sub(r"^src/(?:(?:lib|main)\.rt$)?|\.rt$", "", path).split("/") if part]
 
 
 def column(line):
@@ -404,6 +422,12 @@ def is_telling(said, texts):
     """Whether a check with many edits came to its end, and read all."""
     is_ended = said.status == 1 and re.match(r"(only=\d+ )?holes=", said.last())
     return is_ended and not unread(said.lines, texts) and not any(STALE in line for line in said.lines)
+
+
+def unproved_functions(crate, lines):
+    """What the prover says of the functions that it does not prove, by their paths in the crate."""
+    judged = filter(None, map(JUDGED.fullmatch, lines))
+    return {at[1].removeprefix(f"{crate}::"): at[2] for at in judged if at[2].startswith(("no proof", "not proved"))}
 
 
 def own_reasons(crate, lines):
