@@ -12,7 +12,7 @@ ghost use Rattle.prolly_check.specs.FirstFault.{reuse};
 ghost use Rattle.prolly_check.specs.Verdict.{UnlessMemory};
 
 use crate::entries::{Pairs, pairs_of};
-use crate::verdict::{CheckFault, ChunkDigest, Following, chunk_at};
+use crate::verdict::{CheckFault, ChunkDigest, ChunksAhead, chunk_at};
 use prolly_entry::Ref;
 use prolly_file::Header;
 use std::alloc::{AllocError, Global};
@@ -87,14 +87,10 @@ impl<'a> Chunks<'a> {
     }
 
     /// The chunks from this number on, with their digests.
-    pub(crate) fn following<'b>(
-        &self,
-        digests: &'b [ChunkDigest],
-        first: usize,
-    ) -> Following<'a, 'b>
+    pub(crate) fn ahead<'b>(&self, digests: &'b [ChunkDigest], first: usize) -> ChunksAhead<'a, 'b>
         requires { AreNamed self.now digests.now }
     {
-        Following::new(self.bytes, &self.layout.spans, digests, first)
+        ChunksAhead::new(self.bytes, &self.layout.spans, digests, first)
     }
 }
 

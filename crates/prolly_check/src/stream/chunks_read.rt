@@ -13,7 +13,7 @@ ghost use Rattle.prolly_check.specs.HeldPairs.{pairs_held};
 
 use crate::entries::{Pairs, pairs_of};
 use crate::verdict::{
-    CheckFault, ChunkDigest, ChunkHasher, Follower, Following, chunk_at, last_in, test_chunks,
+    CheckFault, ChunkDigest, ChunkHasher, ChunksAhead, Follower, chunk_at, last_in, test_chunks,
 };
 use prolly_entry::{Ref, Sha512Cut, Version};
 use prolly_file::{END_LETTER, END_SIZE, FRAME_LETTER, end_record};
@@ -55,7 +55,7 @@ impl ChunksRead {
         alloc: Global,
         chunk: &[u8],
         digest: ChunkDigest,
-        next: &Following,
+        next: &ChunksAhead,
     ) -> Result<(), CheckFault>
         requires whole { IsWhole self.old.follower.version chunk.now }
         requires digest { IsDigest self.old.follower.cut chunk.now digest }
@@ -124,7 +124,7 @@ impl ChunksRead {
         let (cut, version) = (self.follower.cut, self.follower.version);
         let digests = hasher.digests(alloc, cut, version, bytes, spans)?;
         for number in 0..spans.len() {
-            let next = Following::new(bytes, spans, &digests, number + 1);
+            let next = ChunksAhead::new(bytes, spans, &digests, number + 1);
             self.take(
                 alloc,
                 chunk_at(bytes, &spans[number]),

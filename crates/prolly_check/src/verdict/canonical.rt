@@ -40,7 +40,7 @@ pub(crate) fn test_followed(
     for number in 0..chunks.len() {
         let later = follower.place_of_end(number);
         let chunk = chunks.chunk(number);
-        let next = chunks.following(digests, number + 1);
+        let next = chunks.ahead(digests, number + 1);
         if let Err(fault) = follower.take(alloc, number, chunk, digests[number], &next) {
             return Err(first_fault(chunks, number + 1, later, fault));
         }

@@ -13,7 +13,7 @@ use std::ops::Range;
 
 /// The chunks that follow the one that is taken, among those that are at hand.
 #[derive(Drop)]
-pub(crate) struct Following<'a, 'b> {
+pub(crate) struct ChunksAhead<'a, 'b> {
     bytes: &'a [u8],
     spans: &'a [Range<usize>],
     digests: &'b [ChunkDigest],
@@ -21,7 +21,7 @@ pub(crate) struct Following<'a, 'b> {
     first: usize,
 }
 
-impl<'a, 'b> Model for Following<'a, 'b> {
+impl<'a, 'b> Model for ChunksAhead<'a, 'b> {
     ghost Value = { List (List ℕ) };
 
     ghost view = { λ f. chunks_in f.bytes.now f.spans.now };
@@ -30,18 +30,18 @@ impl<'a, 'b> Model for Following<'a, 'b> {
         × AreNamed (chunks_in f.bytes.now f.spans.now) f.digests.now };
 }
 
-impl<'a, 'b> Following<'a, 'b> {
+impl<'a, 'b> ChunksAhead<'a, 'b> {
     /// From this number on those that lie there.
     pub(crate) fn new(
         bytes: &'a [u8],
         spans: &'a [Range<usize>],
         digests: &'b [ChunkDigest],
         first: usize,
-    ) -> Following<'a, 'b>
+    ) -> ChunksAhead<'a, 'b>
         requires within { AllByRecursion (IsWithin bytes.now) spans.now }
         requires named { AreNamed (chunks_in bytes.now spans.now) digests.now }
     {
-        Following {
+        ChunksAhead {
             bytes,
             spans,
             digests,
@@ -50,8 +50,8 @@ impl<'a, 'b> Following<'a, 'b> {
     }
 
     /// None.
-    pub(crate) fn none() -> Following<'a, 'b> {
-        Following::new(&[], &[], &[], 0)
+    pub(crate) fn none() -> ChunksAhead<'a, 'b> {
+        ChunksAhead::new(&[], &[], &[], 0)
     }
 
     /// The reference of these bytes. It is known where they are the chunk behind so many of these,

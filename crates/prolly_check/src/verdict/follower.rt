@@ -1,24 +1,21 @@
 //! What the chunks of a file that were read so far say of those that must follow.
-ghost use Rattle.std.specs.Prelude.{◌≡◌, ◌≢◌, ◌↔◌, ◌<◌, ℕ, [], ◌∷◌, true, false, None, List};
-ghost use Rattle.std.specs.Prelude.{IsTrue, IfOk, IfErr, OnOk, OnErr, length};
+ghost use Rattle.std.specs.Prelude.{◌≡◌, ◌≢◌, ◌<◌, ℕ, [], ◌∷◌, true, false, None, List};
+ghost use Rattle.std.specs.Prelude.{IfOk, IfErr, OnOk};
 ghost use Rattle.std.specs.List.{list_any};
 ghost use Rattle.prolly_entry.specs.Cut.{sha512_cut};
 ghost use Rattle.prolly_entry.specs.Reference.{reference_of};
-ghost use Rattle.prolly_tree.specs.Chunk.{chunk_of};
 ghost use Rattle.prolly_tree.specs.Tree.{pair_is_boundary};
-ghost use Rattle.prolly_entry.specs.declared.version.Version.TheVariants.{One};
 ghost use Rattle.prolly_check.specs.Digests.{IsDigest};
 ghost use Rattle.prolly_check.specs.Entries.{IsWhole};
-ghost use Rattle.prolly_check.specs.Follower.{ClosesAll, ClosesBehind, EndsWith, Follows, IsAlike};
-ghost use Rattle.prolly_check.specs.Follower.{PassesOn, TakesNext, place_of_end};
+ghost use Rattle.prolly_check.specs.Follower.{EndsWith, Follows, IsAlike, TakesNext, place_of_end};
 ghost use Rattle.prolly_check.specs.HeldPairs.{bytes_in, pairs_held};
 
 use crate::entries::{Pairs, leaf_event, pairs_of};
+use crate::verdict::chunks_ahead::ChunksAhead;
 use crate::verdict::digests::ChunkDigest;
 use crate::verdict::fault::CheckFault;
-use crate::verdict::following::Following;
-use crate::verdict::levels::new_nodes;
-use prolly_chunk::{BorrowedEvent, ChunkEvent, LeafLevel, NodeLevel};
+use crate::verdict::levels::{close_all, close_behind, new_nodes, pass_leaf};
+use prolly_chunk::{ChunkEvent, NodeLevel};
 use prolly_entry::{Cut, Ref, Sha512Cut, Version};
 use std::alloc::{AllocError, Global};
 use std::collections::VecDeque;
@@ -69,7 +66,7 @@ impl Follower {
         number: usize,
         chunk: &[u8],
         digest: ChunkDigest,
-        next: &Following,
+        next: &ChunksAhead,
     ) -> Result<(), CheckFault>
         requires whole { IsWhole self.old.version chunk.now }
         requires digest { IsDigest self.old.cut chunk.now digest }
@@ -117,7 +114,7 @@ impl Follower {
             self.cut,
             number,
             &mut self.nodes,
-            &Following::none(),
+            &ChunksAhead::none(),
             &mut self.due,
         )?;
         test_none_due(&self.due, number)
@@ -130,7 +127,7 @@ impl Follower {
         number: usize,
         chunk: &[u8],
         digest: ChunkDigest,
-        next: &Following,
+        next: &ChunksAhead,
     ) -> Result<(), CheckFault>
         requires whole { IsWhole self.old.version chunk.now }
         requires digest { IsDigest self.old.cut chunk.now digest }
@@ -166,7 +163,7 @@ impl Follower {
         number: usize,
         chunk: &[u8],
         reference: &Ref,
-        next: &Following,
+        next: &ChunksAhead,
     ) -> Result<(), CheckFault>
         requires whole { IsWhole self.old.version chunk.now }
         requires reference { reference.now.0 ≡ reference_of chunk.now }
@@ -231,98 +228,6 @@ fn has_boundary(cut: Sha512Cut, mut leaf: Pairs) -> bool
     false
 }
 
-/// Lets an event pass the levels. It is due, and so are then the nodes that it closes, one level
-/// after another.
-fn pass_on(
-    alloc: Global,
-    levels: &mut [NodeLevel<Sha512Cut>],
-    event: ChunkEvent,
-    next: &Following,
-    due: &mut VecDeque<ChunkEvent>,
-) -> Result<(), AllocError>
-    ensures passes { OnOk result (PassesOn levels.old levels.new event
-        (bytes_in due.old.items) (bytes_in due.new.items)) }
-    ensures size { length levels.new ≡ length levels.old }
-{
-    match levels.split_first_mut() {
-        None => {
-            due.push_back(event)?;
-            Ok(())
-        }
-        Some((level, above)) => {
-            let reference = next.reference_of(due.len(), event.bytes());
-            let closed = level.push_known(alloc, &event.as_borrowed(), &reference)?;
-            due.push_back(event)?;
-            match closed {
-                None => Ok(()),
-                Some(closed) => pass_on(alloc, above, closed, next, due),
-            }
-        }
-    }
-}
-
-/// Lets the event of a leaf that was read pass the levels. The nodes that it closes are due.
-fn pass_leaf(
-    alloc: Global,
-    levels: &mut [NodeLevel<Sha512Cut>],
-    leaf: &BorrowedEvent,
-    reference: &Ref,
-    next: &Following,
-    due: &mut VecDeque<ChunkEvent>,
-) -> Result<(), AllocError>
-    requires reference { reference.now.0 ≡ reference_of leaf.now.bytes }
-    requires none { due.old.items ≡ [] }
-    ensures passes { OnOk result (PassesOn levels.old levels.new leaf.now []
-        (leaf.now.bytes ∷ bytes_in due.new.items)) }
-    ensures size { length levels.new ≡ length levels.old }
-{
-    let Some((level, above)) = levels.split_first_mut() else {
-        return Ok(());
-    };
-    match level.push_known(alloc, leaf, reference)? {
-        None => Ok(()),
-        Some(closed) => pass_on(alloc, above, closed, next, due),
-    }
-}
-
-/// Lets the leaf of the empty map pass the levels.
-fn pass_empty(
-    alloc: Global,
-    cut: Sha512Cut,
-    levels: &mut [NodeLevel<Sha512Cut>],
-    next: &Following,
-    due: &mut VecDeque<ChunkEvent>,
-) -> Result<(), AllocError>
-    ensures passes { OnOk result (PassesOn levels.old levels.new (chunk_of One 0 [])
-        (bytes_in due.old.items) (bytes_in due.new.items)) }
-    ensures size { length levels.new ≡ length levels.old }
-{
-    match LeafLevel::new(alloc, cut)?.finish() {
-        None => Ok(()),
-        Some(leaf) => pass_on(alloc, levels, leaf, next, due),
-    }
-}
-
-/// Closes the levels behind whole leaves, of which so many chunks were read. What they close is due,
-/// and where there was no leaf at all, the leaf of the empty map.
-fn close_behind(
-    alloc: Global,
-    cut: Sha512Cut,
-    number: usize,
-    nodes: &mut Vec<NodeLevel<Sha512Cut>>,
-    next: &Following,
-    due: &mut VecDeque<ChunkEvent>,
-) -> Result<(), AllocError>
-    requires { due.old.items ≡ [] }
-    ensures { OnOk result (ClosesBehind cut nodes.old.items number (bytes_in due.new.items)) }
-{
-    if number == 0 {
-        pass_empty(alloc, cut, nodes, next, due)?;
-        return close_all(alloc, nodes, next, due);
-    }
-    close_all(alloc, nodes, next, due)
-}
-
 /// Tests that no chunk must follow so many.
 fn test_none_due(due: &VecDeque<ChunkEvent>, number: usize) -> Result<(), CheckFault>
     ensures none { OnOk result (due.now.items ≡ []) }
@@ -333,22 +238,4 @@ fn test_none_due(due: &VecDeque<ChunkEvent>, number: usize) -> Result<(), CheckF
         return Ok(());
     }
     Err(CheckFault::NotCanonical { chunk: number })
-}
-
-/// Closes the levels, from the lowest up. What they close is due.
-fn close_all(
-    alloc: Global,
-    nodes: &mut Vec<NodeLevel<Sha512Cut>>,
-    next: &Following,
-    due: &mut VecDeque<ChunkEvent>,
-) -> Result<(), AllocError>
-    ensures { OnOk result (ClosesAll nodes.old.items (bytes_in due.old.items)
-        (bytes_in due.new.items)) }
-{
-    while nodes.len() > 0 {
-        if let Some(last) = nodes.remove(0).finish() {
-            pass_on(alloc, nodes, last, next, due)?;
-        }
-    }
-    Ok(())
 }

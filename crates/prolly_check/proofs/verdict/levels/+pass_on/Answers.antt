@@ -4,7 +4,7 @@ use Rattle.prolly_check.specs.Follower.{PassesOn}
 use Rattle.prolly_check.specs.HeldPairs.{bytes_in}
 use Rattle.prolly_check.proofs.Followed.{one_above}
 use Rattle.prolly_check.proofs.HeldPairs.{bytes_append}
-use Rattle.prolly_check.proofs.verdict.follower.+pass_on.Goals as goal
+use Rattle.prolly_check.proofs.verdict.levels.+pass_on.Goals as goal
 
 pub returns-in-None-closed-clause-passes : goal.returns-in-None-closed-clause-passes
 returns-in-None-closed-clause-passes t c =

@@ -4,7 +4,7 @@ use Rattle.prolly_check.specs.Follower.{ClosesAll}
 use Rattle.prolly_check.specs.HeldPairs.{bytes_in}
 use Rattle.prolly_check.proofs.Followed.{one_closed}
 use Rattle.prolly_check.proofs.OpenLevels.{taken_out}
-use Rattle.prolly_check.proofs.verdict.follower.close_all.Goals as goal
+use Rattle.prolly_check.proofs.verdict.levels.close_all.Goals as goal
 
 pub loop-alloc-preserved-in-Continue-1 : goal.loop-alloc-preserved-in-Continue-1
 loop-alloc-preserved-in-Continue-1 c = λ after closes.

@@ -2,7 +2,7 @@ use Rattle.std.proofs.Common.{◌≡◌, None, Some, []}
 use Rattle.prolly_entry.specs.declared.version.Version.TheVariants.{One}
 use Rattle.prolly_tree.specs.Chunk.{Chunk, chunk_of}
 use Rattle.prolly_check.proofs.Followed.{empty_leaf}
-use Rattle.prolly_check.proofs.verdict.follower.pass_empty.Goals as goal
+use Rattle.prolly_check.proofs.verdict.levels.pass_empty.Goals as goal
 
 some_is : (a b : Chunk) → Some a ≡ Some b → a ≡ b
 some_is a b e = cc e

@@ -3,7 +3,7 @@ use Rattle.std.proofs.lemmas.Result.{on_ok_weaker}
 use Rattle.prolly_check.specs.Follower.{PassesOn}
 use Rattle.prolly_check.specs.HeldPairs.{bytes_in}
 use Rattle.prolly_check.proofs.Followed.{one_above, passes_behind}
-use Rattle.prolly_check.proofs.verdict.follower.pass_leaf.Goals as goal
+use Rattle.prolly_check.proofs.verdict.levels.pass_leaf.Goals as goal
 
 pub returns-in-None-clause-passes : goal.returns-in-None-clause-passes
 returns-in-None-clause-passes c =

@@ -3,7 +3,7 @@ use Rattle.std.proofs.lemmas.List.{get_or-map, length-map}
 use Rattle.prolly_entry.specs.Reference.{reference_of}
 use Rattle.prolly_check.specs.Frames.{chunk_in, chunks_in}
 use Rattle.prolly_check.proofs.CheckedFile.{equal}
-use Rattle.prolly_check.proofs.verdict.following.Following.reference_of.Goals as goal
+use Rattle.prolly_check.proofs.verdict.chunks_ahead.ChunksAhead.reference_of.Goals as goal
 
 pub returns : goal.returns
 returns c =
