@@ -437,9 +437,11 @@ def large_cases(folder):
     first, second = Kind(NUMBERS[:600], 4, 1), Kind(NUMBERS[:600], 4, 2)
     behind, bad, within, plain = folder / "behind a gap", folder / "bad behind a gap", folder / "gap", folder / "100,000 pairs"
     few_behind, counted_behind, few_bad = folder / "few behind a gap", folder / "counted behind a gap", folder / "few bad behind a gap"
+    proof = folder / "proof of a gap"
     key, from_key, last = NUMBERS[1_234][0], Scan(NUMBERS[300][0]), first.way(NUMBERS[599][0])[-1]
     write_gap(behind, b"\xff", kind.content[HEADER_SIZE:])
     write_gap(within, b"\0", assembled([], bytes(20))[HEADER_SIZE:])
+    write_gap(proof, b"\0", b"\0", front=HEADER + b"\x11")
     write_gap(bad, b"\xff", turned(kind.content, kind.place(kind.way(key)[-1]) + 9, 1)[HEADER_SIZE:])
     write_gap(few_behind, b"\xff", first.content[HEADER_SIZE:])
     write_gap(counted_behind, b"\xff", second.content[HEADER_SIZE:], 2)
@@ -452,6 +454,9 @@ def large_cases(folder):
         Case("get --root: no value behind 5 GB", Get(key + b"\0").words(kind.root, 1, str(behind)), status=1, memory=SMALL_MEMORY),
         Case("get --root: a bad chunk behind 5 GB", Get(key).words(kind.root, 1, str(bad)), status=4, err=refusal(another(kind.way(key)[-1] + 1))[2], memory=SMALL_MEMORY),
         Case("get --root: a root of 5 GB", Get(key).words(kind.root, 1, str(within)), status=6, err=b"prolly: out of memory\n", memory=100_000_000),
+        Case("get --root: a root of 5 GB, where there is memory", Get(key).words(kind.root, 1, str(within)), status=6, err=b"prolly: out of memory\n"),
+        Case("check --root: a chunk of 5 GB", ["check", "--root", reference_text(kind.root), str(within)], status=6, err=b"prolly: out of memory\n"),
+        Case("verify --from: a chunk of 5 GB", ["verify", "--from", "", reference_text(kind.root), str(proof)], status=6, err=b"prolly: out of memory\n"),
         Case("get --root: in little memory", Get(many.pairs[77_777][0]).words(many.root, 2, str(plain)), out=hexed(many.pairs[77_777][1]) + b"\n", memory=SMALL_MEMORY),
         Case("prove --root: behind 5 GB", Prove(key).words(kind.root, 1, str(behind)), out=proof_of(kind.top, key, 1), memory=SMALL_MEMORY),
         Case("prove --root: a bad chunk behind 5 GB", Prove(key).words(kind.root, 1, str(bad)), status=4, err=refusal(another(kind.way(key)[-1] + 1))[2], memory=SMALL_MEMORY),
@@ -467,9 +472,10 @@ def large_cases(folder):
     ]
 
 
-def write_gap(path, level, rest, version=1):
-    """A file whose first chunk is of zeros behind its level, of which no more than that lies on the disk."""
+def write_gap(path, level, rest, version=1, front=None):
+    """A file, or a proof that begins with `front`, whose first chunk is of zeros behind its level, of which no more than that lies
+    on the disk."""
     with open(path, "wb") as file:
-        file.write(header(0, version) + b"C" + GAP.to_bytes(8, "big") + level)
+        file.write((front or header(0, version)) + b"C" + GAP.to_bytes(8, "big") + level)
         file.seek(GAP - 1, os.SEEK_CUR)
         file.write(rest)

@@ -437,15 +437,16 @@ few_part chunks taken n few =
     length-append (flat_map framed (chunks ++ take n taken)) (flat_map framed (drop n taken)) in
     omega arith
 
-module _ (chunks taken : List (List ℕ)) (n : ℕ) (chunk : List ℕ) (within : n < length taken)
-    (is : get_or taken n [] ≡ chunk) where
+module _ (chunks taken : List (List ℕ)) (n : ℕ) (within : n < length taken) where
   abbrev so_far : List (List ℕ)
   so_far = chunks ++ take n taken
 
+  abbrev chunk : List ℕ
+  chunk = get_or taken n []
+
   pub next_is : so_far ++ chunk ∷ [] ≡ chunks ++ take (n + 1) taken
   next_is = append_assoc chunks (take n taken) (chunk ∷ []) ∙
-      ap (λ cs. chunks ++ cs) (ap (λ c. take n taken ++ c ∷ []) (sym is) ∙
-      sym (take_next taken n within))
+      ap (λ cs. chunks ++ cs) (sym (take_next taken n within))
 
   module _ (few : length (flat_map framed (chunks ++ take (n + 1) taken)) < 2 ^ 64) where
     pub few_before : length (flat_map framed so_far) < 2 ^ 64
@@ -475,8 +476,7 @@ module _ (chunks taken : List (List ℕ)) (n : ℕ) (chunk : List ℕ) (within :
         chunk = chunk;
         after = drop (suc n) taken;
         are = sym (take-append-drop n taken) ∙
-            ap (λ cs. take n taken ++ cs) (drop-cons taken n [] within ∙
-            ap (λ c. c ∷ drop (suc n) taken) is);
+            ap (λ cs. take n taken ++ cs) (drop-cons taken n [] within);
         may = rw (sym alike.0, sym alike.1) (may_begin mid so_far r held);
         flaw = rw (sym alike.0, sym alike.1) flaw;
       }
@@ -488,14 +488,6 @@ pub record_decided : (bytes rest more : List ℕ) → bytes ≡ 0x45 ∷ rest �
 record_decided bytes rest more e (inl none) = inl none
 record_decided bytes rest more e (inr filled) =
     let enough = filled.enough in inr (omega (arith, ap length e))
-
--- the next one is whole
-pub there_whole : (version other : Version) (taken : List (List ℕ)) (n : ℕ) (chunk : List ℕ) →
-    n < length taken → get_or taken n [] ≡ chunk → version ≡ other → AreWhole other taken →
-    IsWhole version chunk
-there_whole version other taken n chunk within is same whole =
-    subst (λ v. IsWhole v chunk) (sym same)
-    (subst (IsWhole other) is (each_whole other taken n whole within))
 
 -- ---- the bytes behind a header
 

@@ -16,6 +16,10 @@ use prolly_chunk::BorrowedEvent;
 use prolly_entry::{Child, Version, split_pair};
 use std::marker::Model;
 
+/// The greatest length of a chunk, in bytes, for which memory is taken where nothing but its frame
+/// says how long it is. A longer one is told as want of memory.
+pub const CHUNK_LIMIT: usize = 1_073_741_824;
+
 /// The first byte of a leaf: its level.
 pub(crate) const LEAF: u8 = 0;
 

@@ -6,7 +6,6 @@ ghost use Rattle.prolly_check.specs.Numbers.{AreLevels, AreOfMap, IsLevel, at_le
 ghost use Rattle.prolly_check.specs.Numbers.{lacking, chunks_size};
 
 use crate::chunks::{Chunks, Index};
-use crate::entries::Pairs;
 use crate::look_up::Leaves;
 use prolly_entry::Ref;
 use std::alloc::{AllocError, Global};
@@ -45,19 +44,8 @@ pub(crate) fn count_pairs(mut leaves: Leaves) -> u64
 {
     let mut count = 0;
     while let Some(leaf) = leaves.next() {
-        count += count_in(leaf);
-    }
-    count
-}
-
-/// How many pairs are left of a leaf.
-fn count_in(mut leaf: Pairs) -> u64
-    requires { length leaf < 2 ^ 64 }
-    ensures { result ≡ length leaf.entry }
-{
-    let mut count = 0;
-    while let Some(_) = leaf.next() {
-        count += 1;
+        let (_, pairs) = leaf.last_key_and_count();
+        count += pairs;
     }
     count
 }

@@ -6,6 +6,7 @@ ghost use Rattle.std.specs.Int.{w64, from_be_bytes};
 ghost use Rattle.prolly_range.specs.Frames.{IsFrameOf, IsNoFrame};
 
 use crate::fault::SetFault;
+use prolly_check::CHUNK_LIMIT;
 use prolly_file::{FRAME_LETTER, FRAME_START, Source, frame_at};
 use prolly_root::ProofFault;
 use std::alloc::Global;
@@ -13,7 +14,7 @@ use std::alloc::Global;
 /// The next frame that a source has, where the chunk of this number is due.
 ///
 /// Reads no byte behind it. Takes memory as bytes come: what the frame says of its length is not
-/// believed.
+/// believed. Once [`CHUNK_LIMIT`] bytes of a longer chunk came, memory is refused.
 pub(crate) fn next_frame<S: Source>(
     alloc: Global,
     source: &mut S,
@@ -48,13 +49,13 @@ pub(crate) fn next_frame<S: Source>(
     }
     match frame_at(&bytes) {
         Some(_) => Ok(bytes),
-        // The frame is longer than any memory, and this much of it came.
+        // So much of the frame came, and it is longer.
         None => Err(SetFault::Memory),
     }
 }
 
-/// The size of the frame that these bytes begin, as they say it, or the greatest number where that
-/// is greater.
+/// The size of the frame that these bytes begin, as they say it, or that of the longest one for which
+/// memory is taken, where that is less.
 fn frame_size(start: &[u8]) -> usize
     requires { FRAME_START ≤ length start.now }
     ensures least { FRAME_START ≤ result }
@@ -62,7 +63,7 @@ fn frame_size(start: &[u8]) -> usize
 {
     let mut len = [0; 8];
     len.copy_from_slice(&start[1..FRAME_START]);
-    FRAME_START.saturating_add(u64::from_be_bytes(len) as usize)
+    FRAME_START + (u64::from_be_bytes(len) as usize).min(CHUNK_LIMIT)
 }
 
 /// Reads on until there are so many bytes, or the source is at its end. Answers whether it is. Reads

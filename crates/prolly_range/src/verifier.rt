@@ -37,8 +37,9 @@ const PART_BYTES: usize = 65_536;
 /// [`laws::set_proofs_are_right`](crate::laws::set_proofs_are_right). That holds whatever the source
 /// gives.
 ///
-/// Memory is taken for one chunk, and for the references of the children in which keys are sought
-/// of the nodes above it.
+/// Memory is taken for one chunk, as its bytes come, and for the references of the children in which
+/// keys are sought of the nodes above it. A chunk longer than [`CHUNK_LIMIT`](prolly_check::CHUNK_LIMIT)
+/// is told as want of memory.
 #[derive(Drop)]
 pub struct SetVerifier<'a> {
     version: Version,

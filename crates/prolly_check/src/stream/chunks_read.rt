@@ -1,10 +1,11 @@
 //! The chunks of a file that were read so far.
-ghost use Rattle.std.specs.Prelude.{◌≡◌, ◌≢◌, ◌<◌, ◌^◌, ◌+◌, [], true, length, IfErr, IfOk, OnOk};
+ghost use Rattle.std.specs.Prelude.{◌≡◌, ◌≢◌, ◌<◌, ◌^◌, ◌+◌, [], true, length, get_or, IfErr, IfOk};
+ghost use Rattle.std.specs.Prelude.{OnOk};
 ghost use Rattle.std.specs.List.{AllByRecursion};
 ghost use Rattle.std.specs.Option.{option_map};
 ghost use Rattle.prolly_check.specs.ChunksRead.{AreRead, EndsChunks, EndsRecord, GoesOver};
 ghost use Rattle.prolly_check.specs.ChunksRead.{TakesChunk};
-ghost use Rattle.prolly_check.specs.Digests.{IsDigest};
+ghost use Rattle.prolly_check.specs.Digests.{AreDigests, IsDigest};
 ghost use Rattle.prolly_check.specs.Entries.{AreWhole, IsWhole};
 ghost use Rattle.prolly_check.specs.Frames.{IsWithin, chunks_in};
 ghost use Rattle.prolly_check.specs.FirstFault.{last_behind, rises_behind};
@@ -124,15 +125,35 @@ impl ChunksRead {
         let (cut, version) = (self.follower.cut, self.follower.version);
         let digests = hasher.digests(alloc, cut, version, bytes, spans)?;
         for number in 0..spans.len() {
-            let next = ChunksAhead::new(bytes, spans, &digests, number + 1);
-            self.take(
-                alloc,
-                chunk_at(bytes, &spans[number]),
-                digests[number],
-                &next,
-            )?;
+            self.take_one(alloc, bytes, spans, &digests, number)?;
         }
         Ok(())
+    }
+
+    /// Takes the chunk of this number of those that lie there, which were tested and hashed.
+    fn take_one(
+        &mut self,
+        alloc: Global,
+        bytes: &[u8],
+        spans: &[Range<usize>],
+        digests: &[ChunkDigest],
+        number: usize,
+    ) -> Result<(), CheckFault>
+        requires within { AllByRecursion (IsWithin bytes.now) spans.now }
+        requires whole { AreWhole self.old.follower.version (chunks_in bytes.now spans.now) }
+        requires digests { AreDigests self.old.follower.cut (chunks_in bytes.now spans.now)
+            digests.now }
+        requires there { number < length spans.now }
+        requires few { self.old.count + 1 < 2 ^ 64 }
+        ensures takes { TakesChunk self.old self.new
+            (get_or (chunks_in bytes.now spans.now) number []) result }
+        ensures unread { IfErr result (λ fault. fault ≢ CheckFault.Read) }
+        ensures alike { IsAlike self.old.follower self.new.follower }
+        ensures count { OnOk result (self.new.count ≡ self.old.count + 1) }
+    {
+        let chunk = chunk_at(bytes, &spans[number]);
+        let next = ChunksAhead::new(bytes, spans, digests, number + 1);
+        self.take(alloc, chunk, digests[number], &next)
     }
 
     /// Tests that these bytes, which no whole frame begins, are the end record of the chunks, and

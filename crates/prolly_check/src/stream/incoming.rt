@@ -3,18 +3,22 @@ ghost use Rattle.std.specs.Prelude.{◌≡◌, ◌≢◌, ◌↔◌, ◌<◌, �
 ghost use Rattle.std.specs.Prelude.{IfErr, IfOk, IsErrOf, OnOk, ◌⊎◌};
 ghost use Rattle.prolly_check.specs.Incoming.{IsFilled};
 
+use crate::entries::CHUNK_LIMIT;
 use crate::verdict::CheckFault;
-use prolly_file::{FRAME_LETTER, Source, frame_at};
+use prolly_file::{FRAME_LETTER, FRAME_START, Source, frame_at};
 
 /// How many bytes of a file are looked at together: as many as this, and more only where a frame is
 /// larger. Threads share the chunks of a window out, so it has to hold many of them.
 pub(crate) const WINDOW_BYTES: usize = 16_777_216;
 
+/// The size of the frame of the longest chunk for which memory is taken.
+const LONGEST_FRAME: usize = FRAME_START + CHUNK_LIMIT;
+
 /// Reads on until a whole frame begins the bytes and the window is full, or the source is at its
 /// end, or no frame begins the bytes. Answers whether the source is at its end.
 ///
 /// Takes memory as bytes come, up to twice the size of the frame: what a frame says of its length
-/// is not believed.
+/// is not believed. Once more than [`CHUNK_LIMIT`] bytes of a chunk came, memory is refused.
 pub(crate) fn fill<S: Source>(
     source: &mut S,
     part: &mut [u8],
@@ -46,6 +50,9 @@ pub(crate) fn fill<S: Source>(
         }
         if let Some(_) = frame_at(bytes) {
             return Ok(false);
+        }
+        if bytes.len() > LONGEST_FRAME {
+            return Err(CheckFault::Memory);
         }
         wanted = bytes.len() * 2;
     }

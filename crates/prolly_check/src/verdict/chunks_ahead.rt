@@ -49,7 +49,7 @@ impl<'a, 'b> ChunksAhead<'a, 'b> {
         }
     }
 
-    /// None.
+    /// No chunk.
     pub(crate) fn none() -> ChunksAhead<'a, 'b> {
         ChunksAhead::new(&[], &[], &[], 0)
     }

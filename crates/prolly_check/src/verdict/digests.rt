@@ -164,6 +164,7 @@ fn digest_at(
     digest_of(cut, version, chunk_at(bytes, &spans[number]))
 }
 
+/// The digest of a chunk, by one hash of it and, of a leaf, one of each pair up to its first boundary.
 fn digest_of(cut: Sha512Cut, version: Version, chunk: &[u8]) -> ChunkDigest
     requires { IsWhole version chunk.now }
     ensures { IsDigest cut chunk.now result }

@@ -10,6 +10,7 @@ use crate::file::marks::Marks;
 use crate::file::subtree::{Place, Subtree};
 use crate::file::walk::{Frame, Walk};
 use crate::root_fault::RootFault;
+use prolly_check::CHUNK_LIMIT;
 use prolly_entry::Version;
 use prolly_file::Device;
 use std::alloc::Global;
@@ -18,7 +19,8 @@ use std::alloc::Global;
 ///
 /// The root is the last chunk, so to find it takes ten bytes of each frame. On the way some places
 /// are remembered. To find a child takes ten bytes of each frame from the nearest of these places
-/// on, or from the child of the same node that was found last. Only to read a chunk takes memory.
+/// on, or from the child of the same node that was found last. Only to read a chunk takes memory,
+/// as much as the chunk has bytes; a chunk longer than [`CHUNK_LIMIT`] is told as want of memory.
 #[derive(Drop)]
 pub struct FileChunks<D> {
     device: D,
@@ -92,13 +94,16 @@ impl<D: Device> ChunkSource for FileChunks<D> {
     }
 }
 
-/// The bytes of a chunk.
+/// The bytes of a chunk. For one that is longer than [`CHUNK_LIMIT`] memory is refused.
 fn read_chunk<D: Device>(alloc: Global, device: &mut D, frame: &Frame) -> Result<Vec<u8>, RootFault>
     ensures read { HasRead (D.seen device.old) (D.seen device.new) result }
     ensures is { (content : Content) → HoldsFile (D.seen device.old) content →
         IsFrame content frame.now →
         IsOrFails (λ chunk. chunk.items ≡ nth_chunk content frame.now.number) MayFail result }
 {
+    if frame.len > CHUNK_LIMIT as u64 {
+        return Err(RootFault::Memory);
+    }
     let mut chunk = vec![in alloc; 0; frame.len as usize]?;
     let count = device.read_at(frame.start, &mut chunk)?;
     if count < chunk.len() {
