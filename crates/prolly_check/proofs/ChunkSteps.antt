@@ -46,7 +46,7 @@ use Rattle.prolly_check.specs.declared.verdict.fault.CheckFault.TheVariants.{Not
 use Rattle.prolly_check.specs.declared.verdict.fault.CheckFault.TheVariants.{Truncated}
 use Rattle.prolly_check.proofs.CheckedFile.{chunks_last, chunks_some, few_in_frames}
 use Rattle.prolly_check.proofs.FollowerSteps.{held_in, held_snoc, parts_difference}
-use Rattle.prolly_check.proofs.HeldPairs.{are_whole, bytes_append, each_whole}
+use Rattle.prolly_check.proofs.HeldPairs.{are_whole, bytes_append}
 use Rattle.prolly_check.proofs.NextLeaf.{sent_begins}
 use Rattle.prolly_check.proofs.OpenLevels.{all_sent}
 use Rattle.prolly_check.proofs.Verdicts.{difference_same, ending_long}

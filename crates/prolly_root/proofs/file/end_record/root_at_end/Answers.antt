@@ -1,4 +1,4 @@
-use Rattle.std.proofs.Common.{◌∙◌, ◌-◌, ap, arith, drop, length, subst, sym, take}
+use Rattle.std.proofs.Common.{◌∙◌, ◌-◌, ap, arith, drop, subst, sym, take}
 use Rattle.prolly_root.proofs.Endings.{tells_last}
 use Rattle.prolly_root.specs.NamedRoot.{TellsRoot}
 use Rattle.prolly_root.proofs.file.end_record.root_at_end.Goals as goal

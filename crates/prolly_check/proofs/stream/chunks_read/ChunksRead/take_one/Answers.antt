@@ -1,4 +1,4 @@
-use Rattle.std.proofs.Common.{◌≡◌, ◌<◌, arith, get_or, length, sym, subst, ◌∙◌, []}
+use Rattle.std.proofs.Common.{◌≡◌, arith, get_or, sym, subst, ◌∙◌, []}
 use Rattle.std.proofs.lemmas.List.{get_or-map, length-map}
 use Rattle.prolly_check.specs.Entries.{IsWhole}
 use Rattle.prolly_check.specs.Frames.{chunk_in, chunks_in}
