@@ -8,23 +8,26 @@ use Rattle.std.specs.Ordering.{is_lt}
 use Rattle.std.specs.declared.cmp.Ordering.TheVariants.{Less, Equal, Greater}
 use Rattle.prolly_entry.specs.Keys.{Rising, RisingFrom, key_order}
 use Rattle.prolly_entry.specs.Position.{is_before}
-use Rattle.prolly_text.specs.KeyLines.{AreKeysOf, IsFirstWrongKey, IsKeysFault, IsNextKey}
+use Rattle.prolly_text.specs.KeyLines.{AreKeysOf, IsFirstWrongKey, IsKeyList, IsKeysFault, IsNextKey}
 use Rattle.prolly_text.specs.KeyLines.{IsWrongNext, key_fault_at, last_of}
-use Rattle.prolly_text.specs.Lines.{lines_of}
+use Rattle.prolly_text.specs.Lines.{IsMarked, lines_of}
 use Rattle.prolly_text.specs.Notations.{IsWritten}
 use Rattle.prolly_text.specs.declared.lines.keys.KeyFlaw.{KeyFlaw}
 use Rattle.prolly_text.specs.declared.lines.keys.KeyFlaw.TheVariants as flaws
 use Rattle.prolly_text.specs.declared.notation.Notation.{Notation}
 use Rattle.prolly_text.specs.declared.notation.Notation.TheVariants.{Hex, Text}
 
--- some lines are read as keys, and the rest follows
+-- the text begins with no byte order mark, some lines are read as keys, and the rest follows
 pub record AreRead (notation : Notation) (text rest : List ℕ) (keys : List (List ℕ)) : Type 0 where
+  pub unmarked : IsMarked notation text → ⊥
   pub before : List (List ℕ)
   pub whole : lines_of text ≡ before ++ lines_of rest
   pub are : AreKeysOf notation before keys
 
-pub none_read : (notation : Notation) (text : List ℕ) → AreRead notation text text []
-none_read notation text = record {
+pub none_read : (notation : Notation) (text : List ℕ) → (IsMarked notation text → ⊥) →
+    AreRead notation text text []
+none_read notation text unmarked = record {
+  unmarked = unmarked;
   before = [];
   whole = refl;
   are = record { written = tt; rising = tt; short = tt };
@@ -68,6 +71,7 @@ pub one_read : (notation : Notation) (text rest line next : List ℕ) (keys : Li
     (key : List ℕ) → AreRead notation text rest keys → lines_of rest ≡ line ∷ lines_of next →
     IsNextKey notation keys line key → AreRead notation text next (keys ++ key ∷ [])
 one_read notation text rest line next keys key h e k = record {
+  unmarked = h.unmarked;
   before = h.before ++ line ∷ [];
   whole = h.whole ∙ ap (λ ls. h.before ++ ls) e ∙
       sym (append_assoc h.before (line ∷ []) (lines_of next));
@@ -79,11 +83,13 @@ one_read notation text rest line next keys key h e k = record {
 }
 
 pub all_read : (notation : Notation) (text rest : List ℕ) (keys : List (List ℕ)) →
-    AreRead notation text rest keys → rest ≡ [] → AreKeysOf notation (lines_of text) keys
+    AreRead notation text rest keys → rest ≡ [] → IsKeyList notation text keys
 all_read notation text rest keys h e =
     let all : lines_of text ≡ h.before =
-    h.whole ∙ ap (λ t. h.before ++ lines_of t) e ∙ append-nil h.before in
-    subst (λ ls. AreKeysOf notation ls keys) (sym all) h.are
+    h.whole ∙ ap (λ t. h.before ++ lines_of t) e ∙ append-nil h.before in record {
+      unmarked = h.unmarked;
+      are = subst (λ ls. AreKeysOf notation ls keys) (sym all) h.are;
+    }
 
 pub key_refused : (notation : Notation) (text rest line next : List ℕ) (keys : List (List ℕ))
     (flaw : KeyFlaw) (number : ℕ) → AreRead notation text rest keys →
@@ -94,6 +100,7 @@ key_refused notation text rest line next keys flaw number h e wrong n = go notat
     first : (flaw : KeyFlaw) → IsWrongNext notation keys line flaw →
         IsFirstWrongKey notation text number flaw
     first flaw wrong = record {
+      unmarked = h.unmarked;
       before = h.before;
       line = line;
       after = lines_of next;

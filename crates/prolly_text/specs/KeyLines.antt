@@ -3,7 +3,7 @@ use Rattle.std.specs.List.{AllByRecursion, AllZip}
 use Rattle.std.specs.Prelude.{◌≡◌, ℕ, ◌<◌, ◌≤◌, true, false, List, [], ◌∷◌, ◌++◌, length, Some, None}
 use Rattle.prolly_entry.specs.Keys.{Rising}
 use Rattle.prolly_entry.specs.Position.{Position, is_before}
-use Rattle.prolly_text.specs.Lines.{lines_of}
+use Rattle.prolly_text.specs.Lines.{IsMarked, lines_of}
 use Rattle.prolly_text.specs.Notations.{IsWritten}
 use Rattle.prolly_text.specs.declared.lines.keys.KeyFlaw.{KeyFlaw}
 use Rattle.prolly_text.specs.declared.lines.keys.KeyFlaw.TheVariants as flaws
@@ -18,6 +18,11 @@ pub record AreKeysOf (notation : Notation) (lines keys : List (List ℕ)) : Type
   pub written : AllZip (IsWritten notation) lines keys
   pub rising : Rising keys
   pub short : AllByRecursion (λ key. length key ≤ 1024) keys
+
+-- The text is a list of these keys: it begins with no byte order mark, and its lines stand for them.
+pub record IsKeyList (notation : Notation) (text : List ℕ) (keys : List (List ℕ)) : Type 0 where
+  pub unmarked : IsMarked notation text → ⊥
+  pub are : AreKeysOf notation (lines_of text) keys
 
 -- The position of the last of the keys, or before all keys where there is none.
 abbrev pub last_of : List (List ℕ) → Position
@@ -51,10 +56,11 @@ IsWrongNext notation keys line flaws.Bad = (key : List ℕ) → IsWritten notati
 IsWrongNext notation keys line flaws.TooLong = IsLongKey notation line
 IsWrongNext notation keys line flaws.NotRising = IsLowKey notation keys line
 
--- The line of this number is the first at which the text is no list of such keys, and this is what is
--- wrong with it.
+-- The text begins with no byte order mark. The line of this number is the first at which it is no list
+-- of such keys, and this is what is wrong with it.
 pub record IsFirstWrongKey (notation : Notation) (text : List ℕ) (number : ℕ) (flaw : KeyFlaw)
     : Type 0 where
+  pub unmarked : IsMarked notation text → ⊥
   pub before : List (List ℕ)
   pub line : List ℕ
   pub after : List (List ℕ)
@@ -64,9 +70,10 @@ pub record IsFirstWrongKey (notation : Notation) (text : List ℕ) (number : ℕ
   pub are : AreKeysOf notation before keys
   pub wrong : IsWrongNext notation keys line flaw
 
--- The fault names that line.
+-- The fault names that line; or the byte order mark with which the text begins.
 abbrev pub IsKeysFault : Notation → List ℕ → KeysFault → Type 0
 IsKeysFault notation text faults.Memory = Unit {0}
+IsKeysFault notation text faults.ByteOrderMark = IsMarked notation text
 IsKeysFault notation text (faults.BadLine line) =
     (notation ≡ Hex) × IsFirstWrongKey notation text line flaws.Bad
 IsKeysFault notation text (faults.BadText line) =

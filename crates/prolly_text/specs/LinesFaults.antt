@@ -33,9 +33,10 @@ read_lines_text (readers.LineTooLong line) = codes "line " ++ decimal line ++
     codes ": line too long"
 read_lines_text readers.TooManyLines = codes "too many lines"
 
--- What is said of a line of a list of keys.
+-- What is said of a text that is no list of keys.
 abbrev pub keys_text : KeysFault → List ℕ
 keys_text keys.Memory = codes "out of memory"
+keys_text keys.ByteOrderMark = codes "line 0: begins with a byte order mark"
 keys_text (keys.BadLine line) = codes "line " ++ decimal line ++ codes ": not a key in hexadecimal"
 keys_text (keys.BadText line) = codes "line " ++ decimal line ++ codes ": not a key of text"
 keys_text (keys.KeyTooLong line) = codes "line " ++ decimal line ++ codes ": key too long"

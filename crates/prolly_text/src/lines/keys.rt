@@ -1,11 +1,10 @@
 //! Lists of keys out of text. Lines are numbered from 0.
 ghost use Rattle.std.specs.Option.{option_copied};
 ghost use Rattle.std.specs.Prelude.{◌≡◌, IfErr, IfOk, Some, map};
-ghost use Rattle.prolly_text.specs.KeyLines.{AreKeysOf, IsKeysFault, IsNextKey, IsWrongNext};
+ghost use Rattle.prolly_text.specs.KeyLines.{IsKeyList, IsKeysFault, IsNextKey, IsWrongNext};
 ghost use Rattle.prolly_text.specs.KeyLines.{key_fault_at, last_of};
-ghost use Rattle.prolly_text.specs.Lines.{lines_of};
 
-use crate::lines::line::{LineFlaw, bytes_of, split_line};
+use crate::lines::line::{LineFlaw, bytes_of, is_marked, split_line};
 use crate::notation::Notation;
 use prolly_entry::{KEY_LIMIT, key_rises};
 use std::alloc::Global;
@@ -18,6 +17,9 @@ use thiserror::Error;
 pub enum KeysFault {
     /// Memory was refused.
     Memory,
+    /// The text begins with a byte order mark. It would be a part of the first key, which is
+    /// hardly meant; such a key is written with escapes, `\xEF\xBB\xBF`.
+    ByteOrderMark,
     /// The line is no key in hexadecimal.
     BadLine { line: u64 },
     /// The line is no key of text.
@@ -36,6 +38,7 @@ impl Display for KeysFault {
     fn fmt<W: fmt::Write>(&self, f: &mut Formatter<W>) -> fmt::Result {
         match self {
             KeysFault::Memory => write!(f, "out of memory"),
+            KeysFault::ByteOrderMark => f.write_str("line 0: begins with a byte order mark"),
             KeysFault::BadLine { line } => write!(f, "line {line}: not a key in hexadecimal"),
             KeysFault::BadText { line } => write!(f, "line {line}: not a key of text"),
             KeysFault::KeyTooLong { line } => write!(f, "line {line}: key too long"),
@@ -56,8 +59,8 @@ enum KeyFlaw {
 }
 
 /// The keys that the lines of a text stand for, of which each has to be greater than the one before
-/// it. Of one line it is told first that it is no key, then that this is too long, and then that it
-/// is not greater.
+/// it. That the text begins with a byte order mark is told before all else. Of one line it is told
+/// first that it is no key, then that this is too long, and then that it is not greater.
 ///
 /// Takes memory for each key, and time linear in the text.
 pub fn keys_of_lines(
@@ -66,9 +69,12 @@ pub fn keys_of_lines(
     text: &[u8],
 ) -> Result<Vec<Vec<u8>>, KeysFault>
     ensures ok { IfOk result (λ keys.
-        AreKeysOf notation (lines_of text.now) (map (λ k. k.items) keys.items)) }
+        IsKeyList notation text.now (map (λ k. k.items) keys.items)) }
     ensures err { IfErr result (IsKeysFault notation text.now) }
 {
+    if is_marked(notation, text) {
+        return Err(KeysFault::ByteOrderMark);
+    }
     let mut keys: Vec<Vec<u8>> = Vec::new(alloc);
     let mut rest = text;
     while !rest.is_empty() {
