@@ -225,6 +225,9 @@ def verified(name, proof, root, fault):
 
 GOOD_ROOT = reference_text(tree(ABC, 0, 1).reference)
 
+MARKED = b"prolly: line 0: begins with a byte order mark\n"
+"""What is said of a file of keys of text that begins with a byte order mark."""
+
 BAD_LISTS = [
     ("no hexadecimal", [], b"61\n6g\n", b"prolly: line 1: not a key in hexadecimal\n"),
     ("a key and a value", [], b"61 31\n", b"prolly: line 0: not a key in hexadecimal\n"),
@@ -233,6 +236,11 @@ BAD_LISTS = [
     ("keys that fall", [], b"61\n63\n62\n", b"prolly: line 2: key not greater than the one before\n"),
     ("the empty key behind another", [], b"61\n\n62\n", b"prolly: line 1: key not greater than the one before\n"),
     ("a long key", [], b"61\n" + b"62" * 1_025 + b"\n", b"prolly: line 1: key too long\n"),
+    ("a byte order mark before keys that rise without it", ["--text"], b"\xef\xbb\xbfapple\nbanana\n", MARKED),
+    ("a byte order mark before one key", ["--text"], b"\xef\xbb\xbfa\n", MARKED),
+    ("a byte order mark and nothing else", ["--text"], b"\xef\xbb\xbf", MARKED),
+    ("a byte order mark before a line that is no text", ["--text"], b"\xef\xbb\xbf\\q\n", MARKED),
+    ("a byte order mark before hexadecimal, which it is not", [], b"\xef\xbb\xbf61\n", b"prolly: line 0: not a key in hexadecimal\n"),
 ]
 """Files of keys that are refused: what is wrong, the words that say how they are written, the file, and the line."""
 
@@ -275,6 +283,8 @@ def get_cases():
         Case("get --keys", words, out=lines, before=good),
         Case("get --keys: the words in another order", ["get", "in.prl", "--keys=keys"], out=lines, before=good),
         Case("get --keys --text", ["get", "--text", *words[1:]], out=b"\na\t1\naa\nc\t1\nz\n", before=text),
+        Case("get --keys --text: byte order marks in a later line", ["get", "--text", *words[1:]], out=b"a\t1\n\\xef\\xbb\\xbfa\n", before=text | {"keys": b"a\n\xef\xbb\xbfa\n"}),
+        Case("get --keys --text: a byte order mark with an escape", ["get", "--text", *words[1:]], out=b"\\xef\\xbb\\xbfa\n", before=text | {"keys": b"\\xef\xbb\xbfa\n"}),
         Case("get --keys --root", by_root, out=lines, before=good),
         Case("get --keys: no key", words, before=good | {"keys": b""}),
         Case("get --keys: no file of keys", words, status=5, err=b"prolly: cannot open keys\n", before={"in.prl": good["in.prl"]}),

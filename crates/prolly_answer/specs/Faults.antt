@@ -163,6 +163,7 @@ fault_status TooManyLines = 3
 fault_status (DoubledKey first second) = 3
 fault_status (Store fault) = store_status fault
 fault_status (Keys key_faults.Memory) = 6
+fault_status (Keys key_faults.ByteOrderMark) = 3
 fault_status (Keys (key_faults.BadLine line)) = 3
 fault_status (Keys (key_faults.BadText line)) = 3
 fault_status (Keys (key_faults.KeyTooLong line)) = 3

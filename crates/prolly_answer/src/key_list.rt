@@ -10,7 +10,7 @@ use prolly_text::{Notation, keys_of_lines};
 use std::alloc::Global;
 
 /// The keys that the lines of a source stand for, of which each has to be greater than the one before
-/// it.
+/// it. The source may begin with no byte order mark.
 ///
 /// Reads at most [`INPUT_LIMIT`](crate::INPUT_LIMIT) bytes, and takes memory for them and for each key.
 pub fn read_keys<S: Source>(

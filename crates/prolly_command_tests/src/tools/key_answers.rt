@@ -25,6 +25,13 @@ const LISTS: &[(Notation, &[u8], &[&[u8]])] = &[
         b"\na\na\\x00\n\xff\n",
         &[b"", b"a", b"a\0", b"\xff"],
     ),
+    // A byte order mark is a part of a key as any other, but at the start of the text.
+    (
+        Notation::Text,
+        b"a\n\xEF\xBB\xBF\n\xEF\xBB\xBFa\n",
+        &[b"a", b"\xEF\xBB\xBF", b"\xEF\xBB\xBFa"],
+    ),
+    (Notation::Text, b"\\xEF\xBB\xBFa\n", &[b"\xEF\xBB\xBFa"]),
 ];
 
 /// Lines of which one is at fault, and the first such line.
@@ -38,6 +45,28 @@ const FAULTY_LISTS: &[(Notation, &[u8], KeysFault)] = &[
         Notation::Text,
         b"a\nc\nb\n",
         KeysFault::NotRising { line: 2 },
+    ),
+];
+
+/// Lists that begin with a byte order mark, and what is told of them: nothing else of a text, and in
+/// hexadecimal that it is no digit.
+const MARKED_LISTS: &[(Notation, &[u8], KeysFault)] = &[
+    (
+        Notation::Text,
+        b"\xEF\xBB\xBFapple\nbanana\n",
+        KeysFault::ByteOrderMark,
+    ),
+    (Notation::Text, b"\xEF\xBB\xBFa", KeysFault::ByteOrderMark),
+    (Notation::Text, b"\xEF\xBB\xBF", KeysFault::ByteOrderMark),
+    (
+        Notation::Text,
+        b"\xEF\xBB\xBF\\q\n",
+        KeysFault::ByteOrderMark,
+    ),
+    (
+        Notation::Hex,
+        b"\xEF\xBB\xBF61\n",
+        KeysFault::BadLine { line: 0 },
     ),
 ];
 
@@ -72,6 +101,15 @@ fn the_first_line_that_is_no_greater_key_is_named(rt: HostRuntime) -> Result<(),
     long.push(b'a')?;
     let told = keys_of_lines(alloc, Notation::Text, &long).err();
     expect_eq(&rt, &told, &Some(KeysFault::KeyTooLong { line: 0 }));
+    Ok(())
+}
+
+#[test]
+fn a_byte_order_mark_before_keys_is_refused(rt: HostRuntime) -> Result<(), Fail> {
+    for &(notation, text, fault) in MARKED_LISTS {
+        let told = keys_of_lines(rt.alloc(), notation, text).err();
+        expect_eq(&rt, &told, &Some(fault));
+    }
     Ok(())
 }
 
