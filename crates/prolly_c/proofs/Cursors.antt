@@ -14,7 +14,7 @@ use Rattle.prolly_tree.specs.Difference.{IsMap}
 use Rattle.std.specs.List.{flat_map}
 use Rattle.prolly_c.proofs.Entries.{goes_on, no_bytes, reads_first, some_bytes}
 use Rattle.prolly_c.proofs.RunLists.{Around, all_above, from_there, some_run}
-use Rattle.prolly_c.specs.Cursor.{IsAt}
+use Rattle.prolly_c.specs.Cursor.{IsAt, first_place}
 use Rattle.prolly_c.specs.Runs.{AreRuns, AreUpTo, IsEnd, IsPart, IsRun, part}
 use Rattle.prolly_c.specs.declared.cursor.Cursor.{Cursor}
 use Rattle.prolly_c.specs.declared.run.Run.{Run}
@@ -192,3 +192,21 @@ pair_there bytes runs cursor pairs entries at some is none =
     let same = ap length is in
     goes_on entries at.hand (omega arith) none
     (subst (λ x. IsLeaf x at.hand) (sym is) at.hand_is.leaf)
+
+-- ---- at the start
+
+-- A cursor of zeros stands before all pairs of an index.
+pub at_start : (bytes : List ℕ) (runs : List Run) (pairs : List Pair) → AreRuns bytes 0 runs pairs →
+    IsAt bytes runs first_place pairs
+at_start bytes runs pairs are = record {
+  hand = [];
+  behind = pairs;
+  number = 0;
+  are = refl;
+  hand_is = record {
+    order = omega arith;
+    within = omega arith;
+    leaf = record { is = refl; lawful = tt };
+  };
+  runs_are = are;
+}

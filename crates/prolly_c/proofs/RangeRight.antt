@@ -1,5 +1,5 @@
 -- What the index of a range's proof has, for who knows the root of a map.
-use Rattle.std.proofs.Common.{◌≡◌, inl, inr, ℕ, List, [], refl, sym, ◌∙◌, subst, arith}
+use Rattle.std.proofs.Common.{◌≡◌, inl, inr, ℕ, List, refl, sym, ◌∙◌, subst, arith}
 use Rattle.std.specs.List.{AllByRecursion}
 use Rattle.prolly_entry.specs.Cut.{sha512_cut}
 use Rattle.prolly_entry.specs.Pair.{Pair, IsPair}
@@ -10,27 +10,11 @@ use Rattle.prolly_range.specs.KeySet.{KeySet, pairs_wanted}
 use Rattle.prolly_range.specs.SetProof.{IsSetProof, SetProofsAreRight}
 use Rattle.prolly_tree.specs.Difference.{IsMap}
 use Rattle.prolly_tree.specs.File.{root_reference}
-use Rattle.prolly_c.specs.Cursor.{IsAt}
+use Rattle.prolly_c.proofs.Cursors.{at_start}
 use Rattle.prolly_c.specs.RangeProofs.{IsSomeRangeProof, ProvesRange, ScansOrClash}
-use Rattle.prolly_c.specs.RangeProofs.{ShowsRange, first_place}
+use Rattle.prolly_c.specs.RangeProofs.{ShowsRange}
 use Rattle.prolly_c.specs.Runs.{AreRuns}
 use Rattle.prolly_c.specs.declared.run.Run.{Run}
-
--- A cursor of zeros stands before all pairs of an index.
-at_start : (bytes : List ℕ) (runs : List Run) (pairs : List Pair) → AreRuns bytes 0 runs pairs →
-    IsAt bytes runs first_place pairs
-at_start bytes runs pairs are = record {
-  hand = [];
-  behind = pairs;
-  number = 0;
-  are = refl;
-  hand_is = record {
-    order = omega arith;
-    within = omega arith;
-    leaf = record { is = refl; lawful = tt };
-  };
-  runs_are = are;
-}
 
 -- A version has one byte.
 pub one_version : (a b : Version) → version_byte a ≡ version_byte b → a ≡ b

@@ -18,6 +18,10 @@ pub record IsAt (bytes : List ℕ) (runs : List Run) (cursor : Cursor) (pairs : 
     pub hand_is : IsPart bytes cursor.at cursor.end hand
     pub runs_are : AreRuns bytes number (drop cursor.next runs) behind
 
+-- The cursor before all pairs.
+abbrev pub first_place : Cursor
+first_place = record { at = 0; end = 0; next = 0 }
+
 -- The pair is the first of these, and the cursor stands behind it.
 abbrev pub StepsOver : List ℕ → List Run → List Pair → (Bor (List ℕ) × Bor (List ℕ)) × Cursor →
     Type 0

@@ -20,10 +20,9 @@ use Rattle.prolly_range.specs.declared.fault.SetFault.{SetFault}
 use Rattle.prolly_range.specs.declared.fault.SetFault.TheVariants as sets
 use Rattle.prolly_root.specs.declared.proof.fault.ProofFault.{ProofFault}
 use Rattle.prolly_tree.specs.Events.{greatest_count}
-use Rattle.prolly_c.specs.Cursor.{IsAt}
+use Rattle.prolly_c.specs.Cursor.{IsAt, first_place}
 use Rattle.prolly_c.specs.Proofs.{status_of_proof}
 use Rattle.prolly_c.specs.Runs.{AreRuns}
-use Rattle.prolly_c.specs.declared.cursor.Cursor.{Cursor}
 use Rattle.prolly_c.specs.declared.run.Run.{Run}
 
 -- The end of a range, where it is bounded.
@@ -63,10 +62,6 @@ pub record HasShown (version : Version) (root : List ℕ) (set : KeySet) (bytes 
   pub pairs : List Pair
   pub proof : IsSetProof version root set bytes pairs
   pub runs_are : runs ≤ length out → AreRuns bytes 0 (take runs out) pairs
-
--- The cursor before all pairs.
-abbrev pub first_place : Cursor
-first_place = record { at = 0; end = 0; next = 0 }
 
 -- The cursor before all pairs stands before those of the map whose keys are of the set, and before no
 -- other; or else a chunk of the proof and a different one of the map's tree have one reference.

@@ -2,6 +2,7 @@
 ghost use Rattle.std.specs.Prelude.{◌≡◌, ◌⊎◌, ◌≤◌, ◌<◌, length, take};
 ghost use Rattle.prolly_check.specs.Content.{Content};
 ghost use Rattle.prolly_check.specs.Verdict.{IsFileOf};
+ghost use Rattle.prolly_c.specs.Cursor.{IsAt, first_place};
 ghost use Rattle.prolly_c.specs.Runs.{IsIndexOf};
 
 use crate::run::Run;
@@ -19,6 +20,9 @@ pub extern "C" fn prolly_index(bytes: &[u8], index: &mut [Run], count: &mut usiz
         IsIndexOf bytes.now content (take count.new index.new) }
     ensures within { result ≡ 0 → count.new ≤ length index.new }
     ensures room { result ≡ 3 → length index.new < count.new }
+    ensures start { result ≡ 0 → (content : Content) → IsFileOf bytes.now content →
+        IsAt bytes.now (take count.new index.new) first_place content.pairs }
+    ensures stays { result ≡ 5 → count.new ≡ count.old }
     ensures files { (content : Content) → IsFileOf bytes.now content →
         (result ≡ 0) ⊎ (result ≡ 3) }
     ensures status { (result ≡ 0) ⊎ ((result ≡ 3) ⊎ (result ≡ 5)) }
