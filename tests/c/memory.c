@@ -25,45 +25,43 @@ static size_t len, records_len, key_len;
 static prolly_report report;
 static uint8_t *out, root[20];
 static size_t room, count, proof_len;
+static uint64_t named;
 
 static uint32_t check(void) { return prolly_check(bytes, len, &report); }
 
 static uint32_t scratch(void) {
-  uint64_t place = 0;
-  return prolly_scratch(report.version, report.bits, records, records_len, out, room, &count, root, &place);
+  return prolly_scratch(report.version, report.bits, records, records_len, out, room, &count, root, &named);
 }
 
 static uint32_t prove(void) {
-  uint64_t chunk = 0;
-  return prolly_prove(bytes, len, report.version, report.root, key, key_len, out, room, &count, &chunk);
+  return prolly_prove(bytes, len, report.version, report.root, key, key_len, out, room, &count, &named);
 }
 
 static uint32_t prove_range(void) {
-  uint64_t chunk = 0;
   return prolly_prove_range(bytes, len, report.version, report.root, key, key_len, key, 0, false, out, room, &count,
-                            &chunk);
+                            &named);
 }
 
 /* Of the proof that the call before has made. */
 static uint32_t verify_range(void) {
   static prolly_run index[1000];
-  uint64_t chunk = 0;
   return prolly_verify_range(report.version, report.root, key, key_len, key, 0, false, out, proof_len, index, 1000,
-                             &count, &chunk);
+                             &count, &named);
 }
 
 /* How many growths a call needs: with each lesser number memory is refused, and nothing is answered. */
 static long growths_of(uint32_t (*call)(void)) {
   for (long n = 0;; n++) {
+    report.faulty = 77;
     prolly_report before = report;
     count = 77;
+    named = 77;
     granted = n;
     uint32_t status = call();
     granted = -1;
     if (status == PROLLY_DONE) return n;
     WANT(status == PROLLY_MEMORY);
-    before.faulty = report.faulty;
-    WANT(count == 77 && memcmp(&before, &report, sizeof report) == 0);
+    WANT(count == 77 && named == 77 && memcmp(&before, &report, sizeof report) == 0);
   }
 }
 

@@ -1,5 +1,5 @@
 -- What a proof says, and why bytes are none. (This project's rules.)
-use Rattle.std.specs.Prelude.{◌≡◌, ℕ, List, Option}
+use Rattle.std.specs.Prelude.{◌≡◌, ℕ, List, Option, length}
 use Rattle.prolly_entry.specs.Version.{version_byte}
 use Rattle.prolly_entry.specs.declared.version.Version.{Version}
 use Rattle.prolly_root.specs.ProofFault.{IsFault}
@@ -41,6 +41,12 @@ pub record ProvesSome (version : ℕ) (root key proof : List ℕ) : Type 0 where
   pub format_is : version_byte format ≡ version
   pub proves : IsSomeProof format root key proof
 
+-- Such a proof has so many bytes.
+pub record HasProof (version : ℕ) (root key : List ℕ) (count : ℕ) : Type 0 where
+  pub bytes : List ℕ
+  pub proves : ProvesSome version root key bytes
+  pub many : count ≡ length bytes
+
 -- The status of why a file gives no proof, and the chunk that it names.
 abbrev pub status_of_root : RootFault → ℕ × ℕ
 status_of_root rooted.Memory = (2, 0)
@@ -55,3 +61,8 @@ status_of_root rooted.Missing = (65, 0)
 status_of_root (rooted.Reference chunk) = (66, chunk)
 status_of_root (rooted.Level chunk) = (67, chunk)
 status_of_root rooted.Read = (25, 0)
+
+-- The status is that of some fault of a file, and this is the chunk that it names.
+pub record TellsFault (status chunk : ℕ) : Type 0 where
+  pub fault : RootFault
+  pub is : status_of_root fault ≡ (status, chunk)

@@ -47,6 +47,12 @@ pub record ProvesRange (version : ℕ) (root : List ℕ) (set : KeySet) (bytes :
   pub format_is : version_byte format ≡ version
   pub proves : IsSomeRangeProof format root set bytes
 
+-- Such a proof has so many bytes.
+pub record HasRangeProof (version : ℕ) (root : List ℕ) (set : KeySet) (count : ℕ) : Type 0 where
+  pub bytes : List ℕ
+  pub proves : ProvesRange version root set bytes
+  pub many : count ≡ length bytes
+
 -- So they are, and the runs hold the pairs that they show.
 pub record ShowsRange (version : ℕ) (root : List ℕ) (set : KeySet) (bytes : List ℕ)
     (runs : List Run) : Type 0 where

@@ -18,6 +18,17 @@ pub record IsReport (content : Content) (report : Report) : Type 0 where
   pub chunks : report.chunks ≡ length (chunks_of content)
   pub pairs : report.pairs ≡ length content.pairs
 
+-- Nothing but the chunk that a fault names is told anew.
+abbrev pub KeepsRest : Report → Report → Type 0
+KeepsRest old new = new ≡ record {
+  root = old.root;
+  version = old.version;
+  bits = old.bits;
+  chunks = old.chunks;
+  pairs = old.pairs;
+  faulty = new.faulty;
+}
+
 -- The status of a fault of a check, and the chunk that it names.
 abbrev pub status_of_check : CheckFault → ℕ × ℕ
 status_of_check faults.Memory = (2, 0)

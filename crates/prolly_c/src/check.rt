@@ -1,11 +1,11 @@
 //! Whether bytes are a chunk file, and what it says.
-ghost use Rattle.std.specs.Prelude.{◌≡◌, ◌⊎◌};
+ghost use Rattle.std.specs.Prelude.{◌≡◌, ◌≢◌, ◌⊎◌};
 ghost use Rattle.prolly_check.specs.Chunks.{IsFile};
 ghost use Rattle.prolly_check.specs.Content.{Content};
 ghost use Rattle.prolly_check.specs.Verdict.{IsFileOf};
-ghost use Rattle.prolly_c.specs.Report.{IsRefused, IsReport};
+ghost use Rattle.prolly_c.specs.Report.{IsRefused, IsReport, KeepsRest};
 
-use crate::status::{DONE, check_status};
+use crate::status::{DONE, check_status, tell};
 use prolly_check::{OneThread, check_bytes};
 use std::alloc::Global;
 
@@ -29,8 +29,12 @@ pub struct Report {
 
 /// Checks whether bytes are the one lawful file of some map. Nothing of them is copied.
 ///
-/// Takes time linear in the bytes: each chunk and each pair is hashed once. Takes memory for the
-/// places and the references of the chunks, and for some chunks that are rebuilt.
+/// Where memory is refused, nothing is told. Else a fault is told by the status and by `faulty`, and
+/// the rest of the report stays.
+///
+/// Takes time linear in the bytes: each chunk and each pair is hashed once, and the pairs of the last
+/// leaf twice where that is not whole. Takes memory for the places and the references of the chunks,
+/// and for an open node of each level.
 #[unsafe(no_mangle)]
 pub extern "C" fn prolly_check(alloc: Global, bytes: &[u8], report: &mut Report) -> u32
     ensures accepted { result ≡ 0 → IsFile bytes.now }
@@ -39,6 +43,8 @@ pub extern "C" fn prolly_check(alloc: Global, bytes: &[u8], report: &mut Report)
     ensures files { (content : Content) → IsFileOf bytes.now content →
         (result ≡ 0) ⊎ (result ≡ 2) }
     ensures refused { (result ≡ 0) ⊎ ((result ≡ 2) ⊎ IsRefused bytes.now result report.new) }
+    ensures stays { result ≡ 2 → report.new ≡ report.old }
+    ensures rest { result ≢ 0 → KeepsRest report.old report.new }
 {
     match check_bytes(&OneThread, alloc, bytes) {
         Ok(found) => {
@@ -53,10 +59,6 @@ pub extern "C" fn prolly_check(alloc: Global, bytes: &[u8], report: &mut Report)
             };
             DONE
         }
-        Err(fault) => {
-            let (status, chunk) = check_status(fault);
-            report.faulty = chunk;
-            status
-        }
+        Err(fault) => tell(check_status(fault), &mut report.faulty),
     }
 }

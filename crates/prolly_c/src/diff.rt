@@ -1,5 +1,5 @@
 //! What turns one chunk file into another.
-ghost use Rattle.std.specs.Prelude.{◌≡◌, ◌⊎◌, ◌≤◌, ◌<◌, [], None, Some};
+ghost use Rattle.std.specs.Prelude.{◌≡◌, ◌≢◌, ◌⊎◌, ◌≤◌, ◌<◌, [], None, Some};
 ghost use Rattle.prolly_diff.specs.Differences.{AreMaps, IsFirstChange, Maps};
 ghost use Rattle.prolly_tree.specs.Difference.{IsDifference};
 ghost use Rattle.prolly_c.specs.Changes.{AreAt};
@@ -42,6 +42,7 @@ pub extern "C" fn prolly_diff_next<'a>(
     ensures none { result ≡ 1 → (maps : Maps) → AreMaps maps →
         AreAt old.now old_index.now new.now new_index.now cursors.old maps →
         IsDifference maps.before maps.after [] }
+    ensures stays { result ≢ 0 → cursors.new ≡ cursors.old }
     ensures answers { (maps : Maps) → AreMaps maps →
         AreAt old.now old_index.now new.now new_index.now cursors.old maps → result ≤ 1 }
     ensures status { (result ≤ 1) ⊎ (result ≡ 4) }

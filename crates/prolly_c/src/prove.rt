@@ -1,15 +1,15 @@
 //! Proofs of what a chunk file has at a key.
-ghost use Rattle.std.specs.Prelude.{◌≡◌, ◌⊎◌, ◌<◌, ◌≤◌, length, take};
+ghost use Rattle.std.specs.Prelude.{◌≡◌, ◌≢◌, ◌⊎◌, ◌<◌, ◌≤◌, length, take};
 ghost use Rattle.prolly_entry.specs.Cut.{sha512_cut};
 ghost use Rattle.prolly_entry.specs.Version.{version_byte};
 ghost use Rattle.prolly_tree.specs.File.{root_reference};
 ghost use Rattle.prolly_check.specs.Content.{Content};
 ghost use Rattle.prolly_check.specs.Verdict.{IsFileOf};
-ghost use Rattle.prolly_c.specs.Proofs.{ProvesSome};
+ghost use Rattle.prolly_c.specs.Proofs.{HasProof, ProvesSome, TellsFault};
 
 use crate::prover::proof_in;
 use crate::put::put_bytes;
-use crate::status::{DONE, NO_ROOM, USAGE, root_status};
+use crate::status::{DONE, NO_ROOM, USAGE, root_status, tell};
 use prolly_entry::{Ref, Version};
 use std::alloc::Global;
 
@@ -35,11 +35,18 @@ pub extern "C" fn prolly_prove(
 ) -> u32
     ensures proves { result ≡ 0 → ProvesSome version root.now key.now (take count.new out.new) }
     ensures within { result ≡ 0 → count.new ≤ length out.new }
-    ensures room { result ≡ 3 → length out.new < count.new }
+    ensures room { result ≡ 3 → (length out.new < count.new) ×
+        HasProof version root.now key.now count.new }
     ensures lawful { (content : Content) → IsFileOf bytes.now content →
         version_byte content.version ≡ version →
         root.now ≡ root_reference (sha512_cut content.bits) content.version content.pairs →
         (result ≡ 0) ⊎ ((result ≡ 2) ⊎ ((result ≡ 3) ⊎ (result ≡ 25))) }
+    ensures refused { (result ≡ 0) ⊎ ((result ≡ 2) ⊎ ((result ≡ 3) ⊎ ((result ≡ 6) ⊎
+        TellsFault result chunk.new))) }
+    ensures stays { result ≢ 0 → out.new ≡ out.old }
+    ensures uncounted { result ≢ 0 → result ≢ 3 → count.new ≡ count.old }
+    ensures unnamed { result ≤ 6 → chunk.new ≡ chunk.old }
+    ensures usage { result ≡ 6 → (version ≡ 1 → ⊥) × (version ≡ 2 → ⊥) }
 {
     let Some(format) = Version::of(version) else {
         return USAGE;
@@ -53,10 +60,6 @@ pub extern "C" fn prolly_prove(
             put_bytes(&proof, out, 0);
             DONE
         }
-        Err(fault) => {
-            let (status, number) = root_status(fault);
-            *chunk = number;
-            status
-        }
+        Err(fault) => tell(root_status(fault), chunk),
     }
 }

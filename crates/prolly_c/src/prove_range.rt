@@ -1,16 +1,17 @@
 //! Proofs of what a chunk file has in a range of keys.
-ghost use Rattle.std.specs.Prelude.{◌≡◌, ◌⊎◌, ◌<◌, ◌≤◌, length, take};
+ghost use Rattle.std.specs.Prelude.{◌≡◌, ◌≢◌, ◌⊎◌, ◌<◌, ◌≤◌, length, take};
 ghost use Rattle.prolly_entry.specs.Cut.{sha512_cut};
 ghost use Rattle.prolly_entry.specs.Version.{version_byte};
 ghost use Rattle.prolly_tree.specs.File.{root_reference};
 ghost use Rattle.prolly_check.specs.Content.{Content};
 ghost use Rattle.prolly_check.specs.Verdict.{IsFileOf};
-ghost use Rattle.prolly_c.specs.RangeProofs.{ProvesRange, range_of};
+ghost use Rattle.prolly_c.specs.Proofs.{TellsFault};
+ghost use Rattle.prolly_c.specs.RangeProofs.{HasRangeProof, ProvesRange, range_of};
 
 use crate::prover::range_proof_in;
 use crate::put::put_bytes;
 use crate::range::bound;
-use crate::status::{DONE, NO_ROOM, USAGE, root_status};
+use crate::status::{DONE, NO_ROOM, USAGE, root_status, tell};
 use prolly_entry::{Ref, Version};
 use prolly_range::KeySet;
 use std::alloc::Global;
@@ -36,11 +37,19 @@ pub extern "C" fn prolly_prove_range(
     ensures proves { result ≡ 0 → ProvesRange version root.now
         (range_of from.now to.now bounded) (take count.new out.new) }
     ensures within { result ≡ 0 → count.new ≤ length out.new }
-    ensures room { result ≡ 3 → length out.new < count.new }
+    ensures room { result ≡ 3 → (length out.new < count.new) ×
+        HasRangeProof version root.now
+        (range_of from.now to.now bounded) count.new }
     ensures lawful { (content : Content) → IsFileOf bytes.now content →
         version_byte content.version ≡ version →
         root.now ≡ root_reference (sha512_cut content.bits) content.version content.pairs →
         (result ≡ 0) ⊎ ((result ≡ 2) ⊎ ((result ≡ 3) ⊎ (result ≡ 25))) }
+    ensures refused { (result ≡ 0) ⊎ ((result ≡ 2) ⊎ ((result ≡ 3) ⊎ ((result ≡ 6) ⊎
+        TellsFault result chunk.new))) }
+    ensures stays { result ≢ 0 → out.new ≡ out.old }
+    ensures uncounted { result ≢ 0 → result ≢ 3 → count.new ≡ count.old }
+    ensures unnamed { result ≤ 6 → chunk.new ≡ chunk.old }
+    ensures usage { result ≡ 6 → (version ≡ 1 → ⊥) × (version ≡ 2 → ⊥) }
 {
     let Some(format) = Version::of(version) else {
         return USAGE;
@@ -61,10 +70,6 @@ pub extern "C" fn prolly_prove_range(
             put_bytes(&proof, out, 0);
             DONE
         }
-        Err(fault) => {
-            let (status, number) = root_status(fault);
-            *chunk = number;
-            status
-        }
+        Err(fault) => tell(root_status(fault), chunk),
     }
 }

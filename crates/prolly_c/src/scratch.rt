@@ -1,9 +1,9 @@
 //! Building a chunk file of a record file.
-ghost use Rattle.std.specs.Prelude.{◌≡◌, ◌⊎◌, ◌<◌, ◌≤◌, length, take};
+ghost use Rattle.std.specs.Prelude.{◌≡◌, ◌≢◌, ◌⊎◌, ◌<◌, ◌≤◌, length, take};
 ghost use Rattle.prolly_c.specs.Built.{HasBuilt, IsBuilt, IsRefusedRecords};
 
 use crate::put::put_bytes;
-use crate::status::{DONE, MEMORY, NO_ROOM, USAGE, record_status};
+use crate::status::{DONE, MEMORY, NO_ROOM, USAGE, record_status, tell};
 use prolly_entry::{Sha512Cut, Version, records};
 use prolly_file::scratch_as;
 use std::alloc::Global;
@@ -35,6 +35,9 @@ pub extern "C" fn prolly_scratch(
         HasBuilt version bits record_file.now count.new }
     ensures refused { (result ≡ 0) ⊎ ((result ≡ 2) ⊎ ((result ≡ 3) ⊎ ((result ≡ 6) ⊎
         IsRefusedRecords record_file.now result place.new))) }
+    ensures stays { result ≢ 0 → (out.new ≡ out.old) × (root.new ≡ root.old) }
+    ensures uncounted { result ≢ 0 → result ≢ 3 → count.new ≡ count.old }
+    ensures unnamed { result ≤ 6 → place.new ≡ place.old }
     ensures usage { result ≡ 6 → (24 < bits) ⊎ ((version ≡ 1 → ⊥) × (version ≡ 2 → ⊥)) }
 {
     let (Some(cut), Some(format)) = (Sha512Cut::new(bits), Version::of(version)) else {
@@ -42,11 +45,7 @@ pub extern "C" fn prolly_scratch(
     };
     let pairs = match records(alloc, record_file, u32::MAX) {
         Ok(pairs) => pairs,
-        Err(fault) => {
-            let (status, number) = record_status(fault);
-            *place = number;
-            return status;
-        }
+        Err(fault) => return tell(record_status(fault), place),
     };
     let mut file = Vec::new(alloc);
     let Ok(reference) = scratch_as(alloc, cut, format, &pairs, u8::MAX, &mut file) else {

@@ -1,6 +1,6 @@
 //! The index of the pairs that the proof of a range shows, over the bytes of the proof.
 ghost use Rattle.std.specs.Prelude.{◌≡◌, ◌≤◌, ◌-◌, ◌++◌, List, ℕ, length, take, IfErr, IfOk, IfSome};
-ghost use Rattle.std.specs.Prelude.{MatchOption};
+ghost use Rattle.std.specs.Prelude.{MatchOption, OnErr};
 ghost use Rattle.std.specs.Option.{option_copied};
 ghost use Rattle.prolly_entry.specs.Pair.{Pair};
 ghost use Rattle.prolly_entry.specs.declared.version.Version.{Version as VersionValue};
@@ -42,6 +42,7 @@ pub(crate) fn shown_index(
         proof.now out.new) }
     ensures err { IfErr result (IsNoRangeProof version root.now.0
         (Range from.now (option_copied to.entry)) proof.now) }
+    ensures stays { OnErr result (out.new ≡ out.old) }
     ensures room { length out.new ≡ length out.old }
 {
     verified(alloc, version, root, KeySet::Range { from, to }, proof)?;

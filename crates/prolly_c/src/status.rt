@@ -1,5 +1,5 @@
 //! What calls answer: one number a status. The header has a name for each of them.
-ghost use Rattle.std.specs.Prelude.{◌≡◌};
+ghost use Rattle.std.specs.Prelude.{◌≡◌, ◌⊎◌};
 ghost use Rattle.prolly_c.specs.Built.{status_of_records};
 ghost use Rattle.prolly_c.specs.Proofs.{status_of_proof, status_of_root};
 ghost use Rattle.prolly_c.specs.RangeProofs.{status_of_set};
@@ -34,6 +34,21 @@ pub(crate) const USAGE: u32 = 6;
 /// The index or the cursor that a call was given is not of the bytes that it was given.
 #[derive(Clone, Copy)]
 pub(crate) struct WrongIndex;
+
+/// Tells a fault, which is a status and the number that it names. Where memory was refused, nothing
+/// is named, and what stands there stays.
+pub(crate) fn tell(fault: (u32, u64), named: &mut u64) -> u32
+    ensures status { result ≡ fault.0 }
+    ensures told { (result ≡ 2) ⊎ ((result, named.new) ≡ fault) }
+    ensures stays { result ≡ 2 → named.new ≡ named.old }
+{
+    let (status, number) = fault;
+    if status == MEMORY {
+        return MEMORY;
+    }
+    *named = number;
+    status
+}
 
 /// The status of a fault of a check, and the chunk that it names.
 pub(crate) fn check_status(fault: CheckFault) -> (u32, u64)

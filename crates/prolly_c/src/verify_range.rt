@@ -1,5 +1,5 @@
 //! What the proof of a range shows, for who knows the root alone.
-ghost use Rattle.std.specs.Prelude.{◌≡◌, ◌⊎◌, ◌<◌, ◌≤◌, ℕ, List, length, take};
+ghost use Rattle.std.specs.Prelude.{◌≡◌, ◌≢◌, ◌⊎◌, ◌<◌, ◌≤◌, ℕ, List, length, take};
 ghost use Rattle.std.specs.List.{AllByRecursion};
 ghost use Rattle.prolly_entry.specs.Cut.{sha512_cut};
 ghost use Rattle.prolly_entry.specs.Pair.{Pair, IsPair};
@@ -13,7 +13,7 @@ ghost use Rattle.prolly_c.specs.RangeProofs.{range_of};
 use crate::range::bound;
 use crate::run::Run;
 use crate::shown::shown_index;
-use crate::status::{DONE, NO_ROOM, USAGE, set_status};
+use crate::status::{DONE, NO_ROOM, USAGE, set_status, tell};
 use prolly_entry::{Ref, Version};
 use prolly_range::laws::set_proofs_are_right;
 use std::alloc::Global;
@@ -56,6 +56,9 @@ pub extern "C" fn prolly_verify_range(
     ensures refused { (result ≡ 0) ⊎ ((result ≡ 2) ⊎ ((result ≡ 3) ⊎ ((result ≡ 6) ⊎
         IsRefusedRange version root.now (range_of from.now to.now bounded) proof.now result
         chunk.new))) }
+    ensures stays { result ≢ 0 → result ≢ 3 →
+        (index.new ≡ index.old) × (count.new ≡ count.old) }
+    ensures unnamed { result ≤ 6 → chunk.new ≡ chunk.old }
     ensures usage { result ≡ 6 → (version ≡ 1 → ⊥) × (version ≡ 2 → ⊥) }
 {
     // By this law such a proof shows what the map with the root has in the range.
@@ -79,10 +82,6 @@ pub extern "C" fn prolly_verify_range(
             }
             DONE
         }
-        Err(fault) => {
-            let (status, number) = set_status(fault);
-            *chunk = number;
-            status
-        }
+        Err(fault) => tell(set_status(fault), chunk),
     }
 }
