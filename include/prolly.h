@@ -171,19 +171,21 @@ typedef struct prolly_cursors {
  * of memory. PROLLY_MEMORY: memory was refused. Else the status is the first fault of the bytes, and
  * `report->faulty` is the chunk that it names; the rest of `*report` stays.
  *
- * Cost: hashes each chunk and each pair once, some 0.6 s for a million pairs. Takes memory for the
- * places and references of the chunks, and copies none of the bytes. */
+ * Cost: hashes each chunk and each pair once, and the pairs of the last leaf twice where that is not
+ * whole, some 0.6 s for a million pairs. Takes memory for the places and references of the chunks, and
+ * for an open node of each level, and copies none of the bytes. */
 uint32_t prolly_check(const uint8_t *bytes, size_t len, prolly_report *report);
 
 /* ---- Looking up */
 
 /* Writes the index of a file that was checked, into room for `room` runs, and tells in `*count` how
- * many it has. An index is some 1.5 bytes a pair.
+ * many it has. A run has 24 bytes, and holds 16 pairs of a leaf, or those that are left of it. So an
+ * index has some 1.5 bytes a pair where leaves are long, and 24 where each leaf is one pair.
  *
  * PROLLY_DONE: `index[0 .. *count]` is the index. PROLLY_NO_ROOM: `*count` is the number of runs that
  * it needs, and what was written means nothing; so a call with `room` 0 asks for the size.
- * PROLLY_NO_FILE: the bytes are no chunk file, and `*count` stays. No other status is answered, and
- * never the last one for bytes that prolly_check accepts.
+ * PROLLY_NO_FILE: the bytes are no chunk file, `*count` stays, and what was written means nothing. No
+ * other status is answered, and never the last one for bytes that prolly_check accepts.
  *
  * The bytes are not checked: that an index of bytes which are no chunk file is refused is not
  * promised, nor what is found by it. It does no harm: see prolly_get.
