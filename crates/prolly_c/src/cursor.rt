@@ -1,5 +1,5 @@
 //! Going over the pairs of a chunk file, one after another.
-ghost use Rattle.std.specs.Prelude.{◌≡◌, ◌⊎◌, ◌≤◌, ◌∷◌, [], List};
+ghost use Rattle.std.specs.Prelude.{◌≡◌, ◌≢◌, ◌⊎◌, ◌≤◌, ◌∷◌, [], List};
 ghost use Rattle.prolly_entry.specs.Pair.{Pair};
 ghost use Rattle.prolly_check.specs.Content.{Content};
 ghost use Rattle.prolly_check.specs.Leaves.{pairs_from};
@@ -38,6 +38,7 @@ pub extern "C" fn prolly_seek(bytes: &[u8], index: &[Run], from: &[u8], cursor: 
     ensures at { (content : Content) → IsIndexOf bytes.now content index.now →
         IsAt bytes.now index.now cursor.new (pairs_from from.now content.pairs) }
     ensures answers { (content : Content) → IsIndexOf bytes.now content index.now → result ≡ 0 }
+    ensures stays { result ≢ 0 → cursor.new ≡ cursor.old }
     ensures status { (result ≡ 0) ⊎ (result ≡ 4) }
 {
     match cursor_at(bytes, index, from) {
@@ -67,7 +68,8 @@ pub extern "C" fn prolly_next<'a>(
         IsAt bytes.now index.now cursor.new rest }
     ensures none { result ≡ 1 → (pairs : List Pair) → IsAt bytes.now index.now cursor.old pairs →
         pairs ≡ [] }
-    ensures stays { result ≡ 1 → cursor.new ≡ cursor.old }
+    ensures stays { result ≢ 0 → (cursor.new ≡ cursor.old) ×
+        (key.new ≡ key.old) × (value.new ≡ value.old) }
     ensures answers { (pairs : List Pair) → IsAt bytes.now index.now cursor.old pairs → result ≤ 1 }
     ensures status { (result ≤ 1) ⊎ (result ≡ 4) }
 {

@@ -42,7 +42,10 @@ pub extern "C" fn prolly_diff_next<'a>(
     ensures none { result ≡ 1 → (maps : Maps) → AreMaps maps →
         AreAt old.now old_index.now new.now new_index.now cursors.old maps →
         IsDifference maps.before maps.after [] }
-    ensures stays { result ≢ 0 → cursors.new ≡ cursors.old }
+    ensures stays { result ≢ 0 → (cursors.new ≡ cursors.old) × (sides.new ≡ sides.old) ×
+        (key.new ≡ key.old) × (before.new ≡ before.old) × (after.new ≡ after.old) }
+    ensures lacking { result ≡ 0 → (sides.new ≡ 1 → after.new ≡ after.old) ×
+        (sides.new ≡ 2 → before.new ≡ before.old) }
     ensures answers { (maps : Maps) → AreMaps maps →
         AreAt old.now old_index.now new.now new_index.now cursors.old maps → result ≤ 1 }
     ensures status { (result ≤ 1) ⊎ (result ≡ 4) }

@@ -1,5 +1,5 @@
 //! Look-ups by an index.
-ghost use Rattle.std.specs.Prelude.{◌≡◌, ◌⊎◌, ◌≤◌, Some, None};
+ghost use Rattle.std.specs.Prelude.{◌≡◌, ◌≢◌, ◌⊎◌, ◌≤◌, Some, None};
 ghost use Rattle.prolly_tree.specs.LookUp.{find, nth};
 ghost use Rattle.prolly_check.specs.Content.{Content};
 ghost use Rattle.prolly_c.specs.Runs.{IsIndexOf};
@@ -24,6 +24,7 @@ pub extern "C" fn prolly_get<'a>(
     ensures none { result ≡ 1 → (content : Content) → IsIndexOf bytes.now content index.now →
         find content.pairs key.now ≡ None }
     ensures answers { (content : Content) → IsIndexOf bytes.now content index.now → result ≤ 1 }
+    ensures stays { result ≢ 0 → value.new ≡ value.old }
     ensures status { (result ≤ 1) ⊎ (result ≡ 4) }
 {
     match value_by(bytes, index, key) {
@@ -51,6 +52,7 @@ pub extern "C" fn prolly_nth<'a>(
     ensures none { result ≡ 1 → (content : Content) → IsIndexOf bytes.now content index.now →
         nth content.pairs number ≡ None }
     ensures answers { (content : Content) → IsIndexOf bytes.now content index.now → result ≤ 1 }
+    ensures stays { result ≢ 0 → (key.new ≡ key.old) × (value.new ≡ value.old) }
     ensures status { (result ≤ 1) ⊎ (result ≡ 4) }
 {
     match pair_by(bytes, index, number) {

@@ -1,5 +1,5 @@
 //! What a proof says, for who knows the root alone.
-ghost use Rattle.std.specs.Prelude.{◌≡◌, ◌⊎◌, ◌≤◌, Some, None};
+ghost use Rattle.std.specs.Prelude.{◌≡◌, ◌≢◌, ◌⊎◌, ◌≤◌, Some, None};
 ghost use Rattle.prolly_c.specs.Proofs.{IsRefusedProof, SaysOf};
 
 use crate::status::{DONE, NONE, USAGE, proof_status};
@@ -25,6 +25,8 @@ pub extern "C" fn prolly_verify<'a>(
     ensures none { result ≡ 1 → SaysOf version root.now key.now proof.now None }
     ensures refused { (result ≤ 1) ⊎ ((result ≡ 6) ⊎
         IsRefusedProof version root.now key.now proof.now result chunk.new) }
+    ensures stays { result ≢ 0 → value.new ≡ value.old }
+    ensures unnamed { result ≤ 6 → chunk.new ≡ chunk.old }
     ensures usage { result ≡ 6 → (version ≡ 1 → ⊥) × (version ≡ 2 → ⊥) }
 {
     let Some(format) = Version::of(version) else {
