@@ -1,26 +1,34 @@
 -- The frames of a file of a map, one after another.
-use Rattle.std.proofs.Common.{◌≡◌, ℕ, zero, suc, ◌+◌, ◌<◌, ◌≤◌, ◌^◌, true, List, [], ◌∷◌, ◌++◌}
-use Rattle.std.proofs.Common.{length, drop, get_or, Option, Some, None, Result, Ok, Err}
+use Rattle.std.proofs.Common.{◌≡◌, ℕ, zero, suc, ◌+◌, ◌<◌, ◌≤◌, ◌^◌, Bool, true, false, List, [], ◌∷◌, ◌++◌}
+use Rattle.std.proofs.Common.{length, drop, get_or, map, if◌then◌else◌, Option, Some, None, Result, Ok, Err}
 use Rattle.std.proofs.Common.{refl, sym, ap, ◌∙◌, subst, arith, append_assoc, append-nil}
 use Rattle.std.proofs.lemmas.Bool.{false≢true}
 use Rattle.std.proofs.lemmas.List.{length-append}
 use Rattle.std.specs.List.{flat_map, AllByRecursion}
+use Rattle.std.specs.Str.{bytes_eq}
+use Rattle.std.proofs.lemmas.Slice.Eq.{bytes_eq-Decides}
+use Rattle.prolly_entry.specs.Overlay.{or_else}
 use Rattle.prolly_entry.specs.Pair.{Pair}
 use Rattle.prolly_entry.specs.declared.version.Version.{Version}
 use Rattle.prolly_file.specs.Frame.{IsSmall, framed, has_no_frame}
 use Rattle.prolly_file.specs.FrameLaws.{begins_frame, one_front}
 use Rattle.prolly_file.specs.Header.{header_fault, header_tests}
 use Rattle.prolly_file.specs.declared.format.header.HeaderFault.{HeaderFault}
+use Rattle.prolly_check.specs.Chunks.{chunks_of}
 use Rattle.prolly_check.specs.Content.{Content}
 use Rattle.prolly_check.specs.Entries.{AllHold, Holds, IsRead}
-use Rattle.prolly_check.specs.FirstFault.{judged, or_content}
+use Rattle.prolly_check.specs.FirstFault.{canonical_fault, chunk_bytes, difference, judged}
+use Rattle.prolly_check.specs.FirstFault.{or_content, order_fault}
 use Rattle.prolly_check.specs.Frames.{IsFramed}
+use Rattle.prolly_check.specs.HeldPairs.{pairs_held}
 use Rattle.prolly_check.specs.Verdict.{EndVerdict, HeaderVerdict}
 use Rattle.prolly_check.specs.Verdict.{AcceptsFiles, IsFileOf, ReadVerdict}
 use Rattle.prolly_check.specs.declared.verdict.fault.CheckFault.{CheckFault}
+use Rattle.prolly_check.specs.declared.verdict.fault.CheckFault.TheVariants.{NotCanonical}
 use Rattle.prolly_c.proofs.Entries.{end_behind}
-use Rattle.prolly_c.specs.Runs.{IsEnd}
-use Rattle.prolly_c.specs.Writing.{Spells, Wrote}
+use Rattle.prolly_c.proofs.LeafPairs.{leaf_read}
+use Rattle.prolly_c.specs.Runs.{IsEnd, run_count, runs_in}
+use Rattle.prolly_c.specs.Writing.{Spells, Wrote, WroteChunk}
 use Rattle.prolly_c.specs.declared.run.Run.{Run}
 use Rattle.prolly_c.specs.declared.writer.Written.{Written}
 
@@ -38,6 +46,7 @@ pub record IsWrittenTo (bytes rest : List ℕ) (content : Content) (out : List R
   pub hold : AllHold content.version chunks lists
   pub are : content.pairs ≡ done ++ flat_map (λ pairs. pairs) lists
   pub wrote : Wrote bytes out written done
+  pub runs : written.runs + runs_in lists ≡ run_count content
 
 -- ---- at the start
 
@@ -51,6 +60,7 @@ pub record HasChunks (bytes : List ℕ) (content : Content) : Type 0 where
   pub small : AllByRecursion IsSmall chunks
   pub hold : AllHold content.version chunks lists
   pub are : content.pairs ≡ flat_map (λ pairs. pairs) lists
+  pub lists_are : lists ≡ map pairs_held (chunks_of content)
 
 same_ok : {a b : Content} → ◌≡◌ {A = Result Content CheckFault} (Ok a) (Ok b) → a ≡ b
 same_ok e = cc
@@ -60,16 +70,64 @@ not_err : {a : Content} {fault : CheckFault} →
 not_err e = cc
 
 content_is : (content found : Content) (fault : Option CheckFault) →
-    ◌≡◌ {A = Result Content CheckFault} (Ok content) (or_content found fault) → content ≡ found
-content_is content found None e = same_ok e
+    ◌≡◌ {A = Result Content CheckFault} (Ok content) (or_content found fault) →
+    (content ≡ found) × (fault ≡ None)
+content_is content found None e = (same_ok e, refl)
 content_is content found (Some fault) e = absurd (not_err e)
 
+first_none : (a b : Option CheckFault) → or_else a b ≡ None → a ≡ None
+first_none None b e = refl
+first_none (Some fault) b e = cc
+
+second_none : (a b : Option CheckFault) → or_else a b ≡ None → b ≡ None
+second_none None b e = e
+second_none (Some fault) b e = cc
+
+-- Chunks that do not differ are the same.
+same_chunks : (number : ℕ) (cs ds : List (List ℕ)) → difference number cs ds ≡ None → cs ≡ ds
+same_chunks number [] [] e = refl
+same_chunks number [] (d ∷ ds) e = cc
+same_chunks number (c ∷ cs) [] e = cc
+same_chunks number (c ∷ cs) (d ∷ ds) e = go (bytes_eq c d) refl e (same_chunks (suc number) cs ds)
+  where
+    go : (same : Bool) → bytes_eq c d ≡ same →
+        (if same then difference (suc number) cs ds else Some (NotCanonical number)) ≡ None →
+        (difference (suc number) cs ds ≡ None → cs ≡ ds) → c ∷ cs ≡ d ∷ ds
+    go true is e behind = ap (λ x. x ∷ cs) ((bytes_eq-Decides c d).0 is) ∙
+        ap (λ xs. d ∷ xs) (behind e)
+    go false is e behind = cc
+
+-- What is judged to be a file has the chunks of its content.
 judged_is : (content : Content) (version : Version) (bits : ℕ) (chunks : List (List ℕ))
     (ending : List ℕ) (lists : List (List Pair)) →
     ◌≡◌ {A = Result Content CheckFault} (Ok content) (judged version bits chunks ending lists) →
-    content ≡
-    record { version = version; bits = bits; pairs = flat_map (λ pairs. pairs) lists }
-judged_is content version bits chunks ending lists e = content_is content _ _ e
+    (content ≡ record { version = version; bits = bits; pairs = flat_map (λ pairs. pairs) lists })
+    × (chunk_bytes version bits (flat_map (λ pairs. pairs) lists) ≡ chunks)
+judged_is content version bits chunks ending lists e =
+    let pairs = flat_map (λ pairs. pairs) lists in
+    let is = content_is content _ _ e in
+    let canonical = first_none (canonical_fault version bits chunks ending lists) _ is.1 in
+    let behind = second_none (order_fault None 0 lists) _ canonical in (
+      is.0,
+      same_chunks 0 (chunk_bytes version bits pairs) chunks
+          (first_none (difference 0 (chunk_bytes version bits pairs) chunks) _ behind),
+    )
+
+-- The pairs that a chunk holds are read from it.
+held_is : (version : Version) (chunk : List ℕ) (pairs : List Pair) → Holds version chunk pairs →
+    pairs ≡ pairs_held chunk
+held_is version [] pairs holds = absurd holds
+held_is version (zero ∷ entries) pairs holds = sym (leaf_read entries pairs holds)
+held_is version (suc level ∷ entries) pairs holds = holds.none
+
+all_held : (version : Version) (chunks : List (List ℕ)) (lists : List (List Pair)) →
+    AllHold version chunks lists → lists ≡ map pairs_held chunks
+all_held version [] [] hold = refl
+all_held version [] (pairs ∷ lists) hold = absurd hold
+all_held version (c ∷ cs) [] hold = absurd hold
+all_held version (c ∷ cs) (pairs ∷ lists) hold =
+    ap (λ x. x ∷ lists) (held_is version c pairs hold.0) ∙
+    ap (λ xs. pairs_held c ∷ xs) (all_held version cs lists hold.1)
 
 read_is : (bytes : List ℕ) (content : Content) (version : Version) (bits : ℕ)
     (chunks : List (List ℕ)) (ending tail : List ℕ) → drop 6 bytes ≡ flat_map framed chunks ++ tail →
@@ -77,7 +135,8 @@ read_is : (bytes : List ℕ) (content : Content) (version : Version) (bits : ℕ
     (read : Result (List (List Pair)) CheckFault) → IsRead version chunks read →
     ReadVerdict version bits chunks ending read (Ok content) → HasChunks bytes content
 read_is bytes content version bits chunks ending tail spelled none small (Ok lists) is so =
-    let same = judged_is content version bits chunks ending lists so in record {
+    let judged_so = judged_is content version bits chunks ending lists so in
+    let same = judged_so.0 in record {
       chunks = chunks;
       lists = lists;
       tail = tail;
@@ -86,6 +145,8 @@ read_is bytes content version bits chunks ending tail spelled none small (Ok lis
       small = small;
       hold = subst (λ v. AllHold v chunks lists) (sym (ap (λ c. c.version) same)) is;
       are = ap (λ c. c.pairs) same;
+      lists_are = all_held version chunks lists is ∙ ap (map pairs_held) (sym judged_so.1) ∙
+          ap (λ c. map pairs_held (chunks_of c)) (sym same);
     }
 read_is bytes content version bits chunks ending tail spelled none small (Err fault) is so =
     absurd (not_err so)
@@ -128,40 +189,42 @@ written_none bytes front rest content out has is begins = record {
   hold = has.hold;
   are = has.are;
   wrote = record { many = refl; runs_are = λ within. refl };
+  runs = omega (arith, ap runs_in has.lists_are);
 }
 
 -- ---- at a frame
 
 -- The chunk of the next frame holds the next pairs, and what is behind it is left.
-pub record NextChunk (bytes behind chunk : List ℕ) (content : Content) (done : List Pair) : Type 0
-  where
-    pub pairs : List Pair
-    pub holds : Holds content.version chunk pairs
-    pub goes_on : (out : List Run) (written : Written) → Wrote bytes out written (done ++ pairs) →
-        IsWrittenTo bytes behind content out written
+pub record NextChunk (bytes behind chunk : List ℕ) (content : Content) (before : Written)
+    (done : List Pair) : Type 0 where
+  pub pairs : List Pair
+  pub holds : Holds content.version chunk pairs
+  pub goes_on : (out : List Run) (written : Written) →
+      WroteChunk bytes out before written done pairs → IsWrittenTo bytes behind content out written
 
 pub next_chunk : (bytes rest chunk behind : List ℕ) (content : Content) (out : List Run)
     (written : Written) → IsSmall chunk → rest ≡ framed chunk ++ behind →
     (w : IsWrittenTo bytes rest content out written) →
-    NextChunk bytes behind chunk content w.done
+    NextChunk bytes behind chunk content written w.done
 next_chunk bytes rest chunk behind content out written small is w =
-    go w.chunks w.lists w.spelled w.small w.hold w.are
+    go w.chunks w.lists w.spelled w.small w.hold w.are w.runs
   where
     go : (chunks : List (List ℕ)) (lists : List (List Pair)) →
         rest ≡ flat_map framed chunks ++ w.tail → AllByRecursion IsSmall chunks →
         AllHold content.version chunks lists →
         content.pairs ≡ w.done ++ flat_map (λ pairs. pairs) lists →
-        NextChunk bytes behind chunk content w.done
-    go [] lists spelled smalls hold are = absurd (false≢true
+        written.runs + runs_in lists ≡ run_count content →
+        NextChunk bytes behind chunk content written w.done
+    go [] lists spelled smalls hold are runs = absurd (false≢true
         (sym (begins_frame chunk behind small) ∙ ap has_no_frame (sym is ∙ spelled) ∙ w.none))
-    go (c ∷ cs) [] spelled smalls hold are = absurd hold
-    go (c ∷ cs) (pairs ∷ lists) spelled smalls hold are =
+    go (c ∷ cs) [] spelled smalls hold are runs = absurd hold
+    go (c ∷ cs) (pairs ∷ lists) spelled smalls hold are runs =
         let same = one_front c chunk (flat_map framed cs ++ w.tail) behind smalls.0 small
         (sym (append_assoc (framed c) (flat_map framed cs) w.tail) ∙ sym spelled ∙ is) in
         record {
           pairs = pairs;
           holds = subst (λ x. Holds content.version x pairs) same.front hold.0;
-          goes_on = λ out written wrote. record {
+          goes_on = λ out next wrote. record {
             chunks = cs;
             lists = lists;
             tail = w.tail;
@@ -172,26 +235,30 @@ next_chunk bytes rest chunk behind content out written small is w =
             small = smalls.1;
             hold = hold.1;
             are = are ∙ sym (append_assoc w.done pairs (flat_map (λ pairs. pairs) lists));
-            wrote = wrote;
+            wrote = wrote.wrote;
+            runs = omega (arith, runs, wrote.runs);
           };
         }
 
 -- Where no frame follows, all pairs were written.
 pub written_all : (bytes rest : List ℕ) (content : Content) (out : List Run) (written : Written) →
     has_no_frame rest ≡ true → IsWrittenTo bytes rest content out written →
-    Wrote bytes out written content.pairs
+    Wrote bytes out written content.pairs × (written.runs ≡ run_count content)
 written_all bytes rest content out written none w =
-    go w.chunks w.lists w.spelled w.small w.hold w.are
+    go w.chunks w.lists w.spelled w.small w.hold w.are w.runs
   where
     go : (chunks : List (List ℕ)) (lists : List (List Pair)) →
         rest ≡ flat_map framed chunks ++ w.tail → AllByRecursion IsSmall chunks →
         AllHold content.version chunks lists →
         content.pairs ≡ w.done ++ flat_map (λ pairs. pairs) lists →
-        Wrote bytes out written content.pairs
-    go [] [] spelled smalls hold are = subst (Wrote bytes out written)
-        (sym (are ∙ append-nil w.done)) w.wrote
-    go [] (pairs ∷ lists) spelled smalls hold are = absurd hold
-    go (c ∷ cs) lists spelled smalls hold are = absurd (false≢true
+        written.runs + runs_in lists ≡ run_count content →
+        Wrote bytes out written content.pairs × (written.runs ≡ run_count content)
+    go [] [] spelled smalls hold are runs = (
+      subst (Wrote bytes out written) (sym (are ∙ append-nil w.done)) w.wrote,
+      omega (arith, runs),
+    )
+    go [] (pairs ∷ lists) spelled smalls hold are runs = absurd hold
+    go (c ∷ cs) lists spelled smalls hold are runs = absurd (false≢true
         (sym (begins_frame c (flat_map framed cs ++ w.tail) smalls.0) ∙
         ap has_no_frame (sym (append_assoc (framed c) (flat_map framed cs) w.tail) ∙ sym spelled) ∙
         none))

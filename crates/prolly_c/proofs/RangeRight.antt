@@ -11,7 +11,7 @@ use Rattle.prolly_range.specs.SetProof.{IsSetProof, SetProofsAreRight}
 use Rattle.prolly_tree.specs.Difference.{IsMap}
 use Rattle.prolly_tree.specs.File.{root_reference}
 use Rattle.prolly_c.proofs.Cursors.{at_start}
-use Rattle.prolly_c.specs.RangeProofs.{IsSomeRangeProof, ProvesRange, ScansOrClash}
+use Rattle.prolly_c.specs.RangeProofs.{HasRuns, HasShown, IsSomeRangeProof, ProvesRange, ScansOrClash}
 use Rattle.prolly_c.specs.RangeProofs.{ShowsRange}
 use Rattle.prolly_c.specs.Runs.{AreRuns}
 use Rattle.prolly_c.specs.declared.run.Run.{Run}
@@ -48,3 +48,16 @@ pub proof_is_some : (version : ℕ) (root : List ℕ) (set : KeySet) (bytes : Li
 proof_is_some version root set bytes format same p =
     subst (λ v. IsSomeRangeProof v root set bytes)
     (one_version p.format format (p.format_is ∙ sym same)) p.proves
+
+-- Where the runs of what a proof shows are counted, they are so by the number of the version.
+pub has_runs : (version : ℕ) (root : List ℕ) (set other : KeySet) (bytes : List ℕ) (out : List Run)
+    (runs : ℕ) (format : Version) → version_byte format ≡ version → set ≡ other →
+    HasShown format root set bytes out runs → HasRuns version root other bytes runs
+has_runs version root set other bytes out runs format same is shown =
+    let s = subst (λ x. HasShown format root x bytes out runs) is shown in record {
+      format = format;
+      format_is = same;
+      pairs = s.pairs;
+      proof = s.proof;
+      many = s.many;
+    }

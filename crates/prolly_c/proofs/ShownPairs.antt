@@ -23,9 +23,9 @@ use Rattle.prolly_range.specs.SetProof.{root_due, set_start}
 use Rattle.prolly_tree.specs.lemmas.Maps.{Rises, rises}
 use Rattle.prolly_c.proofs.Entries.{end_behind}
 use Rattle.prolly_c.proofs.LeafPairs.{leaf_read}
-use Rattle.prolly_c.specs.RangeProofs.{Shows}
+use Rattle.prolly_c.specs.RangeProofs.{Shows, runs_shown}
 use Rattle.prolly_c.specs.Runs.{IsEnd}
-use Rattle.prolly_c.specs.Writing.{Wrote}
+use Rattle.prolly_c.specs.Writing.{Wrote, WroteChunk}
 use Rattle.prolly_c.specs.declared.run.Run.{Run}
 use Rattle.prolly_c.specs.declared.writer.Written.{Written}
 
@@ -64,7 +64,7 @@ due_seek from to level (Node children) = below_seek from to level 0 children
 -- The index of the pairs that a proof shows is written up to these bytes: chunks are left, and the
 -- pairs that they show.
 pub record IsShownTo (version : Version) (from : List ℕ) (to : Option (List ℕ)) (bytes rest : List ℕ)
-    (pairs : List Pair) (out : List Run) (written : Written) : Type 0 where
+    (pairs : List Pair) (out : List Run) (written : Written) (total : ℕ) : Type 0 where
   pub chunks : List (List ℕ)
   pub due : List Due
   pub more : List Pair
@@ -76,6 +76,7 @@ pub record IsShownTo (version : Version) (from : List ℕ) (to : Option (List �
   pub taken : AreTaken version due chunks more []
   pub are : pairs ≡ done ++ more
   pub wrote : Wrote bytes out written done
+  pub runs : written.runs + runs_shown version (Range from to) chunks ≡ total
 
 start_length : (version : Version) (tail : List ℕ) → length (set_start version ++ tail) ≡ 5 + length tail
 start_length One tail = omega arith
@@ -92,9 +93,10 @@ has_start version root set bytes pairs p =
 -- Nothing is written at first.
 pub shown_none : (version : Version) (root from : List ℕ) (to : Option (List ℕ))
     (bytes front rest : List ℕ) (pairs : List Pair) (out : List Run) →
-    IsSetProof version root (Range from to) bytes pairs → rest ≡ drop 5 bytes →
+    (p : IsSetProof version root (Range from to) bytes pairs) → rest ≡ drop 5 bytes →
     bytes ≡ front ++ rest →
     IsShownTo version from to bytes rest pairs out (record { runs = 0; pairs = 0 })
+    (runs_shown version (Range from to) p.chunks)
 shown_none version root from to bytes front rest pairs out p is begins = record {
   chunks = p.chunks;
   due = root_due root (Range from to) ∷ [];
@@ -107,6 +109,7 @@ shown_none version root from to bytes front rest pairs out p is begins = record 
   taken = p.taken;
   are = refl;
   wrote = record { many = refl; runs_are = λ within. refl };
+  runs = omega arith;
 }
   where
     behind : (version : Version) → drop 5 (set_start version ++ flat_map framed p.chunks) ≡
@@ -116,28 +119,32 @@ shown_none version root from to bytes front rest pairs out p is begins = record 
 
 -- The next chunk shows the next pairs, and what is behind its frame is left.
 pub record NextShown (version : Version) (from : List ℕ) (to : Option (List ℕ))
-    (bytes behind chunk : List ℕ) (pairs done : List Pair) : Type 0 where
+    (bytes behind chunk : List ℕ) (pairs : List Pair) (before : Written) (total : ℕ)
+    (done : List Pair) : Type 0 where
   pub here : List Pair
   pub shows : Shows version (Range from to) chunk here
-  pub goes_on : (out : List Run) (written : Written) → Wrote bytes out written (done ++ here) →
-      IsShownTo version from to bytes behind pairs out written
+  pub goes_on : (out : List Run) (written : Written) →
+      WroteChunk bytes out before written done here →
+      IsShownTo version from to bytes behind pairs out written total
 
 framed_some : (chunk behind : List ℕ) → framed chunk ++ behind ≡ [] → ⊥
 framed_some chunk behind e = cc
 
 pub next_shown : (version : Version) (from : List ℕ) (to : Option (List ℕ))
-    (bytes rest chunk behind : List ℕ) (pairs : List Pair) (out : List Run) (written : Written) →
-    IsSmall chunk → rest ≡ framed chunk ++ behind →
-    (w : IsShownTo version from to bytes rest pairs out written) →
-    NextShown version from to bytes behind chunk pairs w.done
-next_shown version from to bytes rest chunk behind pairs out written small is w =
-    go w.chunks w.more w.spelled w.small w.taken w.are
+    (bytes rest chunk behind : List ℕ) (pairs : List Pair) (out : List Run) (written : Written)
+    (total : ℕ) → IsSmall chunk → rest ≡ framed chunk ++ behind →
+    (w : IsShownTo version from to bytes rest pairs out written total) →
+    NextShown version from to bytes behind chunk pairs written total w.done
+next_shown version from to bytes rest chunk behind pairs out written total small is w =
+    go w.chunks w.more w.spelled w.small w.taken w.are w.runs
   where
     go : (chunks : List (List ℕ)) (more : List Pair) → rest ≡ flat_map framed chunks →
         AllByRecursion IsSmall chunks → AreTaken version w.due chunks more [] →
-        pairs ≡ w.done ++ more → NextShown version from to bytes behind chunk pairs w.done
-    go [] more spelled smalls taken are = absurd (framed_some chunk behind (sym is ∙ spelled))
-    go (c ∷ cs) more spelled smalls taken are =
+        pairs ≡ w.done ++ more →
+        written.runs + runs_shown version (Range from to) chunks ≡ total →
+        NextShown version from to bytes behind chunk pairs written total w.done
+    go [] more spelled smalls taken are runs = absurd (framed_some chunk behind (sym is ∙ spelled))
+    go (c ∷ cs) more spelled smalls taken are runs =
         let same = one_front c chunk (flat_map framed cs) behind smalls.0 small
         (sym spelled ∙ is) in
         let takes = taken.3 in
@@ -150,7 +157,7 @@ next_shown version from to bytes rest chunk behind pairs out written small is w 
         record {
           here = taken.0;
           shows = subst (λ x. Shows version (Range from to) x taken.0) same.front shows;
-          goes_on = λ out written wrote. record {
+          goes_on = λ out next wrote. record {
             chunks = cs;
             due = taken.2;
             more = taken.1;
@@ -166,23 +173,30 @@ next_shown version from to bytes rest chunk behind pairs out written small is w 
             taken = taken.4;
             are = are ∙ ap (λ x. w.done ++ x) taken.5 ∙
                 sym (append_assoc w.done taken.0 taken.1);
-            wrote = wrote;
+            wrote = wrote.wrote;
+            runs = let size = ap length shows.are in omega (arith, runs, wrote.runs, size);
           };
         }
 
 -- Where no frame follows, all pairs were written.
 pub shown_all : (version : Version) (from : List ℕ) (to : Option (List ℕ)) (bytes rest : List ℕ)
-    (pairs : List Pair) (out : List Run) (written : Written) → has_no_frame rest ≡ true →
-    IsShownTo version from to bytes rest pairs out written → Wrote bytes out written pairs
-shown_all version from to bytes rest pairs out written none w =
-    go w.chunks w.more w.spelled w.small w.taken w.are
+    (pairs : List Pair) (out : List Run) (written : Written) (total : ℕ) →
+    has_no_frame rest ≡ true → IsShownTo version from to bytes rest pairs out written total →
+    Wrote bytes out written pairs × (written.runs ≡ total)
+shown_all version from to bytes rest pairs out written total none w =
+    go w.chunks w.more w.spelled w.small w.taken w.are w.runs
   where
     go : (chunks : List (List ℕ)) (more : List Pair) → rest ≡ flat_map framed chunks →
         AllByRecursion IsSmall chunks → AreTaken version w.due chunks more [] →
-        pairs ≡ w.done ++ more → Wrote bytes out written pairs
-    go [] more spelled smalls taken are = subst (Wrote bytes out written)
-        (sym (are ∙ ap (λ x. w.done ++ x) taken.1 ∙ append-nil w.done)) w.wrote
-    go (c ∷ cs) more spelled smalls taken are = absurd (false≢true
+        pairs ≡ w.done ++ more →
+        written.runs + runs_shown version (Range from to) chunks ≡ total →
+        Wrote bytes out written pairs × (written.runs ≡ total)
+    go [] more spelled smalls taken are runs = (
+      subst (Wrote bytes out written)
+          (sym (are ∙ ap (λ x. w.done ++ x) taken.1 ∙ append-nil w.done)) w.wrote,
+      omega (arith, runs),
+    )
+    go (c ∷ cs) more spelled smalls taken are runs = absurd (false≢true
         (sym (begins_frame c (flat_map framed cs) smalls.0) ∙
         ap has_no_frame (sym spelled) ∙ none))
 

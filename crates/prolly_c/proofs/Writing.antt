@@ -1,7 +1,8 @@
 -- An index that is written, run by run.
-use Rattle.std.proofs.Common.{◌≡◌, ℕ, ◌+◌, ◌-◌, ◌<◌, ◌≤◌, List, [], ◌∷◌, ◌++◌}
+use Rattle.std.proofs.Common.{◌≡◌, ℕ, ◌+◌, ◌-◌, ◌<◌, ◌≤◌, ◌⊎◌, inl, inr, List, [], ◌∷◌, ◌++◌}
 use Rattle.std.proofs.Common.{length, take, drop, refl, sym, ap, ◌∙◌, subst, arith, append_assoc}
 use Rattle.std.proofs.Common.{append-nil, set}
+use Rattle.std.proofs.Math.Nat.{eq-or-lt_of_le}
 use Rattle.std.proofs.lemmas.Grind.{take-set_at}
 use Rattle.std.proofs.lemmas.List.{length-append}
 use Rattle.std.proofs.lemmas.List.Concat.{flat_map-append}
@@ -12,8 +13,8 @@ use Rattle.prolly_entry.specs.Spelling.{BeginsWith, pair_spelling}
 use Rattle.prolly_entry.specs.lemmas.Lists.{all_append}
 use Rattle.prolly_entry.specs.lemmas.Spellings.{pair_spellings_apart}
 use Rattle.prolly_c.proofs.Entries.{end_behind, some_bytes}
-use Rattle.prolly_c.specs.Runs.{AreRuns, IsEnd, IsRun}
-use Rattle.prolly_c.specs.Writing.{Passes, Spells, Wrote}
+use Rattle.prolly_c.specs.Runs.{AreRuns, IsEnd, IsRun, runs_for}
+use Rattle.prolly_c.specs.Writing.{Passes, Spells, Wrote, WroteChunk}
 use Rattle.prolly_c.specs.declared.writer.Written.{Written}
 use Rattle.prolly_c.specs.declared.run.Run.{Run}
 
@@ -168,17 +169,18 @@ wrote_full bytes out written done here count wrote many full = record {
 
 -- So far the first pairs of a leaf were added, and the others are left.
 pub record Adds (bytes : List ℕ) (out : List Run) (written : Written) (pairs : List Pair)
-    (tail : List ℕ) (done : List Pair) (left : List ℕ) : Type 0 where
+    (tail : List ℕ) (done : List Pair) (left : List ℕ) (begun : Written) : Type 0 where
   pub added : List Pair
   pub rest : List Pair
   pub are : pairs ≡ added ++ rest
   pub end : IsEnd bytes left
   pub spells : Spells left rest tail
   pub wrote : Wrote bytes out written (done ++ added)
+  pub runs : written.runs + runs_for (length rest) ≡ begun.runs + runs_for (length pairs)
 
 pub adds_none : (bytes : List ℕ) (out : List Run) (written : Written) (pairs : List Pair)
     (tail : List ℕ) (done : List Pair) (left : List ℕ) → IsEnd bytes left → Spells left pairs tail →
-    Wrote bytes out written done → Adds bytes out written pairs tail done left
+    Wrote bytes out written done → Adds bytes out written pairs tail done left written
 adds_none bytes out written pairs tail done left end spells wrote = record {
   added = [];
   rest = pairs;
@@ -186,21 +188,49 @@ adds_none bytes out written pairs tail done left end spells wrote = record {
   end = end;
   spells = spells;
   wrote = subst (Wrote bytes out written) (sym (append-nil done)) wrote;
+  runs = refl;
 }
+
+-- A run of 16 pairs, or of the last ones, is one of those that the pairs have.
+run_more : (here behind : ℕ) → 0 < here → here ≤ 16 → (here ≡ 16) ⊎ (behind ≡ 0) →
+    runs_for (here + behind) ≡ 1 + runs_for behind
+run_more here behind some few (inl full) = omega arith
+run_more here behind some few (inr last) = omega arith
+
+-- No pair is left where no more bytes are left than the tail has.
+none_left : (bytes : List ℕ) (pairs : List Pair) (tail : List ℕ) → Spells bytes pairs tail →
+    length bytes ≤ length tail → length pairs ≡ 0
+none_left bytes [] tail s few = refl
+none_left bytes (q ∷ qs) tail s few = absurd (
+    let same = ap length (s.is ∙ append_assoc (pair_spelling q) (flat_map pair_spelling qs) tail) in
+    let long = length-append (pair_spelling q) (flat_map pair_spelling qs ++ tail) in
+    let more = length-append (flat_map pair_spelling qs) tail in
+    let whole = some_bytes q [] in
+    let own = length-append (pair_spelling q) [] in
+    omega arith)
+
+full_or_last : (count : ℕ) (rest : List ℕ) (pairs : List Pair) (tail : List ℕ) →
+    Spells rest pairs tail → count ≤ 16 → (count < 16 → length rest ≤ length tail) →
+    (count ≡ 16) ⊎ (length pairs ≡ 0)
+full_or_last count rest pairs tail s few full = elim (eq-or-lt_of_le few) [
+  | inl same ↦ inl same
+  | inr less ↦ inr (none_left rest pairs tail s (full less))
+]
 
 -- One run more is added.
 pub adds_run : (bytes : List ℕ) (out next_out : List Run) (written next_written : Written)
-    (pairs : List Pair) (tail : List ℕ) (done : List Pair) (left next : List ℕ) (run : Run)
-    (count : ℕ) → (a : Adds bytes out written pairs tail done left) →
-    Passes left a.rest tail count next → 0 < count →
+    (pairs : List Pair) (tail : List ℕ) (done : List Pair) (left next : List ℕ) (begun : Written)
+    (run : Run) (count : ℕ) → (a : Adds bytes out written pairs tail done left begun) →
+    Passes left a.rest tail count next → 0 < count → count ≤ 16 →
+    (count < 16 → length next ≤ length tail) → next_written.runs ≡ written.runs + 1 →
     run.start ≡ length bytes - length left → run.end ≡ length bytes - length next →
     run.first ≡ written.pairs →
     ((bytes : List ℕ) (done here : List Pair) → Wrote bytes out written done →
     run.first ≡ written.pairs → IsRun bytes run here → count ≡ length here →
     Wrote bytes next_out next_written (done ++ here)) →
-    Adds bytes next_out next_written pairs tail done next
-adds_run bytes out next_out written next_written pairs tail done left next run count a p some start
-    end first wrote = record {
+    Adds bytes next_out next_written pairs tail done next begun
+adds_run bytes out next_out written next_written pairs tail done left next begun run count a p some
+    few full one start end first wrote = record {
       added = a.added ++ p.here;
       rest = p.behind;
       are = a.are ∙ ap (λ x. a.added ++ x) p.are ∙ sym (append_assoc a.added p.here p.behind);
@@ -209,28 +239,43 @@ adds_run bytes out next_out written next_written pairs tail done left next run c
       wrote = subst (Wrote bytes next_out next_written) (append_assoc done a.added p.here)
           (wrote bytes (done ++ a.added) p.here a.wrote first
           (run_there bytes left next a.rest tail count run a.end p some start end) p.many);
+      runs =
+          let more = run_more count (length p.behind) some few
+          (full_or_last count next p.behind tail p.left few full) in
+          let long = ap length p.are ∙ length-append p.here p.behind in
+          let many = p.many in
+          let same : length a.rest ≡ count + length p.behind = omega arith in
+          let so = ap runs_for same ∙ more in
+          let before = a.runs in
+          omega arith;
     }
 
 -- Where no more bytes are left than the tail has, all pairs were added.
 pub adds_all : (bytes : List ℕ) (out : List Run) (written : Written) (pairs : List Pair)
-    (tail : List ℕ) (done : List Pair) (left : List ℕ) → length left ≤ length tail →
-    Adds bytes out written pairs tail done left →
-    (length left ≡ length tail) × Wrote bytes out written (done ++ pairs)
-adds_all bytes out written pairs tail done left few a = go a.rest a.are a.spells
+    (tail : List ℕ) (done : List Pair) (left : List ℕ) (begun : Written) →
+    length left ≤ length tail → Adds bytes out written pairs tail done left begun →
+    (length left ≡ length tail) × WroteChunk bytes out begun written done pairs
+adds_all bytes out written pairs tail done left begun few a = go a.rest a.are a.spells a.runs
   where
     go : (rest : List Pair) → pairs ≡ a.added ++ rest → Spells left rest tail →
-        (length left ≡ length tail) × Wrote bytes out written (done ++ pairs)
-    go [] are spells = (
+        written.runs + runs_for (length rest) ≡ begun.runs + runs_for (length pairs) →
+        (length left ≡ length tail) × WroteChunk bytes out begun written done pairs
+    go [] are spells runs = (
       ap length spells.is,
-      subst (λ x. Wrote bytes out written (done ++ x))
-          (sym (are ∙ append-nil a.added)) a.wrote,
+      record {
+        wrote = subst (λ x. Wrote bytes out written (done ++ x))
+            (sym (are ∙ append-nil a.added)) a.wrote;
+        runs = omega (arith, runs);
+      },
     )
-    go (q ∷ qs) are spells = absurd (
-        let same = ap length (spells.is ∙
-        append_assoc (pair_spelling q) (flat_map pair_spelling qs) tail) in
-        let some = some_bytes q (flat_map pair_spelling qs ++ tail) in
-        let long = length-append (pair_spelling q) (flat_map pair_spelling qs ++ tail) in
-        let more = length-append (flat_map pair_spelling qs) tail in
-        let whole = some_bytes q [] in
-        let own = length-append (pair_spelling q) [] in
-        omega arith)
+    go (q ∷ qs) are spells runs = absurd
+        (let none = none_left left (q ∷ qs) tail spells few in omega arith)
+
+-- A chunk without pairs has no run.
+pub adds_nothing : (bytes : List ℕ) (out : List Run) (written : Written) (done pairs : List Pair) →
+    pairs ≡ [] → Wrote bytes out written done → WroteChunk bytes out written written done pairs
+adds_nothing bytes out written done pairs none wrote = record {
+  wrote = subst (λ x. Wrote bytes out written (done ++ x)) (sym none)
+      (subst (Wrote bytes out written) (sym (append-nil done)) wrote);
+  runs = let size = ap length none in omega arith;
+}

@@ -1,6 +1,6 @@
 -- Proofs of ranges, and the runs that hold what they show. (This project's rules.)
 use Rattle.std.specs.List.{AllByRecursion}
-use Rattle.std.specs.Prelude.{◌≡◌, ◌≤◌, ◌⊎◌, ℕ, Bool, List, [], ◌∷◌, ◌++◌, length, min, take}
+use Rattle.std.specs.Prelude.{◌≡◌, ◌≤◌, ◌⊎◌, ℕ, Bool, List, [], ◌∷◌, ◌++◌, length, map, min, take}
 use Rattle.std.specs.Prelude.{Option, Some, None, if◌then◌else◌}
 use Rattle.prolly_check.specs.FirstFault.{chunk_bytes}
 use Rattle.prolly_check.specs.Kinds.{kind_of}
@@ -22,7 +22,7 @@ use Rattle.prolly_root.specs.declared.proof.fault.ProofFault.{ProofFault}
 use Rattle.prolly_tree.specs.Events.{greatest_count}
 use Rattle.prolly_c.specs.Cursor.{IsAt, first_place}
 use Rattle.prolly_c.specs.Proofs.{status_of_proof}
-use Rattle.prolly_c.specs.Runs.{AreRuns}
+use Rattle.prolly_c.specs.Runs.{AreRuns, runs_in}
 use Rattle.prolly_c.specs.declared.run.Run.{Run}
 
 -- The end of a range, where it is bounded.
@@ -62,12 +62,30 @@ pub record ShowsRange (version : ℕ) (root : List ℕ) (set : KeySet) (bytes : 
   pub proof : IsSetProof format root set bytes pairs
   pub runs_are : AreRuns bytes 0 runs pairs
 
+-- The pairs of the set that a chunk of a proof shows.
+abbrev pub pairs_shown : Version → KeySet → List ℕ → List Pair
+pairs_shown version set chunk = pairs_there set (kind_of version chunk)
+
+-- How many runs the pairs have that the chunks of a proof show.
+abbrev pub runs_shown : Version → KeySet → List (List ℕ) → ℕ
+runs_shown version set chunks = runs_in (map (pairs_shown version set) chunks)
+
+-- The bytes are a proof, and the pairs that it shows have so many runs.
+pub record HasRuns (version : ℕ) (root : List ℕ) (set : KeySet) (bytes : List ℕ) (count : ℕ)
+    : Type 0 where
+  pub format : Version
+  pub format_is : version_byte format ≡ version
+  pub pairs : List Pair
+  pub proof : IsSetProof format root set bytes pairs
+  pub many : count ≡ runs_shown format set proof.chunks
+
 -- They are a proof, and so many runs hold the pairs that it shows, where there is room for them.
 pub record HasShown (version : Version) (root : List ℕ) (set : KeySet) (bytes : List ℕ)
     (out : List Run) (runs : ℕ) : Type 0 where
   pub pairs : List Pair
   pub proof : IsSetProof version root set bytes pairs
   pub runs_are : runs ≤ length out → AreRuns bytes 0 (take runs out) pairs
+  pub many : runs ≡ runs_shown version set proof.chunks
 
 -- The cursor before all pairs stands before those of the map whose keys are of the set, and before no
 -- other; or else a chunk of the proof and a different one of the map's tree have one reference.

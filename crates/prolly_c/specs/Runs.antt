@@ -1,11 +1,13 @@
 -- The runs of an index: the pairs of a chunk file, and where they are spelled in its bytes. (This
 -- project's rules.)
-use Rattle.std.specs.Prelude.{◌≡◌, ℕ, ◌+◌, ◌-◌, ◌<◌, ◌≤◌, List, [], ◌∷◌, ◌++◌, length, take}
-use Rattle.std.specs.Prelude.{drop, get_or, Result, MatchResult}
+use Rattle.std.specs.Prelude.{◌≡◌, ℕ, ◌+◌, ◌-◌, ◌<◌, ◌≤◌, ◌/◌, List, [], ◌∷◌, ◌++◌, length, take}
+use Rattle.std.specs.Prelude.{drop, get_or, map, Result, MatchResult}
 use Rattle.prolly_entry.specs.Keys.{KeyBelow}
 use Rattle.prolly_entry.specs.Pair.{Pair}
+use Rattle.prolly_check.specs.Chunks.{chunks_of}
 use Rattle.prolly_check.specs.Content.{Content}
 use Rattle.prolly_check.specs.Entries.{IsLeaf}
+use Rattle.prolly_check.specs.HeldPairs.{pairs_held}
 use Rattle.prolly_check.specs.Sought.{Sought}
 use Rattle.prolly_check.specs.Sought.Sought.{Key, Number}
 use Rattle.prolly_check.specs.Verdict.{IsFileOf}
@@ -43,6 +45,21 @@ AreRuns bytes number (run ∷ runs) pairs = (here : List Pair) × (behind : List
 pub record IsIndexOf (bytes : List ℕ) (content : Content) (runs : List Run) : Type 0 where
   pub file : IsFileOf bytes content
   pub runs_are : AreRuns bytes 0 runs content.pairs
+
+-- ---- how many runs there are
+
+-- How many runs so many pairs of one chunk have: each has 16, but the last one what is left.
+abbrev pub runs_for : ℕ → ℕ
+runs_for count = (count + 15) / 16
+
+-- How many the pairs of chunks have, of which each has one of these lists.
+abbrev pub runs_in : List (List Pair) → ℕ
+runs_in [] = 0
+runs_in (pairs ∷ lists) = runs_for (length pairs) + runs_in lists
+
+-- How many the pairs of a chunk file have.
+abbrev pub run_count : Content → ℕ
+run_count content = runs_in (map pairs_held (chunks_of content))
 
 -- ---- the run that leads to what is sought
 

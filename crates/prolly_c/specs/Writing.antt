@@ -1,9 +1,9 @@
 -- An index that is written, run by run. (This project's rules.)
 use Rattle.std.specs.List.{flat_map, AllByRecursion}
-use Rattle.std.specs.Prelude.{◌≡◌, ℕ, ◌≤◌, List, ◌++◌, length, take}
+use Rattle.std.specs.Prelude.{◌≡◌, ℕ, ◌+◌, ◌≤◌, List, ◌++◌, length, take}
 use Rattle.prolly_entry.specs.Pair.{Pair, IsPair}
 use Rattle.prolly_entry.specs.Spelling.{pair_spelling}
-use Rattle.prolly_c.specs.Runs.{AreRuns}
+use Rattle.prolly_c.specs.Runs.{AreRuns, runs_for}
 use Rattle.prolly_c.specs.declared.writer.Written.{Written}
 use Rattle.prolly_c.specs.declared.run.Run.{Run}
 
@@ -28,3 +28,9 @@ pub record Wrote (bytes : List ℕ) (out : List Run) (written : Written) (pairs 
   where
     pub many : written.pairs ≡ length pairs
     pub runs_are : written.runs ≤ length out → AreRuns bytes 0 (take written.runs out) pairs
+
+-- So were the pairs of one chunk behind them, in as many runs as these have.
+pub record WroteChunk (bytes : List ℕ) (out : List Run) (before written : Written)
+    (done pairs : List Pair) : Type 0 where
+  pub wrote : Wrote bytes out written (done ++ pairs)
+  pub runs : written.runs ≡ before.runs + runs_for (length pairs)

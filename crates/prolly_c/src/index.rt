@@ -1,9 +1,9 @@
 //! The index of a chunk file.
-ghost use Rattle.std.specs.Prelude.{◌≡◌, ◌⊎◌, ◌≤◌, ◌<◌, length, take};
+ghost use Rattle.std.specs.Prelude.{◌≡◌, ◌≢◌, ◌⊎◌, ◌≤◌, ◌<◌, length, take};
 ghost use Rattle.prolly_check.specs.Content.{Content};
 ghost use Rattle.prolly_check.specs.Verdict.{IsFileOf};
 ghost use Rattle.prolly_c.specs.Cursor.{IsAt, first_place};
-ghost use Rattle.prolly_c.specs.Runs.{IsIndexOf};
+ghost use Rattle.prolly_c.specs.Runs.{IsIndexOf, run_count};
 
 use crate::run::Run;
 use crate::status::{DONE, NO_FILE, NO_ROOM};
@@ -20,6 +20,8 @@ pub extern "C" fn prolly_index(bytes: &[u8], index: &mut [Run], count: &mut usiz
         IsIndexOf bytes.now content (take count.new index.new) }
     ensures within { result ≡ 0 → count.new ≤ length index.new }
     ensures room { result ≡ 3 → length index.new < count.new }
+    ensures counted { result ≢ 5 → (content : Content) → IsFileOf bytes.now content →
+        count.new ≡ run_count content }
     ensures start { result ≡ 0 → (content : Content) → IsFileOf bytes.now content →
         IsAt bytes.now (take count.new index.new) first_place content.pairs }
     ensures stays { result ≡ 5 → count.new ≡ count.old }

@@ -11,8 +11,9 @@ ghost use Rattle.prolly_tree.specs.lemmas.Maps.{Rises};
 ghost use Rattle.prolly_check.specs.Entries.{IsLeaf};
 ghost use Rattle.prolly_check.specs.Leaves.{pairs_from};
 ghost use Rattle.prolly_c.specs.RangeProofs.{HasShown, IsNoRangeProof, Shows, pairs_behind};
+ghost use Rattle.prolly_c.specs.RangeProofs.{runs_shown};
 ghost use Rattle.prolly_c.specs.Runs.{Answers, AreRuns, IsEnd};
-ghost use Rattle.prolly_c.specs.Writing.{Wrote};
+ghost use Rattle.prolly_c.specs.Writing.{Wrote, WroteChunk};
 
 use crate::leaf::entries_from;
 use crate::run::Run;
@@ -60,6 +61,10 @@ fn write_shown(proof: &[u8], from: &[u8], to: Option<&[u8]>, out: &mut [Run]) ->
         IsSetProof version root (Range from.now (option_copied to.entry)) proof.now pairs →
         MatchOption result ⊥ (λ runs. runs ≤ length out.new →
         AreRuns proof.now 0 (take runs out.new) pairs) }
+    ensures count { (version : VersionValue) (root : List ℕ) (pairs : List Pair) →
+        (p : IsSetProof version root (Range from.now (option_copied to.entry)) proof.now pairs) →
+        IfSome result (λ runs. runs ≡
+        runs_shown version (Range from.now (option_copied to.entry)) p.chunks) }
     ensures room { length out.new ≡ length out.old }
 {
     if proof.len() < PROOF_START {
@@ -95,7 +100,7 @@ fn add_shown(
     ensures wrote { (version : VersionValue) (done pairs : List Pair) → IsEnd proof.now rest.now →
         Shows version (Range from.now (option_copied to.entry)) chunk.now pairs →
         Wrote proof.now out.old written done →
-        MatchOption result ⊥ (λ w. Wrote proof.now out.new w (done ++ pairs)) }
+        MatchOption result ⊥ (λ w. WroteChunk proof.now out.new written w done pairs) }
     ensures room { length out.new ≡ length out.old }
 {
     if chunk.is_empty() || chunk[0] != LEAF {

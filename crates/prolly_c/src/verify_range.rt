@@ -7,8 +7,8 @@ ghost use Rattle.prolly_entry.specs.Version.{version_byte};
 ghost use Rattle.prolly_entry.specs.declared.version.Version.{Version as VersionValue};
 ghost use Rattle.prolly_tree.specs.Difference.{IsMap};
 ghost use Rattle.prolly_tree.specs.File.{root_reference};
-ghost use Rattle.prolly_c.specs.RangeProofs.{IsRefusedRange, ProvesRange, ScansOrClash, ShowsRange};
-ghost use Rattle.prolly_c.specs.RangeProofs.{range_of};
+ghost use Rattle.prolly_c.specs.RangeProofs.{HasRuns, IsRefusedRange, ProvesRange, ScansOrClash};
+ghost use Rattle.prolly_c.specs.RangeProofs.{ShowsRange, range_of};
 
 use crate::range::bound;
 use crate::run::Run;
@@ -51,6 +51,8 @@ pub extern "C" fn prolly_verify_range(
     ensures within { result ≡ 0 → count.new ≤ length index.new }
     ensures room { result ≡ 3 → (length index.new < count.new) ×
         ProvesRange version root.now (range_of from.now to.now bounded) proof.now }
+    ensures counted { (result ≡ 0) ⊎ (result ≡ 3) →
+        HasRuns version root.now (range_of from.now to.now bounded) proof.now count.new }
     ensures proofs { ProvesRange version root.now (range_of from.now to.now bounded) proof.now →
         (result ≡ 0) ⊎ ((result ≡ 2) ⊎ (result ≡ 3)) }
     ensures refused { (result ≡ 0) ⊎ ((result ≡ 2) ⊎ ((result ≡ 3) ⊎ ((result ≡ 6) ⊎

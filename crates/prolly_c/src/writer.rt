@@ -7,8 +7,8 @@ ghost use Rattle.prolly_file.specs.Frame.{framed};
 ghost use Rattle.prolly_check.specs.Content.{Content};
 ghost use Rattle.prolly_check.specs.Entries.{Holds};
 ghost use Rattle.prolly_check.specs.Verdict.{IsFileOf};
-ghost use Rattle.prolly_c.specs.Runs.{AreRuns, IsEnd, IsRun};
-ghost use Rattle.prolly_c.specs.Writing.{Passes, Spells, Wrote};
+ghost use Rattle.prolly_c.specs.Runs.{AreRuns, IsEnd, IsRun, run_count};
+ghost use Rattle.prolly_c.specs.Writing.{Passes, Spells, Wrote, WroteChunk};
 
 use crate::run::Run;
 use prolly_check::laws::files_are_accepted;
@@ -33,6 +33,8 @@ pub(crate) fn write_index(bytes: &[u8], out: &mut [Run]) -> Option<usize>
     ensures index { (content : Content) → IsFileOf bytes.now content →
         MatchOption result ⊥ (λ runs. runs ≤ length out.new →
         AreRuns bytes.now 0 (take runs out.new) content.pairs) }
+    ensures count { (content : Content) → IsFileOf bytes.now content →
+        IfSome result (λ runs. runs ≡ run_count content) }
     ensures room { length out.new ≡ length out.old }
 {
     // By this law the frames of a file of a map are those of its chunks.
@@ -67,7 +69,7 @@ fn add_chunk(
     ensures fewer { IfSome result (λ w. w.runs ≤ w.pairs) }
     ensures wrote { (version : Version) (done pairs : List Pair) → IsEnd bytes.now rest.now →
         Holds version chunk.now pairs → Wrote bytes.now out.old written done →
-        MatchOption result ⊥ (λ w. Wrote bytes.now out.new w (done ++ pairs)) }
+        MatchOption result ⊥ (λ w. WroteChunk bytes.now out.new written w done pairs) }
     ensures room { length out.new ≡ length out.old }
 {
     if chunk.is_empty() || chunk[0] != LEAF {
@@ -94,7 +96,7 @@ pub(crate) fn add_leaf(
     ensures wrote { (done pairs : List Pair) (tail : List ℕ) → IsEnd bytes.now entries.now →
         Spells entries.now pairs tail → length tail ≡ behind →
         Wrote bytes.now out.old written done →
-        MatchOption result ⊥ (λ w. Wrote bytes.now out.new w (done ++ pairs)) }
+        MatchOption result ⊥ (λ w. WroteChunk bytes.now out.new written w done pairs) }
     ensures room { length out.new ≡ length out.old }
 {
     let mut left = entries;
@@ -139,6 +141,8 @@ fn add_run(out: &mut [Run], written: Written, run: Run, count: u64) -> Written
 fn pass_run(entries: &[u8], behind: usize) -> Option<(u64, &[u8])>
     ensures shorter { IfSome result (λ r. length r.1.now + r.0 ≤ length entries.now) }
     ensures some { behind < length entries.now → IfSome result (λ r. 0 < r.0) }
+    ensures few { IfSome result (λ r. r.0 ≤ 16) }
+    ensures full { IfSome result (λ r. r.0 < 16 → length r.1.now ≤ behind) }
     ensures passes { (pairs : List Pair) (tail : List ℕ) → Spells entries.now pairs tail →
         length tail ≡ behind →
         MatchOption result ⊥ (λ r. Passes entries.now pairs tail r.0 r.1.now) }

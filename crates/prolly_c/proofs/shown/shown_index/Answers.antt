@@ -5,6 +5,7 @@ returns-in-Some-clause-ok c = let p = c.in_ok-verified.ensures.ok in record {
   pairs = p.pairs;
   proof = p.proof;
   runs_are = c.in-Some.ensures.index c.args.version c.args.root.now.0 p.pairs p.proof;
+  many = c.in-Some.ensures.count c.args.version c.args.root.now.0 p.pairs p.proof;
 }
 
 pub returns-in-None-clause-err : goal.returns-in-None-clause-err

@@ -4,6 +4,7 @@ use Rattle.prolly_range.specs.KeySet.KeySet.{Range}
 use Rattle.prolly_c.proofs.Entries.{end_drop}
 use Rattle.prolly_c.proofs.FileFrames.{frame_length}
 use Rattle.prolly_c.proofs.ShownPairs.{has_start, next_shown, shown_all, shown_none}
+use Rattle.prolly_c.specs.RangeProofs.{runs_shown}
 use Rattle.prolly_c.proofs.shown.write_shown.Goals as goal
 
 pub returns-then-proof-lt-PROOF_START-clause-index : goal.returns-then-proof-lt-PROOF_START-clause-index
@@ -29,7 +30,8 @@ returns-in_err-written-clause-index c = λ version root pairs p.
     let w = c.loop-chunk.invariant.indexed version root pairs p in
     let next = next_shown version c.args.from.now (option_copied c.args.to) c.args.proof.now
     c.loop-chunk.rest.now c.in-Some.chunk.now c.in-Some.behind.now pairs c.loop-chunk.out
-    c.loop-chunk.written c.in-Some.ensures.found.0 c.in-Some.ensures.found.1 w in
+    c.loop-chunk.written
+    (runs_shown version (Range c.args.from.now (option_copied c.args.to)) p.chunks) c.in-Some.ensures.found.0 c.in-Some.ensures.found.1 w in
     absurd (c.in_err-written.ensures.wrote version w.done next.here w.end next.shows w.wrote)
 
 pub loop-chunk-preserved : goal.loop-chunk-preserved
@@ -43,7 +45,8 @@ loop-chunk-preserved c = record {
       let w = c.loop-chunk.invariant.indexed version root pairs p in
       let next = next_shown version c.args.from.now (option_copied c.args.to) c.args.proof.now
       c.loop-chunk.rest.now c.in-Some.chunk.now c.in-Some.behind.now pairs c.loop-chunk.out
-      c.loop-chunk.written c.in-Some.ensures.found.0 c.in-Some.ensures.found.1 w in
+      c.loop-chunk.written
+      (runs_shown version (Range c.args.from.now (option_copied c.args.to)) p.chunks) c.in-Some.ensures.found.0 c.in-Some.ensures.found.1 w in
       next.goes_on c.add_shown.new.out c.in_ok-written.written
       (c.in_ok-written.ensures.wrote version w.done next.here w.end next.shows w.wrote);
 }
@@ -51,5 +54,15 @@ loop-chunk-preserved c = record {
 pub returns-clause-index : goal.returns-clause-index
 returns-clause-index c = λ version root pairs p. (shown_all version c.args.from.now
     (option_copied c.args.to) c.args.proof.now c.loop-chunk.rest.now pairs c.loop-chunk.out
-    c.loop-chunk.written (c.in_default.ensures.none refl)
-    (c.loop-chunk.invariant.indexed version root pairs p)).runs_are
+    c.loop-chunk.written
+    (runs_shown version (Range c.args.from.now (option_copied c.args.to)) p.chunks)
+    (c.in_default.ensures.none refl)
+    (c.loop-chunk.invariant.indexed version root pairs p)).0.runs_are
+
+pub returns-clause-count : goal.returns-clause-count
+returns-clause-count c = λ version root pairs p. (shown_all version c.args.from.now
+    (option_copied c.args.to) c.args.proof.now c.loop-chunk.rest.now pairs c.loop-chunk.out
+    c.loop-chunk.written
+    (runs_shown version (Range c.args.from.now (option_copied c.args.to)) p.chunks)
+    (c.in_default.ensures.none refl)
+    (c.loop-chunk.invariant.indexed version root pairs p)).1

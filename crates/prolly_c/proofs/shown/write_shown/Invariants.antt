@@ -5,6 +5,7 @@ use Rattle.prolly_entry.specs.declared.version.Version.{Version}
 use Rattle.prolly_range.specs.KeySet.KeySet.{Range}
 use Rattle.prolly_range.specs.SetProof.{IsSetProof}
 use Rattle.prolly_c.proofs.ShownPairs.{IsShownTo}
+use Rattle.prolly_c.specs.RangeProofs.{runs_shown}
 use Rattle.prolly_c.proofs.shown.write_shown.Given as goal
 
 abbrev pub invariant-loop-chunk : goal.invariant-loop-chunk
@@ -14,8 +15,9 @@ invariant-loop-chunk l = record {
   fewer : l.written.runs ≤ l.written.pairs;
   room : length l.out ≡ length l.fn.out;
   indexed : (version : Version) (root : List ℕ) (pairs : List Pair) →
-      IsSetProof version root (Range l.from (option_copied l.fn.to)) l.proof pairs →
-      IsShownTo version l.from (option_copied l.fn.to) l.proof l.rest pairs l.out l.written;
+      (p : IsSetProof version root (Range l.from (option_copied l.fn.to)) l.proof pairs) →
+      IsShownTo version l.from (option_copied l.fn.to) l.proof l.rest pairs l.out l.written
+      (runs_shown version (Range l.from (option_copied l.fn.to)) p.chunks);
 }
 
 abbrev pub decreases-loop-chunk : goal.decreases-loop-chunk

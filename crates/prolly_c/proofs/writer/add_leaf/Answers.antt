@@ -29,16 +29,18 @@ loop-left-preserved c =
       adds = λ done pairs tail end spells long wrote.
           let a = c.loop-left.invariant.adds done pairs tail end spells long wrote in
           adds_run c.args.bytes.now c.loop-left.out c.add_run-here.new.out c.loop-left.here
-          c.add_run-here.result pairs tail done c.loop-left.left.now c.in_ok-count.rest.now _
-          c.in_ok-count.count a (c.in_ok-count.ensures.passes a.rest tail a.spells long) some refl
-          refl refl c.add_run-here.ensures.wrote;
+          c.add_run-here.result pairs tail done c.loop-left.left.now c.in_ok-count.rest.now
+          c.args.written _ c.in_ok-count.count a
+          (c.in_ok-count.ensures.passes a.rest tail a.spells long) some c.in_ok-count.ensures.few
+          (λ less. let full = c.in_ok-count.ensures.full less in omega arith)
+          c.add_run-here.ensures.runs refl refl refl c.add_run-here.ensures.wrote;
     }
 
 pub returns-then-left-behind-clause-wrote : goal.returns-then-left-behind-clause-wrote
 returns-then-left-behind-clause-wrote c = λ done pairs tail end spells long wrote.
     let a = c.loop-left.invariant.adds done pairs tail end spells long wrote in
     let all = adds_all c.args.bytes.now c.loop-left.out c.loop-left.here pairs tail done
-    c.loop-left.left.now (omega arith) a in
+    c.loop-left.left.now c.args.written (omega arith) a in
     let same = all.0 in
     absurd (omega arith)
 
@@ -46,4 +48,4 @@ pub returns-clause-wrote : goal.returns-clause-wrote
 returns-clause-wrote c = λ done pairs tail end spells long wrote.
     let a = c.loop-left.invariant.adds done pairs tail end spells long wrote in
     (adds_all c.args.bytes.now c.loop-left.out c.loop-left.here pairs tail done
-    c.loop-left.left.now (omega arith) a).1
+    c.loop-left.left.now c.args.written (omega arith) a).1

@@ -14,7 +14,7 @@ invariant-loop-left l = record {
   adds : (done pairs : List Pair) (tail : List ℕ) → IsEnd l.bytes l.fn.entries →
       Spells l.fn.entries pairs tail → length tail ≡ l.behind →
       Wrote l.bytes l.fn.out l.fn.written done →
-      Adds l.bytes l.out l.here pairs tail done l.left;
+      Adds l.bytes l.out l.here pairs tail done l.left l.fn.written;
 }
 
 abbrev pub decreases-loop-left : goal.decreases-loop-left

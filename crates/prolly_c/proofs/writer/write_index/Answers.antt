@@ -48,4 +48,9 @@ loop-chunk-preserved c = record {
 pub returns-clause-index : goal.returns-clause-index
 returns-clause-index c = λ content f. (written_all c.args.bytes.now c.loop-chunk.rest.now content
     c.loop-chunk.out c.loop-chunk.written (c.in_default.ensures.none refl)
-    (c.loop-chunk.invariant.indexed content f)).runs_are
+    (c.loop-chunk.invariant.indexed content f)).0.runs_are
+
+pub returns-clause-count : goal.returns-clause-count
+returns-clause-count c = λ content f. (written_all c.args.bytes.now c.loop-chunk.rest.now content
+    c.loop-chunk.out c.loop-chunk.written (c.in_default.ensures.none refl)
+    (c.loop-chunk.invariant.indexed content f)).1
