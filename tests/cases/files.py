@@ -157,6 +157,16 @@ def is_printed_to_itself(place, words):
     place.holds(in_prl=TREE, old_prl=OLD_TREE)
 
 
+def keys_are_printed_to(place, words):
+    """A standard output that is the file of the keys which are sought."""
+    keys = b"61\n62\n"
+    place.lay(in_prl=TREE, keys=keys, proof=PROOF)
+    with open(place.path("keys"), "ab") as stdout:
+        answer = place.run(*words, stdout=stdout)
+    place.answers(answer, refusal(b"OUT is also an input: keys"))
+    place.holds(in_prl=TREE, keys=keys, proof=PROOF)
+
+
 def is_standard_input(place, words):
     """OUT is the file behind standard input."""
     place.lay(in_rec=A)
@@ -301,7 +311,8 @@ def one_of_two(place):
 
 
 def fails(place, command, flags, call, number, wanted):
-    """A call fails with `no space left`: after that no byte is written to OUT, which holds a first part, or what it held."""
+    """A call fails with `no space left`: after that no byte is written to OUT, which holds a first part, or what it held. Of a
+    new OUT no byte of which could be written nothing stays."""
     words, given, made, _ = WRITERS[command]
     files = laid(place)
     is_beside = "--atomic" in flags or command not in IN_PLACE
@@ -315,13 +326,14 @@ def fails(place, command, flags, call, number, wanted):
         files["in"] = given
     answer, calls = place.meddled(*words, *flags, stdin=stdin, meddle={"fail": f"{call} {number} {errno.ENOSPC}"})
     place.answers(answer, wanted)
+    if not is_beside and call == "write" and number == 1:
+        place.holds(**files)
+        return
     left = place.path("out").read_bytes()
     if is_beside and left != before:
         place.note("OUT was changed")
     if not is_beside and not made.startswith(left):
         place.note("OUT holds no first part")
-    if not is_beside and call == "write" and number == 1 and left:
-        place.note("OUT was written after a write that failed")
     if is_beside and call == "write" and sum(line.startswith("write ") for line in calls) != number + 1:
         place.note(f"calls {calls}")
     place.holds(out=None, **files)
@@ -329,7 +341,7 @@ def fails(place, command, flags, call, number, wanted):
 
 def no_write_after_a_failed_one(place, words, begun, whole):
     """Each write of a command fails in turn, and none follows it but that of the line: OUT is a first part of what may be
-    begun, or whole where only what was to be printed failed. Where nothing may be begun, there is no OUT."""
+    begun, or whole where only what was to be printed failed. Where nothing may be or was begun, there is no OUT."""
     pairs = numbered(MANY)
     files = {"a_rec": records(pairs), "a_prl": chunk_file(pairs, 2), "none_prl": chunk_file([], 2)}
     place.lay(**files)
@@ -346,7 +358,7 @@ def no_write_after_a_failed_one(place, words, begun, whole):
         if writes[number - 1] == "write 1":
             is_right = left == whole
         else:
-            is_right = left is None if begun is None else begun.startswith(left)
+            is_right = left is None if begun is None or number == 1 else begun.startswith(left)
         if len(writes) != number + 1 or not is_right:
             place.note(f"write {number}: {len(writes)} writes, {left and len(left)} bytes left")
         place.path("out").unlink(missing_ok=True)
@@ -610,6 +622,8 @@ def inputs_written():
             yield f"OUT is a chunk file: {' '.join(words)}", partial(is_a_chunk_file, words=words, name=file.encode())
     for words in (["dump", "in.prl"], ["diff", "in.prl", "old.prl"], ["diff", "old.prl", "in.prl"], ["dump", "--hex", "in.prl"], ["diff", "--stat", "in.prl", "old.prl"]):
         yield f"standard output is a chunk file: {' '.join(words)}", partial(is_printed_to_itself, words=words)
+    for words in (["get", "--keys", "keys", "in.prl"], ["get", "--keys", "keys", *ROOT, "in.prl"], ["verify", "--keys", "keys", ROOT[1], "proof"]):
+        yield f"standard output is the file of keys: {' '.join(words)}", partial(keys_are_printed_to, words=words)
     for words in (["pack", "in.rec"], ["pack", "--sort", "in.rec"], ["scratch", "--out", "in.rec"], ["scratch", "--atomic", "--out", "in.rec"], ["build", "in.rec", "/dev/stdin"]):
         yield f"OUT is standard input: {' '.join(words)}", partial(is_standard_input, words=words)
     for words in (["build", "/dev/stdout", "a.rec"], ["pack", "--atomic", "log"], *(in_place_of_out(words, "log") for words, *_ in WRITERS.values())):

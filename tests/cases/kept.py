@@ -19,7 +19,7 @@ from cases.files import FAULTS, WRITERS, in_place_of_out, laid, refusal
 from cases.scratch import ABC
 from oracle.proof import proof_of
 from oracle.trees import chunk_file, records, report, root_text, tree
-from support.place import Place, compiled
+from support.place import NOBODY, Place, compiled
 
 TABLE = b"apple\t3\npear\t5\n"
 """A table of text, which is no chunk file, no proof and no record file."""
@@ -223,10 +223,95 @@ def is_busy(place):
         with open(place.path("wait"), "wb", buffering=0) as pipe:
             pipe.write(records(ABC[:1]))
             wait_until_read(pipe)
-            place.answers(place.run("build", name, "a.rec"), refusal(b"another run writes OUT: " + name.encode()))
+            for flags in ([], ["--atomic"]):
+                place.answers(place.run("build", *flags, name, "a.rec"), refusal(b"another run writes OUT: " + name.encode()))
         out, err = process.communicate(timeout=60)
         place.answers((process.returncode, out, err), (0, report(ABC, 0), b""))
     place.holds(a_rec=records(ABC), wait=None, out=chunk_file(ABC, 0), new=chunk_file(ABC, 0))
+
+
+# ---- another file in OUT's place
+
+
+def is_lost(place):
+    """A build in place says that another file took OUT's name, or that OUT was taken away, and touches nothing that came."""
+    place.lay(a_rec=records(ABC), out=OLD_FILES["chunk file"])
+    os.mkfifo(place.path("wait"))
+    for name, comes, line in (("out", True, b"another run writes OUT: out"), ("new", True, b"another run writes OUT: new"), ("gone", False, b"cannot open gone")):
+        process = place.start(["build", "--bits", "0", name, "a.rec", "wait"])
+        with open(place.path("wait"), "wb", buffering=0) as pipe:
+            pipe.write(records(ABC[:1]))
+            wait_until_read(pipe)
+            place.path(name).unlink()
+            if comes:
+                place.lay(**{name: PICTURE})
+        out, err = process.communicate(timeout=60)
+        place.answers((process.returncode, out, err), refusal(line))
+    place.holds(a_rec=records(ABC), wait=None, out=PICTURE, new=PICTURE)
+
+
+def is_not_its_own(place):
+    """A run that fails before it writes takes away the OUT that it made, and not the file that came in its place."""
+    for comes in (False, True):
+        process = place.start(["scratch", "--out", "out"], stdin=subprocess.PIPE)
+        wait_until_there(place.path("out"))
+        if comes:
+            place.path("out").unlink()
+            place.lay(out=OLD_FILES["chunk file"])
+        out, err = process.communicate(b"\0", timeout=60)
+        place.answers((process.returncode, out, err), (3, b"", b"prolly: file 0: record 0 is cut\n"))
+        place.holds(**({"out": OLD_FILES["chunk file"]} if comes else {}))
+
+
+def is_a_newcomer(place, before, force):
+    """A file of another kind, or a folder, that came in OUT's place while a command ran is not written over."""
+    if before is not None:
+        place.lay(out=before)
+    process = place.start(["pack", *(["--force"] if force else []), "out"], stdin=subprocess.PIPE)
+    wait_until_there(place.path("out.0.tmp"))
+    place.path("out").unlink(missing_ok=True)
+    place.lay(out=PICTURE)
+    out, err = process.communicate(lines(ABC), timeout=60)
+    place.answers((process.returncode, out, err), (0, b"3\n", b"") if force else refusal(b"OUT is not a record file: out"))
+    place.holds(out=records(ABC) if force else PICTURE)
+
+
+def is_a_new_folder(place):
+    """So is a folder that came in OUT's place."""
+    process = place.start(["pack", "--force", "out"], stdin=subprocess.PIPE)
+    wait_until_there(place.path("out.0.tmp"))
+    place.path("out").mkdir()
+    out, err = process.communicate(lines(ABC), timeout=60)
+    place.answers((process.returncode, out, err), refusal(b"cannot replace out"))
+    place.path("out").rmdir()
+    place.holds()
+
+
+def has_its_owner(place, command):
+    """A file that replaces OUT is the same user's and group's, where the system allows that. Where it does not, OUT's group may
+    not use it."""
+    words, given, made, wanted = WRITERS[command]
+    flags = ["--atomic"] if command in IN_PLACE else []
+    for is_nobody, mode, after in ((False, 0o640, (1234, 1235, 0o640)), (True, 0o666, (NOBODY, NOBODY, 0o606))):
+        if os.geteuid() != 0:
+            return
+        files = laid(place)
+        place.lay(out=OLD_FILES[KINDS[command]])
+        os.chown(place.path("out"), 1234, 1235)
+        place.path("out").chmod(mode)
+        place.answers(place.run(*words, *flags, stdin=given or b"", is_nobody=is_nobody), wanted)
+        found = place.path("out").stat()
+        if (found.st_uid, found.st_gid, stat.S_IMODE(found.st_mode)) != after:
+            place.note(f"OUT is that of {found.st_uid}, {found.st_gid}, with {stat.S_IMODE(found.st_mode):o}")
+        place.holds(out=made, **files)
+
+
+def wait_until_there(path):
+    """Waits, a minute at most, until a file is there."""
+    for _ in range(60_000):
+        if path.exists():
+            return
+        time.sleep(0.001)
 
 
 def wait_until_read(pipe):
@@ -351,7 +436,11 @@ def tests():
         yield f"{command}: a file for its owner", partial(is_for_its_owner, command=command)
         yield f"{command}: whole without its line", partial(is_whole_without_its_line, command=command)
         yield f"{command}: whole without its folder", partial(is_whole_without_its_folder, command=command)
-    for test in (is_not_readable, has_no_files, names_all_files, stays_before_the_header, is_made_early, is_busy):
+        yield f"{command}: a file for its owner and group", partial(has_its_owner, command=command)
+    for before in (None, OLD_FILES["record file"]):
+        for force in (False, True):
+            yield f"a newcomer, {'forced' if force else 'not forced'}", partial(is_a_newcomer, before=before, force=force)
+    for test in (is_not_readable, has_no_files, names_all_files, stays_before_the_header, is_made_early, is_busy, is_lost, is_not_its_own, is_a_new_folder):
         yield test.__name__.replace("_", " "), test
     yield from failing()
 

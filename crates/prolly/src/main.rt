@@ -10,6 +10,7 @@ mod links;
 mod output;
 mod output_kind;
 mod patient;
+mod place;
 mod refusal;
 mod run_files;
 mod streams;

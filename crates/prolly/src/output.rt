@@ -1,11 +1,12 @@
 //! The file that a command writes.
+use crate::file_id::Found;
+use crate::place::Place;
 use crate::refusal::Refusal;
+use crate::target::Target;
 use prolly_answer::{Answer, Fault, NameFault};
 use std::alloc::AllocError;
-use std::fs::{File, Permissions};
+use std::fs::File;
 use std::io::{ErrorKind, Seek, SeekFrom, Write};
-use std::os::unix::fs::PermissionsExt;
-use std::path::PathBuf;
 use std::{fs, io};
 
 /// How many bytes are written to an output at once.
@@ -20,44 +21,32 @@ const DONE: u8 = 1;
 /// What was in the output stays until the first byte is written, and where the file is one beside
 /// it, until that is whole.
 #[derive(Drop)]
-pub struct Output {
+pub struct Output<'a> {
+    target: Target<'a>,
     file: File,
     place: Place,
     has_begun: bool,
-    sync: bool,
 }
 
-/// Where the file of an output stands.
-#[derive(Drop)]
-pub enum Place {
-    /// In the output's place. This run made it.
-    New(PathBuf),
-    /// In the output's place, where a regular file was before.
-    Old,
-    /// The output is a pipe, a terminal or a device.
-    Stream,
-    /// Beside the output, which it is to replace.
-    Beside(Replacement),
-}
-
-/// The name of a file, that of the file which it is to replace, and the mode of that, where it is
-/// there.
-#[derive(Drop)]
-pub struct Replacement {
-    pub beside: PathBuf,
-    pub target: PathBuf,
-    pub mode: Option<u32>,
-}
-
-impl Output {
-    /// The output whose bytes go to this file, in this place. With `sync` it is brought to the disk.
-    pub fn new(file: File, place: Place, sync: bool) -> Output {
-        Output {
+impl<'a> Output<'a> {
+    /// Opens or makes the output of a command that prints nothing where it is done. An output that
+    /// is the file behind standard output is refused.
+    pub fn open(rt: &HostRuntime, target: Target<'a>) -> Result<Output<'a>, Refusal> {
+        target.refuse_printed(rt)?;
+        let (file, place) = target.made(rt)?;
+        Ok(Output {
+            target,
             file,
             place,
             has_begun: false,
-            sync,
-        }
+        })
+    }
+
+    /// Opens or makes the output of a command that prints an answer. An output that is the file or
+    /// the pipe behind standard output is refused: the answer would be written into it.
+    pub fn open_beside_answer(rt: &HostRuntime, target: Target<'a>) -> Result<Output<'a>, Refusal> {
+        target.refuse_printed_pipe(rt)?;
+        Output::open(rt, target)
     }
 
     /// Keeps the file where the command's answer is that it is done. Else nothing stays beside the
@@ -66,14 +55,13 @@ impl Output {
     pub fn finish(
         &self,
         rt: &HostRuntime,
-        name: &str,
         answer: Result<Answer, AllocError>,
     ) -> Result<Answer, Refusal> {
         match answer {
-            Ok(done) if done.status <= DONE => match self.keep(rt, name) {
-                Ok(()) => Ok(done),
-                Err(lost) => Err(lost.refusal(rt, name)),
-            },
+            Ok(done) if done.status <= DONE => {
+                self.keep(rt)?;
+                Ok(done)
+            }
             answer => {
                 self.remove(rt);
                 Ok(answer?)
@@ -99,43 +87,56 @@ impl Output {
     }
 
     /// Puts the file in its place, and on the disk where that was asked for.
-    fn keep(&self, rt: &HostRuntime, name: &str) -> Result<(), Lost> {
-        match self.put(rt, name) {
-            Ok(Some(folder)) => synced(&folder),
+    fn keep(&self, rt: &HostRuntime) -> Result<(), Refusal> {
+        match self.put(rt) {
+            Ok(Some(folder)) => self.told(rt, synced(&folder)),
             Ok(None) => Ok(()),
-            Err(lost) => {
+            Err(refusal) => {
                 self.remove(rt);
-                Err(lost)
+                Err(refusal)
             }
         }
     }
 
     /// Puts the file in its place. Gives its folder, where that is to be brought to the disk.
-    fn put(&self, rt: &HostRuntime, name: &str) -> Result<Option<File>, Lost> {
+    fn put(&self, rt: &HostRuntime) -> Result<Option<File>, Refusal> {
         let Place::Beside(replacement) = &self.place else {
-            return self.on_disk(rt, name);
+            let folder = self.told(rt, self.on_disk(rt, self.target.name()))?;
+            self.refuse_lost(rt)?;
+            return Ok(folder);
         };
-        if let Some(mode) = replacement.mode {
-            if self
-                .file
-                .set_permissions(Permissions::from_mode(mode))
-                .is_err()
-            {
-                return Err(Lost::Place);
+        if let Some(access) = replacement.old {
+            if access.give_to(&self.file).is_err() {
+                return Err(self.target.refused(rt, NameFault::CannotReplace));
             }
         }
-        let folder = self.on_disk(rt, replacement.beside.as_str())?;
+        let folder = self.told(rt, self.on_disk(rt, replacement.beside.as_str()))?;
+        self.target.refuse_newcomer(rt)?;
         if fs::rename(rt, &replacement.beside, &replacement.target).is_err() {
-            return Err(Lost::Place);
+            return Err(self.target.refused(rt, NameFault::CannotReplace));
         }
         Ok(folder)
+    }
+
+    /// Refuses where the file was written in its place, and the name does not lead to it any more.
+    fn refuse_lost(&self, rt: &HostRuntime) -> Result<(), Refusal> {
+        if let Place::Stream = self.place {
+            return Ok(());
+        }
+        let metadata = self.told(rt, self.metadata())?;
+        self.target.refuse_other_file(rt, metadata)
+    }
+
+    /// What the file is.
+    fn metadata(&self) -> Result<Found, Lost> {
+        Ok(Found::of(&self.file.metadata()?))
     }
 
     /// Brings the file of this name to the disk where that was asked for, and opens its folder,
     /// which has its name. The folder is opened before the file takes its place, since after that
     /// nothing may want memory.
     fn on_disk(&self, rt: &HostRuntime, name: &str) -> Result<Option<File>, Lost> {
-        if !self.sync {
+        if !self.target.mode().sync {
             return Ok(None);
         }
         synced(&self.file)?;
@@ -153,24 +154,42 @@ impl Output {
             Place::Beside(replacement) => {
                 let _ = fs::remove_file(rt, &replacement.beside);
             }
-            Place::New(path) if !self.has_begun => {
+            Place::New(path) if !self.has_begun && self.is_own(rt, path.as_str()) => {
                 let _ = fs::remove_file(rt, path);
             }
             _ => {}
         }
     }
+
+    /// Whether the name leads to the file, and not to one that came in its place meanwhile.
+    fn is_own(&self, rt: &HostRuntime, name: &str) -> bool {
+        match (Found::at(rt, name), self.metadata()) {
+            (Ok(found), Ok(file)) => found.is_same_file(file),
+            _ => false,
+        }
+    }
+
+    /// The same, where what was lost is told to the user.
+    fn told<T>(&self, rt: &HostRuntime, done: Result<T, Lost>) -> Result<T, Refusal> {
+        match done {
+            Ok(done) => Ok(done),
+            Err(Lost::Memory) => Err(Refusal::Memory),
+            Err(Lost::Disk) => Err(Refusal::of_fault(rt, Fault::Write)),
+        }
+    }
 }
 
-impl Write for Output {
+impl Write for Output<'_> {
     /// Writes to the file, which is emptied before its first byte.
     fn write(&mut self, buf: &[u8]) -> io::Result<usize> {
         if !self.has_begun && !buf.is_empty() {
             if let Place::Old = self.place {
                 self.file.set_len(0)?;
             }
-            self.has_begun = true;
         }
-        self.file.write(buf)
+        let count = self.file.write(buf)?;
+        self.has_begun = self.has_begun || count > 0;
+        Ok(count)
     }
 
     fn flush(&mut self) -> io::Result<()> {
@@ -178,22 +197,10 @@ impl Write for Output {
     }
 }
 
-/// What a file that was written did not come to, or that there was no memory to bring it there.
+/// Why a file did not come to the disk.
 enum Lost {
     Memory,
-    Place,
     Disk,
-}
-
-impl Lost {
-    /// What is told of it, for the output of this name.
-    fn refusal(self, rt: &HostRuntime, name: &str) -> Refusal {
-        match self {
-            Lost::Memory => Refusal::Memory,
-            Lost::Place => Refusal::of_name(rt, NameFault::CannotReplace, name),
-            Lost::Disk => Refusal::of_fault(rt, Fault::Write),
-        }
-    }
 }
 
 impl From<io::Error> for Lost {

@@ -12,7 +12,7 @@ use std::fs::File;
 use std::path::PathBuf;
 
 /// A run that is written. The last one takes the output's place.
-pub type RunFile = Buffered<ToWrite<Output>>;
+pub type RunFile<'a> = Buffered<ToWrite<Output<'a>>>;
 
 /// Makes files beside the output. One that is read back has no name any more, so that nothing of it
 /// is left, however the program ends.
@@ -21,7 +21,7 @@ pub struct RunFiles<'a> {
     rt: &'a HostRuntime,
     target: Target<'a>,
     /// The first file, until it is asked for.
-    first: Option<Output>,
+    first: Option<Output<'a>>,
     /// The names of the files that were made. Those that were read back have lost theirs.
     names: Vec<PathBuf>,
 }
@@ -42,8 +42,8 @@ impl<'a> RunFiles<'a> {
     }
 
     /// Makes a file, and notes its name.
-    fn made(&mut self) -> Result<Output, Refusal> {
-        let output = self.target.open_beside_answer(self.rt)?;
+    fn made(&mut self) -> Result<Output<'a>, Refusal> {
+        let output = Output::open_beside_answer(self.rt, self.target)?;
         if let Some(name) = output.name_beside() {
             if let Err(AllocError) = self.note(name) {
                 let _ = fs::remove_file(self.rt, name);
@@ -79,11 +79,11 @@ impl<'a> RunFiles<'a> {
     }
 }
 
-impl RunStore<RunFile, FromRead<File>> for RunFiles<'_> {
+impl<'a> RunStore<RunFile<'a>, FromRead<File>> for RunFiles<'a> {
     // No contract can say what a file keeps.
     ghost keeps = { λ _. false };
 
-    fn create(&mut self) -> Result<RunFile, StoreFault> {
+    fn create(&mut self) -> Result<RunFile<'a>, StoreFault> {
         let output = match self.first.take() {
             Some(first) => first,
             None => match self.made() {
@@ -96,7 +96,7 @@ impl RunStore<RunFile, FromRead<File>> for RunFiles<'_> {
         Ok(Buffered::with_capacity(self.rt.alloc(), OUTPUT_BYTES, sink)?)
     }
 
-    fn read_back(&mut self, file: RunFile) -> Result<FromRead<File>, StoreFault> {
+    fn read_back(&mut self, file: RunFile<'a>) -> Result<FromRead<File>, StoreFault> {
         let output = file.sink().writer();
         let Some(back) = output.read_back(self.rt) else {
             return Err(StoreFault::Read);

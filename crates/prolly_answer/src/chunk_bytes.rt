@@ -118,6 +118,7 @@ impl Sample {
 /// The bits that were chosen for a tree, and by what.
 #[derive(Clone, Copy, Debug, PartialEq, Eq)]
 pub struct ChosenBits {
+    /// The number of bits.
     pub bits: u8,
     /// How many bytes an entry that was seen has on average, rounded down.
     pub mean: u64,

@@ -204,7 +204,7 @@ pub(crate) fn to_option<'a>(alloc: Global) -> Arg<'a>
     ensures { IsReadBy to_option result }
 {
     text_option(alloc, "to", "KEY").help(
-        "The end of the range, before KEY; without it, the range has no end. Needs --from",
+        "End the range before KEY; without it, the range has no end. Needs --from",
     )
 }
 

@@ -34,10 +34,10 @@ An output that is also an input is refused, and nothing is touched. So is one
 that is a file of another kind, unless --force is given: where it has bytes, it
 is to begin as what is to be written begins.
 
-A record file and a proof are written to a file beside the output, under its
-name and `.0.tmp` (or the next number that is free), which takes its place once
-it is whole: after a fault the output is as it was. A chunk file is written so
-with --atomic. Without it, what the output held is gone as soon as there is
+Record files, lines and proofs are written to a file beside the output, under
+its name and `.0.tmp` (or the next number that is free), which takes its place
+once it is whole: after a fault the output is as it was. A chunk file is written
+so with --atomic. Without it, what the output held is gone as soon as there is
 something to write, and after a later fault the output holds a first part.
 Only a run that is killed may leave a file beside the output.
 
@@ -190,12 +190,12 @@ pub(crate) const EXPLAIN: Help<'static> = Help {
 is good where it is at most 16,777,216 whole records, keys and values are not
 longer than they may be, and the keys rise strictly.
 
-Where it is good, prints `ok` and the number of its records.
+Where it is good, this prints `ok` and the number of its records.
 
-Where it is not, prints of the first flawed record its place, counted from 0,
-the offset of its first byte, what is wrong with it, its key, and the key before
-it, where there are such; of a key of more than 64 bytes the first 64. The exit
-status is 1 then.
+Where it is not, this prints the place of the first flawed record, counted from
+0, the offset of its first byte, what is wrong with it, its key, and the key
+before it, where there are such; of a key of more than 64 bytes the first 64.
+The exit status is 1 then.
 
 Keys are shown in hexadecimal, or with --text as text, with the escapes of
 `pack --text`.
@@ -250,9 +250,9 @@ vouches for what stands there. Where the root was lost it is found so, and then
 
 pub(crate) const STAT: Help<'static> = Help {
     about: "Print the numbers of a chunk file or of a record file",
-    details: "Prints the numbers of a chunk file or of a record file. Which of the two FILE is
-its first four bytes tell: a chunk file begins with `PRLY`, and no good record
-file does.
+    details: "Prints the numbers of a chunk file or of a record file. The first four bytes of
+FILE tell which of the two it is: a chunk file begins with `PRLY`, and no good
+record file does.
 
 Of a chunk file these are the text of its root, its --format and --bits, and its
 numbers of pairs, chunks and bytes; and of each level its numbers of chunks,
@@ -464,7 +464,7 @@ with the next one that has a value, or at the end. So what is printed is right
 for ROOT, and the exit status tells whether it is all.
 
 The proof is read from PROOF, or from standard input where PROOF is not given.
-That of a range, or of many keys, may be of any size.
+A proof of a range, or of many keys, may be of any size.
 
 With --text keys are taken, and what is shown is printed, as text, with the
 escapes of `pack --text`.

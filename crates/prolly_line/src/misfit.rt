@@ -44,9 +44,8 @@ pub(crate) enum Misfit {
 }
 
 impl Misfit {
-    /// What of the words behind the first one does not fit, of a command that takes a key, and
-    /// behind it a word that goes by the name `last`; with `--from` or `--keys` there is no key, and
-    /// the last word stands in its place.
+    /// Which of the words do not fit. The command takes a key, and behind it a word of the name
+    /// `last`. With `--from` or `--keys` there is no key, and the last word stands in its place.
     pub(crate) fn of(given: &ArgMatches<'_>, last: &str, needs_last: bool) -> Option<Misfit>
         ensures some { IfSome result (λ _. AreMisfit last.now needs_last (rows_in given.now)) }
         ensures none { IfNone result (DoFit last.now needs_last (rows_in given.now)) }

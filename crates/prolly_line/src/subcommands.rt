@@ -72,7 +72,7 @@ const SHOWN_KEYS: &str = "Print keys as text in place of hexadecimal";
 const ASIDE: &str = "Write a file beside the output, and put it in its place once it is whole";
 
 // What `--atomic` says where this is done without it.
-const ALWAYS_ASIDE: &str = "Change nothing: the output is always put in its place once it is whole";
+const ALWAYS_ASIDE: &str = "Refuse a pipe or a device; a file is always replaced once it is whole";
 
 // Adds the flags that say how the output is written; `atomic` is what `--atomic` says.
 fn with_mode<'a>(

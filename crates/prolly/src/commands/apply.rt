@@ -62,13 +62,13 @@ pub fn apply_to<T: Wait + Threads + Clock + Sync>(
     let old = Blocks::new(rt.alloc(), FromSeek::new(old.into_file()))?;
     let counts = Counts::new();
     let (mut sources, _) = sources_of(rt, changes, target.found(), &counts)?;
-    let mut output = target.open_beside_answer(rt)?;
+    let mut output = Output::open_beside_answer(rt, target)?;
     let run = Run {
         request,
         counts: &counts,
     };
     let answer = apply_or_refuse(rt, threads, run, old, &mut sources, &mut output);
-    output.finish(rt, out, answer)
+    output.finish(rt, answer)
 }
 
 /// What is asked of a run, and what it counts.
@@ -85,7 +85,7 @@ fn apply_or_refuse<T: Wait + Threads + Clock + Sync>(
     run: Run<'_>,
     mut old: Blocks<FromSeek<File>>,
     sources: &mut Vec<CountedSource<'_, FromRead<File>>>,
-    output: &mut Output,
+    output: &mut Output<'_>,
 ) -> Result<Answer, AllocError> {
     let ApplyRequest { bits, version, .. } = run.request;
     match agreed_header(named_header(&mut old), bits, version) {
@@ -102,7 +102,7 @@ fn apply_into<T: Wait + Threads + Clock + Sync>(
     header: Header,
     old: Blocks<FromSeek<File>>,
     sources: &mut Vec<CountedSource<'_, FromRead<File>>>,
-    output: &mut Output,
+    output: &mut Output<'_>,
 ) -> Result<Answer, AllocError> {
     // A header that was read is within these limits.
     let Ok(config) = config_of(header) else {

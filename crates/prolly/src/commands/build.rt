@@ -67,9 +67,9 @@ pub fn build_from<T: Wait + Threads + Clock + Sync>(
     }
     let counts = Counts::new();
     let (sources, total) = sources_of(rt, files, target.found(), &counts)?;
-    let mut output = target.open_beside_answer(rt)?;
+    let mut output = Output::open_beside_answer(rt, target)?;
     let answer = build_asked(rt, threads, request, &counts, total, sources, &mut output);
-    output.finish(rt, out, answer)
+    output.finish(rt, answer)
 }
 
 /// The record files of these names, where none is the output, and how many bytes they have, where
@@ -105,7 +105,7 @@ fn build_asked<T: Wait + Threads + Clock + Sync>(
     counts: &Counts,
     total: Option<u64>,
     mut sources: Vec<CountedSource<'_, FromRead<File>>>,
-    output: &mut Output,
+    output: &mut Output<'_>,
 ) -> Result<Answer, AllocError>
     requires { AreInRange request }
 {
@@ -169,7 +169,7 @@ fn build_into<T: Wait + Threads + Clock + Sync, S: Source + Send + Drop>(
     threads: &T,
     run: Run<'_>,
     sources: &mut Vec<S>,
-    output: &mut Output,
+    output: &mut Output<'_>,
 ) -> Result<Answer, AllocError> {
     let output = CountedSink::new(ToWrite::new(output), run.counts);
     let mut sink = Buffered::with_capacity(rt.alloc(), OUTPUT_BYTES, output)?;

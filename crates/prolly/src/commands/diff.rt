@@ -2,7 +2,7 @@
 //! believed.
 use crate::file_id::Found;
 use crate::inputs::{Chunks, Input, chunks_of};
-use crate::output::OUTPUT_BYTES;
+use crate::output::{OUTPUT_BYTES, Output};
 use crate::output_kind::OutputKind;
 use crate::patient::Patient;
 use crate::refusal::Refusal;
@@ -112,7 +112,7 @@ impl Compared {
 }
 
 /// `diff [--text] [--stat] [--old-root ROOT] [--new-root ROOT] [--format V] OLD NEW [--out FILE]
-/// [--sync] [--force]`
+/// [--atomic] [--sync] [--force]`
 pub fn diff<H: ChunkHasher>(
     rt: &HostRuntime,
     hasher: &H,
@@ -154,11 +154,11 @@ fn diff_to<H: ChunkHasher>(
     let target = Target::look(rt, out, OutputKind::RecordFile, mode)?;
     let files = Compared::open(rt, old, new, target.found(), request)?;
     let mut output = if request.stat {
-        target.open_beside_answer(rt)?
+        Output::open_beside_answer(rt, target)?
     } else {
-        target.open(rt)?
+        Output::open(rt, target)?
     };
     let form = Some(RecordForm::Records);
     let answer = files.write(rt, hasher, form, request.stat, &mut output);
-    output.finish(rt, out, answer)
+    output.finish(rt, answer)
 }

@@ -1,6 +1,6 @@
 //! The command `dump`.
 use crate::inputs::{Chunks, Input, chunks_of};
-use crate::output::OUTPUT_BYTES;
+use crate::output::{OUTPUT_BYTES, Output};
 use crate::output_kind::OutputKind;
 use crate::patient::Patient;
 use crate::refusal::Refusal;
@@ -74,7 +74,7 @@ impl Dumped {
     }
 }
 
-/// `dump [--text] [--hex] [--root ROOT] [--format V] FILE [OUT] [--sync] [--force]`
+/// `dump [--text] [--hex] [--root ROOT] [--format V] FILE [OUT] [--atomic] [--sync] [--force]`
 pub fn dump<H: ChunkHasher>(
     rt: &HostRuntime,
     hasher: &H,
@@ -98,9 +98,9 @@ pub fn dump<H: ChunkHasher>(
             let target = Target::look(rt, &out, kind_of(form), mode)?;
             let input = Input::open_beside(rt, file, target.found())?;
             let dumped = Dumped::of(rt, input, root, version)?;
-            let mut output = target.open(rt)?;
+            let mut output = Output::open(rt, target)?;
             let answer = dumped.write(rt, hasher, form, &mut output);
-            output.finish(rt, &out, answer)
+            output.finish(rt, answer)
         }
     }
 }

@@ -1,4 +1,5 @@
 //! The command `pack`.
+use crate::output::Output;
 use crate::output_kind::OutputKind;
 use crate::patient::{Patient, tell_of_terminal};
 use crate::refusal::Refusal;
@@ -8,7 +9,7 @@ use prolly_answer::{Answer, LineForm, SortedPack, WriteMode, answer_pack_in, ans
 use prolly_file::{FromRead, ToWrite};
 use std::sync::Wait;
 
-/// `pack [--text] [--removals] [--sync] [--force] OUT`
+/// `pack [--text] [--removals] [--atomic] [--sync] [--force] OUT`
 pub fn pack(
     rt: &HostRuntime,
     form: LineForm,
@@ -17,7 +18,7 @@ pub fn pack(
 ) -> Result<Answer, Refusal> {
     let target = Target::look(rt, out, OutputKind::RecordFile, mode)?;
     target.refuse_input(rt)?;
-    let mut output = target.open_beside_answer(rt)?;
+    let mut output = Output::open_beside_answer(rt, target)?;
     tell_of_terminal(rt);
     let answer = answer_pack_in(
         rt.alloc(),
@@ -25,13 +26,13 @@ pub fn pack(
         &mut ToWrite::new(&mut output),
         form,
     );
-    output.finish(rt, out, answer)
+    output.finish(rt, answer)
 }
 
 /// What memory a run is not given, in bytes: for the text that is read, and for readers of runs.
 const BESIDE_RUNS: u32 = 4_000_000;
 
-/// `pack --sort [--unique] [--memory MB] [--text] [--removals] [--sync] [--force] OUT`
+/// `pack --sort [--unique] [--memory MB] [--text] [--removals] [--atomic] [--sync] [--force] OUT`
 pub fn pack_sorted<'a, R: Wait>(
     rt: &'a HostRuntime,
     waiting: &R,
@@ -60,7 +61,7 @@ pub fn pack_sorted<'a, R: Wait>(
         unique,
     );
     match sorted {
-        Ok(SortedPack { answer, file }) => kept(rt, &files, out, answer, file),
+        Ok(SortedPack { answer, file }) => kept(rt, &files, answer, file),
         Err(refused) => {
             files.remove_but(None);
             Err(refused.into())
@@ -72,9 +73,8 @@ pub fn pack_sorted<'a, R: Wait>(
 fn kept(
     rt: &HostRuntime,
     files: &RunFiles<'_>,
-    out: &str,
     answer: Answer,
-    file: Option<RunFile>,
+    file: Option<RunFile<'_>>,
 ) -> Result<Answer, Refusal> {
     let Some(file) = file else {
         files.remove_but(None);
@@ -82,11 +82,11 @@ fn kept(
     };
     let output = file.sink().writer();
     files.remove_but(output.name_beside());
-    output.finish(rt, out, Ok(answer))
+    output.finish(rt, Ok(answer))
 }
 
-/// How many bytes a run may take where so many megabytes of memory may be used. For a moment a run
-/// takes twice of that, while it grows.
+/// How many bytes a run may take where so many megabytes of memory may be used: the half, since a
+/// block of the run that grows is there twice for a moment.
 fn budget_of(memory: u32) -> u32 {
     (memory.saturating_mul(1_000_000) / 2).saturating_sub(BESIDE_RUNS)
 }

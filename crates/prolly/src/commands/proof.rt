@@ -69,7 +69,7 @@ fn keys_read(
 }
 
 /// `prove [--text] [--root ROOT] [--format V] [--from KEY] [--to KEY] [--keys FILE] FILE [KEY] OUT
-/// [--sync] [--force]`
+/// [--atomic] [--sync] [--force]`
 pub fn prove<H: ChunkHasher>(
     rt: &HostRuntime,
     hasher: &H,
@@ -104,9 +104,9 @@ fn prove_checked<H: ChunkHasher>(
     requires { H.can_hash hasher.now }
 {
     let mut source = input.into_chunk_file(rt)?;
-    let mut output = target.open(rt)?;
+    let mut output = Output::open(rt, target)?;
     let answer = write_checked(rt, hasher, &mut source, asked, &mut output);
-    output.finish(rt, target.name(), answer)
+    output.finish(rt, answer)
 }
 
 /// Writes such a proof to the output.
@@ -115,7 +115,7 @@ fn write_checked<H: ChunkHasher, S: Source>(
     hasher: &H,
     source: &mut S,
     asked: Asked<'_>,
-    output: &mut Output,
+    output: &mut Output<'_>,
 ) -> Result<Answer, AllocError>
     requires { H.can_hash hasher.now }
 {
@@ -139,9 +139,9 @@ fn prove_from_root(
     target: Target<'_>,
 ) -> Result<Answer, Refusal> {
     let mut chunks = chunks_of(rt, input)?;
-    let mut output = target.open(rt)?;
+    let mut output = Output::open(rt, target)?;
     let answer = write_from_root(rt, &mut chunks, version, root, asked, &mut output);
-    output.finish(rt, target.name(), answer)
+    output.finish(rt, answer)
 }
 
 /// Writes such a proof to the output.
@@ -151,7 +151,7 @@ fn write_from_root<S: ChunkSource>(
     version: Version,
     root: &Ref,
     asked: Asked<'_>,
-    output: &mut Output,
+    output: &mut Output<'_>,
 ) -> Result<Answer, AllocError> {
     let alloc = rt.alloc();
     match asked {
@@ -174,7 +174,11 @@ pub fn verify(
     proof: Option<String>,
     notation: Notation,
 ) -> Result<Answer, Refusal> {
-    let keys = keys_read(rt, sought, notation, Found::Nothing)?;
+    let printed = match sought {
+        Sought::Keys(_) => Stream::Output.found(rt)?,
+        _ => Found::Nothing,
+    };
+    let keys = keys_read(rt, sought, notation, printed)?;
     match Asked::of(rt, sought, &keys)? {
         Asked::Key(key) => verify_key(rt, root, version, key, proof, notation),
         Asked::Set(set) => verify_set(rt, root, version, set, proof, notation),

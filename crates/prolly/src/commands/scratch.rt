@@ -2,6 +2,7 @@
 ghost use Rattle.std.specs.Prelude.{◌≤◌};
 
 use crate::commands::bits::chosen_bits;
+use crate::output::Output;
 use crate::output_kind::OutputKind;
 use crate::patient::Patient;
 use crate::refusal::Refusal;
@@ -29,10 +30,10 @@ pub fn scratch(
     };
     let target = Target::look(rt, &out, OutputKind::ChunkFile, mode)?;
     target.refuse_input(rt)?;
-    let mut output = target.open_beside_answer(rt)?;
+    let mut output = Output::open_beside_answer(rt, target)?;
     let mut sink = Some(ToWrite::new(&mut output));
     let answer = scratch_into(rt, bits, chunk_bytes, version, &mut sink);
-    output.finish(rt, &out, answer)
+    output.finish(rt, answer)
 }
 
 /// Makes the tree of standard input, and writes it to the sink, if there is one. Where chunks are to

@@ -21,7 +21,7 @@ use prolly_stage::Gate;
 pub(crate) struct Base<L, M, T> {
     /// What the stage of the leaves does.
     pub leaves: L,
-    /// What the worker does that it has its first input from.
+    /// What the worker does that feeds the stage of the leaves.
     pub middle: M,
     /// The output of that worker.
     pub out: BatchSender<T>,
