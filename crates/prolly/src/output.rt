@@ -198,6 +198,7 @@ impl Write for Output<'_> {
 }
 
 /// Why a file did not come to the disk.
+#[derive(Drop)]
 enum Lost {
     Memory,
     Disk,
