@@ -109,14 +109,12 @@ impl<'a> Target<'a> {
         }
     }
 
-    /// Refuses to replace what the name leads to by now, where that is another file than before, and
-    /// not one that may be written over.
+    /// Refuses to replace what the name leads to by now, where that may not be written over. Whether it
+    /// is another file than before can't be told: a new file may have the number of one that is gone.
     pub fn refuse_newcomer(self, rt: &HostRuntime) -> Result<(), Refusal> {
         let now = Target::look(rt, self.name, self.kind, self.mode)?;
         match now.found {
-            Found::Nothing => Ok(()),
-            Found::Regular(..) if now.found.is_same_file(self.found) => Ok(()),
-            Found::Regular(..) => now.refuse_other_kind(rt),
+            Found::Nothing | Found::Regular(..) => now.refuse_other_kind(rt),
             _ => Err(self.refused(rt, NameFault::CannotReplace)),
         }
     }

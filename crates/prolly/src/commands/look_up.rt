@@ -166,12 +166,12 @@ pub fn scan<H: ChunkHasher>(
     }
 }
 
-/// `scan [--text] --root ROOT [--format V] FILE KEY LIMIT`, which prints the pairs of a leaf before
-/// it looks for the next one.
+/// `scan [--text] --root ROOT [--format V] FILE KEY LIMIT`, which prints as it goes.
 fn scan_from_root(rt: &HostRuntime, file: &str, scan: &RootScan<'_>) -> Result<Answer, Refusal> {
     let input = Input::open_beside(rt, file, Stream::Output.found(rt)?)?;
     let mut chunks = chunks_of(rt, input)?;
-    let mut sink = ToWrite::new(Patient::new(rt, rt.stdout()));
+    let out = ToWrite::new(Patient::new(rt, rt.stdout()));
+    let mut sink = Buffered::with_capacity(rt.alloc(), OUTPUT_BYTES, out)?;
     Ok(answer_scan_by_root(rt.alloc(), &mut chunks, scan, &mut sink)?)
 }
 
