@@ -33,7 +33,6 @@ pub(crate) fn append_number(
 
 /// Appends a key and its value, with a separator between them.
 pub(crate) fn append_pair_text(
-    alloc: Global,
     line: &mut Vec<u8>,
     notation: Notation,
     key: &[u8],
@@ -42,14 +41,13 @@ pub(crate) fn append_pair_text(
     ensures { OnOk result (line.new.items ≡ line.old.items ++ written notation
         key.now ++ separator notation ∷ written notation value.now) }
 {
-    notation.append(alloc, line, key)?;
+    notation.append(line, key)?;
     line.push(notation.separator())?;
-    notation.append(alloc, line, value)
+    notation.append(line, value)
 }
 
 /// Appends a line with two spaces and a name behind its text; where there is no line, nothing.
 pub(crate) fn append_named_line(
-    alloc: Global,
     out: &mut Vec<u8>,
     line: &[u8],
     name: &str,
@@ -63,7 +61,7 @@ pub(crate) fn append_named_line(
     };
     out.extend_from_slice(text)?;
     out.extend_from_slice(b"  ")?;
-    append_name(alloc, out, name)?;
+    append_name(out, name)?;
     out.push(b'\n')?;
     Ok(())
 }
@@ -71,7 +69,6 @@ pub(crate) fn append_named_line(
 /// Appends the line of a fault with a name and a colon before its text; where there is no line,
 /// nothing.
 pub(crate) fn append_named_fault(
-    alloc: Global,
     out: &mut Vec<u8>,
     line: &[u8],
     name: &str,
@@ -84,7 +81,7 @@ pub(crate) fn append_named_fault(
         return Ok(());
     };
     out.extend_from_slice(PROGRAM)?;
-    append_name(alloc, out, name)?;
+    append_name(out, name)?;
     out.extend_from_slice(b": ")?;
     out.extend_from_slice(text)
 }
@@ -106,7 +103,7 @@ pub(crate) fn write_lines<W: Sink>(
     let mut lines = Vec::new(alloc);
     while let Some(leaf) = leaves.next() {
         lines.clear();
-        append_lines(alloc, &mut lines, notation, leaf)?;
+        append_lines(&mut lines, notation, leaf)?;
         write_all(sink, &lines)?;
     }
     sink.flush()?;
@@ -115,7 +112,6 @@ pub(crate) fn write_lines<W: Sink>(
 
 /// Appends a line for each of the pairs.
 pub(crate) fn append_lines(
-    alloc: Global,
     lines: &mut Vec<u8>,
     notation: Notation,
     mut pairs: Pairs,
@@ -124,7 +120,7 @@ pub(crate) fn append_lines(
         written_records (Lines notation) (puts pairs.entry)) }
 {
     while let Some((key, value)) = pairs.next() {
-        append_line(alloc, lines, notation, key, Some(value))?;
+        append_line(lines, notation, key, Some(value))?;
     }
     Ok(())
 }

@@ -48,12 +48,12 @@ impl Notation {
 
     /// Appends what is written for the bytes, in time linear in them. An `Err` may leave a part of
     /// it behind.
-    pub fn append(self, alloc: Global, out: &mut Vec<u8>, bytes: &[u8]) -> Result<(), AllocError>
+    pub fn append(self, out: &mut Vec<u8>, bytes: &[u8]) -> Result<(), AllocError>
         ensures { OnOk result (out.new.items ≡ out.old.items ++ written self bytes.now) }
     {
         match self {
-            Notation::Hex => append_hex(alloc, out, bytes),
-            Notation::Text => append_text(alloc, out, bytes),
+            Notation::Hex => append_hex(out, bytes),
+            Notation::Text => append_text(out, bytes),
         }
     }
 
@@ -70,12 +70,21 @@ impl Notation {
 }
 
 /// Appends the bytes in hexadecimal, in lower case.
-pub fn append_hex(alloc: Global, out: &mut Vec<u8>, bytes: &[u8]) -> Result<(), AllocError>
+pub fn append_hex(out: &mut Vec<u8>, bytes: &[u8]) -> Result<(), AllocError>
     ensures { OnOk result (out.new.items ≡ out.old.items ++ encode_lower bytes.now) }
 {
-    let text = hex::encode(alloc, bytes)?;
-    out.extend_from_slice(text.as_bytes())?;
-    Ok(())
+    let start = out.len();
+    let Some(digits) = bytes.len().checked_mul(2) else {
+        return Err(AllocError);
+    };
+    let Some(end) = start.checked_add(digits) else {
+        return Err(AllocError);
+    };
+    out.resize(end, 0)?;
+    match hex::encode_to_slice(bytes, &mut out[start..]) {
+        Ok(()) => Ok(()),
+        Err(_) => unreachable!(),
+    }
 }
 
 /// The bytes that a text in hexadecimal is.

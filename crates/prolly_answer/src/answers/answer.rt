@@ -83,7 +83,7 @@ impl Answer {
             return Ok(Answer::of_nothing(alloc));
         };
         let mut line = Vec::new(alloc);
-        notation.append(alloc, &mut line, value)?;
+        notation.append(&mut line, value)?;
         Answer::of_line(alloc, &line)
     }
 
@@ -109,7 +109,7 @@ impl Answer {
             (Some (record { key = key.now; value = value.now }))) }
     {
         let mut line = Vec::new(alloc);
-        append_pair_text(alloc, &mut line, notation, key, value)?;
+        append_pair_text(&mut line, notation, key, value)?;
         Answer::of_line(alloc, &line)
     }
 
@@ -134,7 +134,7 @@ impl Answer {
         let mut line = Vec::new(alloc);
         line.extend_from_slice(b"prolly: ")?;
         line.extend_from_slice(fault.text().as_bytes())?;
-        append_name(alloc, &mut line, name)?;
+        append_name(&mut line, name)?;
         line.extend_from_slice(b"\n")?;
         Ok(Answer {
             status: 5,
@@ -153,10 +153,10 @@ impl Answer {
     {
         let mut out = Vec::new(alloc);
         if !quiet {
-            append_named_line(alloc, &mut out, &self.out, name)?;
+            append_named_line(&mut out, &self.out, name)?;
         }
         let mut err = Vec::new(alloc);
-        append_named_fault(alloc, &mut err, &self.err, name)?;
+        append_named_fault(&mut err, &self.err, name)?;
         Ok(Answer {
             status: self.status,
             out,

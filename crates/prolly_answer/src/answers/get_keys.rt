@@ -74,7 +74,7 @@ fn write_each<W: Sink>(
 {
     let mut line = Vec::new(alloc);
     for key in keys {
-        write_found(alloc, &mut line, notation, key, tree.get(key), sink)?;
+        write_found(&mut line, notation, key, tree.get(key), sink)?;
     }
     sink.flush()?;
     Ok(())
@@ -82,7 +82,6 @@ fn write_each<W: Sink>(
 
 /// Writes the line of a key and its value, or of the key alone, which is put together in this room.
 pub(crate) fn write_found<W: Sink>(
-    alloc: Global,
     line: &mut Vec<u8>,
     notation: Notation,
     key: &[u8],
@@ -96,14 +95,13 @@ pub(crate) fn write_found<W: Sink>(
     ensures keeping { (W.seen sink.old).is_keeping ≡ true → (W.seen sink.new).is_keeping ≡ true }
 {
     line.clear();
-    append_found(alloc, line, notation, key, value)?;
+    append_found(line, notation, key, value)?;
     write_all(sink, line)?;
     Ok(())
 }
 
 /// Appends the line of a key and its value, or of the key alone.
 pub(crate) fn append_found(
-    alloc: Global,
     line: &mut Vec<u8>,
     notation: Notation,
     key: &[u8],
@@ -113,8 +111,8 @@ pub(crate) fn append_found(
         (record { key = key.now; value = option_copied value.entry })) }
 {
     match value {
-        None => notation.append(alloc, line, key)?,
-        Some(value) => append_pair_text(alloc, line, notation, key, value)?,
+        None => notation.append(line, key)?,
+        Some(value) => append_pair_text(line, notation, key, value)?,
     }
     line.extend_from_slice(b"\n")
 }

@@ -93,14 +93,13 @@ fn write_leaves<S: ChunkSource, W: Sink>(
         let Some(last) = leaf.last_key() else {
             return Ok(());
         };
-        write_leaf(alloc, form, &mut lines, leaf, sink)?;
+        write_leaf(form, &mut lines, leaf, sink)?;
         next = key_behind(alloc, last)?;
     }
 }
 
 /// Writes the pairs of a leaf: from where they lie, or in lines that are put together here.
 fn write_leaf<W: Sink>(
-    alloc: Global,
     form: RecordForm,
     lines: &mut Vec<u8>,
     leaf: Pairs<'_>,
@@ -116,7 +115,7 @@ fn write_leaf<W: Sink>(
         RecordForm::Records => write_all(sink, leaf.spellings())?,
         RecordForm::Lines(notation) => {
             lines.clear();
-            append_lines(alloc, lines, notation, leaf)?;
+            append_lines(lines, notation, leaf)?;
             write_all(sink, lines)?;
         }
     }

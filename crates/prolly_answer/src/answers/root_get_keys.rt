@@ -87,7 +87,7 @@ fn write_each<S: ChunkSource, W: Sink>(
     let mut line = Vec::new(alloc);
     for key in keys {
         let value = reader.get(alloc, source, key)?;
-        write_found(alloc, &mut line, notation, key, value.as_deref(), sink)?;
+        write_found(&mut line, notation, key, value.as_deref(), sink)?;
     }
     Ok(())
 }

@@ -71,7 +71,7 @@ fn first_lines(
         let Some(leaf) = leaves.next() else {
             return Ok(lines);
         };
-        left = append_first(alloc, &mut lines, notation, leaf, left)?;
+        left = append_first(&mut lines, notation, leaf, left)?;
     }
     Ok(lines)
 }
@@ -79,7 +79,6 @@ fn first_lines(
 /// Appends a line for each of the first pairs of a leaf, at most `limit` of them. Answers how many
 /// more are within the limit.
 fn append_first(
-    alloc: Global,
     lines: &mut Vec<u8>,
     notation: Notation,
     mut leaf: Pairs,
@@ -94,7 +93,7 @@ fn append_first(
         let Some((key, value)) = leaf.next() else {
             return Ok(left);
         };
-        append_pair_text(alloc, lines, notation, key, value)?;
+        append_pair_text(lines, notation, key, value)?;
         lines.extend_from_slice(b"\n")?;
         left -= 1;
     }
@@ -111,7 +110,7 @@ pub(crate) fn lines_of(
 {
     let mut lines = Vec::new(alloc);
     for pair in pairs {
-        append_pair_text(alloc, &mut lines, notation, pair.key(), pair.value())?;
+        append_pair_text(&mut lines, notation, pair.key(), pair.value())?;
         lines.extend_from_slice(b"\n")?;
     }
     Ok(lines)

@@ -119,9 +119,9 @@ fn write_chunks<S: Source, W: Sink>(
     let mut lines = Vec::new(alloc);
     let mut left = keys_of(set);
     while let Some(chunk) = verifier.next(alloc, source)? {
-        left = write_chunk(alloc, notation, &mut lines, set, left, &chunk, sink)?;
+        left = write_chunk(notation, &mut lines, set, left, &chunk, sink)?;
     }
-    write_alone(alloc, notation, &mut lines, left, sink)?;
+    write_alone(notation, &mut lines, left, sink)?;
     Ok(())
 }
 
@@ -139,7 +139,6 @@ fn keys_of<'a>(set: KeySet<'a>) -> &'a [Vec<u8>]
 /// Writes the lines that are told of a chunk, where these keys of a list are left. They are put
 /// together here. Answers the keys that are left behind it.
 fn write_chunk<'k, W: Sink>(
-    alloc: Global,
     notation: Notation,
     lines: &mut Vec<u8>,
     set: KeySet<'_>,
@@ -157,14 +156,13 @@ fn write_chunk<'k, W: Sink>(
     ensures keeping { (W.seen sink.old).is_keeping ≡ true → (W.seen sink.new).is_keeping ≡ true }
 {
     lines.clear();
-    let rest = append_shown(alloc, lines, notation, set, left, chunk.pairs())?;
+    let rest = append_shown(lines, notation, set, left, chunk.pairs())?;
     write_all(sink, lines)?;
     Ok(rest)
 }
 
 /// Writes a line for each of the keys alone. They are put together here.
 fn write_alone<W: Sink>(
-    alloc: Global,
     notation: Notation,
     lines: &mut Vec<u8>,
     keys: &[Vec<u8>],
@@ -177,7 +175,7 @@ fn write_alone<W: Sink>(
     ensures keeping { (W.seen sink.old).is_keeping ≡ true → (W.seen sink.new).is_keeping ≡ true }
 {
     lines.clear();
-    append_alone(alloc, lines, notation, keys)?;
+    append_alone(lines, notation, keys)?;
     write_all(sink, lines)?;
     Ok(())
 }

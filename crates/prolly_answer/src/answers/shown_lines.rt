@@ -20,7 +20,6 @@ use std::alloc::{AllocError, Global};
 /// for each of them, of a list one for each key up to the last of them. Answers the keys that are left
 /// behind them.
 pub(crate) fn append_shown<'k>(
-    alloc: Global,
     lines: &mut Vec<u8>,
     notation: Notation,
     set: KeySet<'_>,
@@ -35,16 +34,15 @@ pub(crate) fn append_shown<'k>(
 {
     match set {
         KeySet::Range { .. } => {
-            append_wanted(alloc, lines, notation, pairs)?;
+            append_wanted(lines, notation, pairs)?;
             Ok(left)
         }
-        KeySet::Keys(_) => append_past(alloc, lines, notation, left, pairs),
+        KeySet::Keys(_) => append_past(lines, notation, left, pairs),
     }
 }
 
 /// Appends a line for each of the pairs.
 fn append_wanted(
-    alloc: Global,
     lines: &mut Vec<u8>,
     notation: Notation,
     mut pairs: PairsWanted<'_>,
@@ -52,7 +50,7 @@ fn append_wanted(
     ensures { OnOk result (lines.new.items ≡ lines.old.items ++ pair_lines notation pairs.entry) }
 {
     while let Some((key, value)) = pairs.next() {
-        append_pair_text(alloc, lines, notation, key, value)?;
+        append_pair_text(lines, notation, key, value)?;
         lines.extend_from_slice(b"\n")?;
     }
     Ok(())
@@ -61,7 +59,6 @@ fn append_wanted(
 /// Appends a line for each of the keys up to the last one of the pairs, which are of some of them.
 /// Answers the keys behind.
 fn append_past<'k>(
-    alloc: Global,
     lines: &mut Vec<u8>,
     notation: Notation,
     keys: &'k [Vec<u8>],
@@ -76,7 +73,7 @@ fn append_past<'k>(
 {
     let mut left = keys;
     while let Some((key, value)) = pairs.next() {
-        left = append_up_to(alloc, lines, notation, left, key, value)?;
+        left = append_up_to(lines, notation, left, key, value)?;
     }
     Ok(left)
 }
@@ -84,7 +81,6 @@ fn append_past<'k>(
 /// Appends a line for each of the keys up to this one, which is one of them: it alone has a value.
 /// Answers the keys behind.
 fn append_up_to<'k>(
-    alloc: Global,
     lines: &mut Vec<u8>,
     notation: Notation,
     keys: &'k [Vec<u8>],
@@ -102,10 +98,10 @@ fn append_up_to<'k>(
     let mut left = keys;
     while let Some((first, rest)) = left.split_first() {
         if key_order(first, key).is_eq() {
-            append_found(alloc, lines, notation, first, Some(value))?;
+            append_found(lines, notation, first, Some(value))?;
             return Ok(rest);
         }
-        append_found(alloc, lines, notation, first, None)?;
+        append_found(lines, notation, first, None)?;
         left = rest;
     }
     Ok(left)
@@ -113,7 +109,6 @@ fn append_up_to<'k>(
 
 /// Appends a line for each of the keys alone.
 pub(crate) fn append_alone(
-    alloc: Global,
     lines: &mut Vec<u8>,
     notation: Notation,
     keys: &[Vec<u8>],
@@ -122,7 +117,7 @@ pub(crate) fn append_alone(
         alone_lines notation (map (λ k. k.items) keys.now)) }
 {
     for key in keys {
-        append_found(alloc, lines, notation, key, None)?;
+        append_found(lines, notation, key, None)?;
     }
     Ok(())
 }

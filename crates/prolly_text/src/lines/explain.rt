@@ -260,7 +260,7 @@ fn append_defect(
     let text = DefectText(notation, defect);
     let wrong = format!(in alloc; "{text}\nthe line: ")?;
     out.extend_from_slice(wrong.as_bytes())?;
-    append_shown(alloc, out, line)?;
+    append_shown(out, line)?;
     append_right(out, right_text(notation, defect))
 }
 
@@ -288,13 +288,13 @@ fn append_right(out: &mut Vec<u8>, right: &str) -> Result<(), AllocError>
 
 /// Appends a line as text, or the text of its first bytes. They may part a character; its bytes are
 /// then shown as escapes.
-fn append_shown(alloc: Global, out: &mut Vec<u8>, line: &[u8]) -> Result<(), AllocError>
+fn append_shown(out: &mut Vec<u8>, line: &[u8]) -> Result<(), AllocError>
     ensures { OnOk result (out.new.items ≡ out.old.items ++ shown_line line.now) }
 {
     if line.len() <= SHOWN_BYTES {
-        return Notation::Text.append(alloc, out, line);
+        return Notation::Text.append(out, line);
     }
     let (front, _) = line.split_at(SHOWN_BYTES);
-    Notation::Text.append(alloc, out, front)?;
+    Notation::Text.append(out, front)?;
     out.extend_from_slice(b"...")
 }

@@ -69,14 +69,13 @@ pub fn append_change(
 {
     match form {
         None => Ok(()),
-        Some(RecordForm::Lines(notation)) => append_line(alloc, out, notation, key, value),
+        Some(RecordForm::Lines(notation)) => append_line(out, notation, key, value),
         Some(RecordForm::Records) => append_record(out, &record_of(alloc, key, value)?),
     }
 }
 
 /// Appends the line of a change.
 pub fn append_line(
-    alloc: Global,
     out: &mut Vec<u8>,
     notation: Notation,
     key: &[u8],
@@ -85,14 +84,13 @@ pub fn append_line(
     ensures { OnOk result (out.new.items ≡ out.old.items ++ record_line notation
         (record { key = key.now; value = option_copied value.entry })) }
 {
-    notation.append(alloc, out, key)?;
-    append_change_text(alloc, out, notation, value)?;
+    notation.append(out, key)?;
+    append_change_text(out, notation, value)?;
     out.extend_from_slice(b"\n")
 }
 
 /// Appends what a line has behind its key.
 fn append_change_text(
-    alloc: Global,
     out: &mut Vec<u8>,
     notation: Notation,
     value: Option<&[u8]>,
@@ -103,7 +101,7 @@ fn append_change_text(
     match value {
         Some(value) => {
             out.push(notation.separator())?;
-            notation.append(alloc, out, value)
+            notation.append(out, value)
         }
         None => out.extend_from_slice(removal_mark(notation)),
     }

@@ -9,59 +9,55 @@ use crate::notation::append_hex;
 use std::alloc::{AllocError, Global};
 
 /// Appends the text of the bytes: their characters, and escapes.
-pub(crate) fn append_text(alloc: Global, out: &mut Vec<u8>, bytes: &[u8]) -> Result<(), AllocError>
+pub(crate) fn append_text(out: &mut Vec<u8>, bytes: &[u8]) -> Result<(), AllocError>
     ensures { OnOk result (out.new.items ≡ out.old.items ++ text_of bytes.now) }
 {
     for chunk in bytes.utf8_chunks() {
-        append_characters(alloc, out, chunk.valid())?;
-        append_escapes(alloc, out, chunk.invalid())?;
+        append_characters(out, chunk.valid())?;
+        append_escapes(out, chunk.invalid())?;
     }
     Ok(())
 }
 
 /// Appends each character, as it stands or escaped.
-fn append_characters(alloc: Global, out: &mut Vec<u8>, text: &str) -> Result<(), AllocError>
+fn append_characters(out: &mut Vec<u8>, text: &str) -> Result<(), AllocError>
     ensures { OnOk result (out.new.items ≡ out.old.items ++ flat_map shown_character
         (chars text.now)) }
 {
     for character in text.chars() {
-        append_character(alloc, out, character)?;
+        append_character(out, character)?;
     }
     Ok(())
 }
 
 /// Appends an escape for each byte.
-fn append_escapes(alloc: Global, out: &mut Vec<u8>, bytes: &[u8]) -> Result<(), AllocError>
+fn append_escapes(out: &mut Vec<u8>, bytes: &[u8]) -> Result<(), AllocError>
     ensures { OnOk result (out.new.items ≡ out.old.items ++ flat_map hex_escape bytes.now) }
 {
     for byte in bytes {
-        append_escape(alloc, out, *byte)?;
+        append_escape(out, *byte)?;
     }
     Ok(())
 }
 
 /// Appends a character, as it stands or escaped.
-fn append_character(alloc: Global, out: &mut Vec<u8>, character: char) -> Result<(), AllocError>
+fn append_character(out: &mut Vec<u8>, character: char) -> Result<(), AllocError>
     ensures { OnOk result (out.new.items ≡ out.old.items ++ shown_character character) }
 {
     if let Some(letter) = letter_of(character) {
         return out.extend_from_slice(&[b'\\', letter]);
     }
-    append_plain(alloc, out, character)
+    append_plain(out, character)
 }
 
 /// Appends a character that has no letter: a hidden one by its bytes, and every other one as it
 /// stands.
-pub(crate) fn append_plain(
-    alloc: Global,
-    out: &mut Vec<u8>,
-    character: char,
-) -> Result<(), AllocError>
+pub(crate) fn append_plain(out: &mut Vec<u8>, character: char) -> Result<(), AllocError>
     ensures { OnOk result (out.new.items ≡ out.old.items ++ shown_plain character) }
 {
     let mut buffer = [0; 4];
     if is_hidden(character) {
-        return append_escapes(alloc, out, character.encode_utf8(&mut buffer).as_bytes());
+        return append_escapes(out, character.encode_utf8(&mut buffer).as_bytes());
     }
     // Most text is ASCII, for which a push is shorter than a copy.
     if character.is_ascii() {
@@ -80,11 +76,11 @@ fn is_hidden(character: char) -> bool
 }
 
 /// Appends `\x` and the byte in hexadecimal.
-fn append_escape(alloc: Global, out: &mut Vec<u8>, byte: u8) -> Result<(), AllocError>
+fn append_escape(out: &mut Vec<u8>, byte: u8) -> Result<(), AllocError>
     ensures { OnOk result (out.new.items ≡ out.old.items ++ hex_escape byte) }
 {
     out.extend_from_slice(b"\\x")?;
-    append_hex(alloc, out, &[byte])
+    append_hex(out, &[byte])
 }
 
 /// The letter by which a character is escaped, if it has one.

@@ -7,21 +7,21 @@ use std::alloc::{AllocError, Global};
 
 /// Appends a file's name, in which control characters, byte order marks and backslashes are
 /// escaped, so that a line stays one line. An `Err` may leave a part of it behind.
-pub fn append_name(alloc: Global, out: &mut Vec<u8>, name: &str) -> Result<(), AllocError>
+pub fn append_name(out: &mut Vec<u8>, name: &str) -> Result<(), AllocError>
     ensures { OnOk result (out.new.items ≡ out.old.items ++ shown_name name.now) }
 {
     for character in name.chars() {
-        append_shown(alloc, out, character)?;
+        append_shown(out, character)?;
     }
     Ok(())
 }
 
 /// Appends a character of a name.
-fn append_shown(alloc: Global, out: &mut Vec<u8>, character: char) -> Result<(), AllocError>
+fn append_shown(out: &mut Vec<u8>, character: char) -> Result<(), AllocError>
     ensures { OnOk result (out.new.items ≡ out.old.items ++ shown_in_name character) }
 {
     if character == '\\' {
         return out.extend_from_slice(b"\\\\");
     }
-    append_plain(alloc, out, character)
+    append_plain(out, character)
 }

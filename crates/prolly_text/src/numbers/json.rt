@@ -151,6 +151,6 @@ fn append_key_member(
         return Ok(());
     };
     let mut digits = Vec::new(alloc);
-    Notation::Hex.append(alloc, &mut digits, key)?;
+    Notation::Hex.append(&mut digits, key)?;
     append_string_member(out, b',', name, &digits)
 }

@@ -135,7 +135,7 @@ impl KeyForm {
         ensures { OnOk result (out.new.items ≡ out.old.items ++ shown_in self key.now) }
     {
         match self {
-            KeyForm::Whole(notation) => notation.append(alloc, out, key),
+            KeyForm::Whole(notation) => notation.append(out, key),
             KeyForm::Shortened(notation) => append_shortened(alloc, out, notation, key),
         }
     }
@@ -151,10 +151,10 @@ fn append_shortened(
     ensures { OnOk result (out.new.items ≡ out.old.items ++ shortened notation key.now) }
 {
     if key.len() <= SHOWN_BYTES {
-        return notation.append(alloc, out, key);
+        return notation.append(out, key);
     }
     let (front, _) = key.split_at(SHOWN_BYTES);
-    notation.append(alloc, out, front)?;
+    notation.append(out, front)?;
     let length = format!(in alloc; "... ({} bytes)", key.len())?;
     out.extend_from_slice(length.as_bytes())?;
     Ok(())
