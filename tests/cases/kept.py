@@ -306,6 +306,23 @@ def has_its_owner(place, command):
         place.holds(out=made, **files)
 
 
+def keeps_its_group(place):
+    """Where the owner of OUT can't be given to the file that replaces it, that has OUT's group."""
+    if os.geteuid() != 0:
+        return
+    words, _, made, wanted = WRITERS["build"]
+    files = laid(place)
+    place.lay(out=OLD_FILES["chunk file"])
+    os.chown(place.path("out"), 1234, 1235)
+    place.path("out").chmod(0o640)
+    answer, _ = place.meddled(*words, "--atomic", meddle={"fail": f"fchown 1 {errno.EPERM}"})
+    place.answers(answer, wanted)
+    found = place.path("out").stat()
+    if (found.st_uid, found.st_gid, stat.S_IMODE(found.st_mode)) != (0, 1235, 0o640):
+        place.note(f"OUT is that of {found.st_uid}, {found.st_gid}, with {stat.S_IMODE(found.st_mode):o}")
+    place.holds(out=made, **files)
+
+
 def wait_until_there(path):
     """Waits, a minute at most, until a file is there."""
     for _ in range(60_000):
@@ -440,7 +457,7 @@ def tests():
     for before in (None, OLD_FILES["record file"]):
         for force in (False, True):
             yield f"a newcomer, {'forced' if force else 'not forced'}", partial(is_a_newcomer, before=before, force=force)
-    for test in (is_not_readable, has_no_files, names_all_files, stays_before_the_header, is_made_early, is_busy, is_lost, is_not_its_own, is_a_new_folder):
+    for test in (is_not_readable, has_no_files, names_all_files, stays_before_the_header, is_made_early, is_busy, is_lost, is_not_its_own, is_a_new_folder, keeps_its_group):
         yield test.__name__.replace("_", " "), test
     yield from failing()
 

@@ -88,6 +88,10 @@ int fchmod(int descriptor, mode_t mode) {
     return is_to_fail("fchmod", descriptor) ? -1 : (int)syscall(SYS_fchmod, descriptor, mode);
 }
 
+int fchown(int descriptor, uid_t owner, gid_t group) {
+    return is_to_fail("fchown", descriptor) ? -1 : (int)syscall(SYS_fchown, descriptor, owner, group);
+}
+
 int rename(const char *from, const char *to) {
     return is_to_fail("rename", -1) ? -1 : (int)syscall(SYS_rename, from, to);
 }
