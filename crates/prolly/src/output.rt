@@ -169,7 +169,7 @@ impl<'a> Output<'a> {
         }
     }
 
-    /// The same, where what was lost is told to the user.
+    /// What was done, or what the user is told of what was lost.
     fn told<T>(&self, rt: &HostRuntime, done: Result<T, Lost>) -> Result<T, Refusal> {
         match done {
             Ok(done) => Ok(done),
