@@ -38,5 +38,7 @@ pub mod Writer
 pub mod Scratch
 -- What making the levels of a tree may come to.
 pub mod Levels
+-- The faults of reading. (This project's rules.)
+pub mod ReadFaults
 -- What is said of faults. (This project's texts.)
 pub mod FaultTexts

@@ -2,6 +2,7 @@
 mod block_device;
 mod buffered;
 mod from_read;
+mod part_reader;
 mod rejoined;
 mod script;
 mod seek;
@@ -12,6 +13,7 @@ mod whole;
 pub use block_device::Blocks;
 pub use buffered::Buffered;
 pub use from_read::FromRead;
+pub use part_reader::{PartReader, ReadFault};
 pub use rejoined::Rejoined;
 pub use script::{ScriptDevice, ScriptSink, ScriptSource};
 pub use seek::{Device, FromSeek, ReadSeek};

@@ -2,14 +2,12 @@
 ghost use Rattle.std.specs.Prelude.{◌≡◌, ◌≢◌, ◌↔◌, ◌<◌, ◌≤◌, true, [], length, vec_len, IfOk, OnOk};
 ghost use Rattle.std.specs.Prelude.{IsErrOf};
 
+use crate::device::part_reader::{PartReader, ReadFault};
 use crate::device::source::{Source, SourceFault};
 use std::alloc::{AllocError, Global};
 use std::error::Error;
 use std::fmt;
 use std::fmt::{Display, Formatter};
-
-/// How many bytes are asked for at a time.
-const PART_BYTES: usize = 65_536;
 
 /// Why a source was not read whole.
 #[derive(Clone, Copy, Debug, PartialEq, Eq)]
@@ -59,6 +57,19 @@ impl From<SourceFault> for WholeFault {
     }
 }
 
+impl From<ReadFault> for WholeFault {
+    ghost use Rattle.prolly_file.specs.ReadFaults.{whole_fault};
+
+    ghost from_gives = { λ read fault. fault ≡ whole_fault read };
+
+    fn from(read: ReadFault) -> Self {
+        match read {
+            ReadFault::Memory => WholeFault::Memory,
+            ReadFault::Read => WholeFault::Read,
+        }
+    }
+}
+
 /// All the bytes that a source has left, of which at most `max_bytes` are allowed.
 ///
 /// Answers the fault that is met first, in the order of the bytes; what was read before it is gone.
@@ -84,22 +95,12 @@ pub fn read_whole<S: Source>(
     ensures steady { (S.seen source.old).is_steady ≡ true → (S.seen source.new).is_steady ≡ true }
 {
     let mut whole = Vec::new(alloc);
-    let mut part = part_buffer(alloc)?;
-    loop {
-        let count = source.read(&mut part)?;
-        if count == 0 {
-            return Ok(whole);
-        }
-        if count > max_bytes as usize - whole.len() {
-            return Err(WholeFault::TooLong);
-        }
-        whole.extend_from_slice(&part[..count])?;
+    let mut reader = PartReader::new(alloc)?;
+    // One byte more than is allowed tells that there are too many.
+    let is_over = reader.read_up_to(source, &mut whole, max_bytes as usize + 1)?;
+    if is_over {
+        Ok(whole)
+    } else {
+        Err(WholeFault::TooLong)
     }
-}
-
-/// Room for a part.
-fn part_buffer(alloc: Global) -> Result<Vec<u8>, AllocError>
-    ensures { IfOk result (λ part. vec_len part ≡ PART_BYTES) }
-{
-    vec![in alloc; 0; PART_BYTES]
 }
