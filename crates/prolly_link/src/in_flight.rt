@@ -32,15 +32,14 @@ impl InFlight {
 
     /// Waits until a large batch of so many bytes may be sent, and counts it. For the sender.
     pub(crate) fn add<R: Wait>(&self, rt: &R, patience: &Patience, bytes: usize) {
-        let mut round = 0u32;
+        let mut rounds = 0u32;
         for _ in rt.forever() {
             if self.has_room(bytes as u64) {
-                patience.end_wait(round);
+                patience.end_wait(rounds);
                 self.bytes.fetch_add(bytes as u64, Ordering::SeqCst);
                 return;
             }
-            patience.pause(rt, round);
-            round = round.saturating_add(1);
+            rounds = patience.pause(rt, rounds);
         }
     }
 

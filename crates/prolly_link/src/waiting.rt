@@ -48,25 +48,28 @@ impl Patience {
         ))
     }
 
-    /// Waits a little, the longer the more rounds of this wait went before. The caller looks for
-    /// what it waits for before each round.
+    /// Waits a little, the longer the more rounds of this wait went before. Gives how many have
+    /// gone by now: to lie down is no round, so each round after the looks is one sleep. The caller
+    /// looks for what it waits for before each call.
     #[cold]
     #[inline(never)]
-    pub(crate) fn pause<R: Wait>(&self, rt: &R, round: u32) {
-        if round < LOOKS {
+    pub(crate) fn pause<R: Wait>(&self, rt: &R, rounds: u32) -> u32 {
+        if rounds < LOOKS {
             hint::spin_loop();
         } else if self.own.is_asleep() {
-            let doublings = (round - LOOKS).min(MOST_DOUBLINGS);
+            let doublings = (rounds - LOOKS).min(MOST_DOUBLINGS);
             self.own
                 .sleep(rt, Duration::from_millis(FIRST_SLEEP_MILLIS << doublings));
         } else {
             self.own.lie_down();
+            return rounds;
         }
+        rounds.saturating_add(1)
     }
 
-    /// The end of a wait of so many rounds.
+    /// The end of a wait of so many rounds. From the last look on the owner may have lain down.
     pub(crate) fn end_wait(&self, rounds: u32) {
-        if rounds > LOOKS {
+        if rounds >= LOOKS {
             self.own.get_up();
         }
     }
@@ -163,11 +166,11 @@ pub(crate) fn push_waiting<M, R: Wait>(
     ensures link { producer_link ring.new ≡ producer_link ring.old }
     ensures pushed { pushed ring.new ≡ pushed ring.old ++ message ∷ [] }
 {
-    let mut round = 0u32;
+    let mut rounds = 0u32;
     for _ in rt.forever() {
         match ring.push(message) {
             Ok(()) => {
-                patience.end_wait(round);
+                patience.end_wait(rounds);
                 if patience.peer_sleeps()
                     && (wake == Wake::AtOnce || ring.slots() <= ring.capacity() / 2)
                 {
@@ -177,8 +180,7 @@ pub(crate) fn push_waiting<M, R: Wait>(
             }
             Err(PushError::Full(back)) => message = back,
         }
-        patience.pause(rt, round);
-        round = round.saturating_add(1);
+        rounds = patience.pause(rt, rounds);
     }
     unreachable!()
 }
@@ -194,13 +196,13 @@ pub(crate) fn pop_waiting<M, R: Wait>(
     ensures none { IfNone result (popped ring.new ≡ popped ring.old) }
     ensures some { IfSome result (λ m. popped ring.new ≡ popped ring.old ++ m ∷ []) }
 {
-    let mut round = 0u32;
+    let mut rounds = 0u32;
     for _ in rt.forever() {
         // Asked before the pop: all that a producer pushed before it was dropped is then in the
         // ring.
         let abandoned = ring.is_abandoned();
         if let Ok(message) = ring.pop() {
-            patience.end_wait(round);
+            patience.end_wait(rounds);
             if patience.peer_sleeps() && ring.slots() <= ring.capacity() / 2 {
                 patience.wake_peer();
             }
@@ -209,8 +211,7 @@ pub(crate) fn pop_waiting<M, R: Wait>(
         if abandoned {
             return None;
         }
-        patience.pause(rt, round);
-        round = round.saturating_add(1);
+        rounds = patience.pause(rt, rounds);
     }
     unreachable!()
 }
