@@ -18,12 +18,10 @@ use std::alloc::Global;
 use std::collections::VecDeque;
 use std::marker::Model;
 
-/// Items that go over a ring together: one at least, and no more than `limit`. Contracts see it as
-/// those items.
+/// Items that go over a ring together: one at least. Contracts see it as those items.
 #[derive(Drop)]
 pub(crate) struct Batch<T> {
     items: Vec<T>,
-    limit: usize,
     // As many as the sender was told of.
     bytes: usize,
 }
@@ -35,20 +33,15 @@ impl<T> Model for Batch<T> {
 
     ghost view = { λ b. b.items.items };
 
-    ghost invariant = { λ b. (1 ≤ vec_len b.items) × (vec_len b.items ≤ b.limit) };
+    ghost invariant = { λ b. 1 ≤ vec_len b.items };
 }
 
 impl<T> Batch<T> {
-    pub(crate) fn new(items: Vec<T>, limit: usize, bytes: usize) -> Batch<T>
-        requires least { 1 ≤ vec_len items }
-        requires most { vec_len items ≤ limit }
+    pub(crate) fn new(items: Vec<T>, bytes: usize) -> Batch<T>
+        requires { 1 ≤ vec_len items }
         ensures { result ≡ items.items }
     {
-        Batch {
-            items,
-            limit,
-            bytes,
-        }
+        Batch { items, bytes }
     }
 
     /// How many bytes the items take, so far as the sender was told.
@@ -63,11 +56,7 @@ impl<T: Drop> Batch<T> {
         ensures items { self ≡ result.0 ∷ result.1.items }
         ensures counted { deque_len result.1 ≡ length result.1.items }
     {
-        let Batch {
-            items,
-            limit: _,
-            bytes: _,
-        } = self;
+        let Batch { items, bytes: _ } = self;
         let mut rest = VecDeque::from_vec(items);
         let Some(first) = rest.pop_front() else {
             unreachable!()

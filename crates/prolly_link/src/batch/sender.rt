@@ -82,10 +82,8 @@ fn send_items<T: Drop, R: Wait>(
     sender: &mut Sender<Batch<T>>,
     in_flight: &InFlight,
     items: Vec<T>,
-    size: usize,
     bytes: usize,
 )
-    requires { vec_len items ≤ size }
     ensures link { sender.new.link ≡ sender.old.link }
     ensures items { items_of sender.new.items ≡ items_of sender.old.items ++ items.items }
 {
@@ -98,7 +96,7 @@ fn send_items<T: Drop, R: Wait>(
     } else {
         Wake::AtHalf
     };
-    sender.put(rt, Batch::new(items, size, bytes), wake);
+    sender.put(rt, Batch::new(items, bytes), wake);
 }
 
 impl<T: Drop> BatchSender<T> {
@@ -155,14 +153,7 @@ impl<T: Drop> BatchSender<T> {
         }
         let batch = mem::replace(&mut self.pending, Vec::new(self.alloc));
         self.bytes = 0;
-        send_items(
-            rt,
-            &mut self.sender,
-            &self.in_flight,
-            batch,
-            self.size,
-            bytes,
-        );
+        send_items(rt, &mut self.sender, &self.in_flight, batch, bytes);
         self.sender.look_ahead();
         Ok(())
     }
@@ -176,13 +167,13 @@ impl<T: Drop> BatchSender<T> {
         let BatchSender {
             mut sender,
             pending,
-            size,
+            size: _,
             bytes,
             spares: _,
             in_flight,
             alloc: _,
         } = self;
-        send_items(rt, &mut sender, &in_flight, pending, size, bytes);
+        send_items(rt, &mut sender, &in_flight, pending, bytes);
         ClosedBatch {
             sender: sender.close(rt, end),
         }
