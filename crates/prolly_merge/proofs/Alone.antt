@@ -6,6 +6,7 @@ use Rattle.std.proofs.lemmas.List.Elements.{filter-append}
 use Rattle.std.specs.List.{flat_map, AllByRecursion}
 use Rattle.prolly_entry.specs.Overlay.{AllRising}
 use Rattle.prolly_entry.specs.Record.{Record}
+use Rattle.prolly_entry.specs.lemmas.Lists.{all_append}
 use Rattle.prolly_entry.specs.lemmas.RisingRecords.{AllAbove, IsRising, is_rising, above_trans}
 use Rattle.prolly_tree.specs.Merge.{Input, raw_merged_part}
 use Rattle.prolly_tree.specs.lemmas.Merging.{not_below_above}
@@ -26,15 +27,16 @@ use Rattle.prolly_merge.specs.declared.unique.Doubled.{Doubled}
 use Rattle.prolly_merge.specs.Each.{Each}
 use Rattle.prolly_merge.specs.Head.{in_hand, Fits, Allows, IsFaultIn, Stops}
 use Rattle.prolly_merge.specs.Inputs.{lists_of, stop_end}
-use Rattle.prolly_merge.specs.Many.{hands_with, IsLeftOut, NoneLeftOut, Doubles, HaltsApart, SendsMany}
+use Rattle.prolly_merge.specs.Many.{hands_with, IsLeftOut, NoneLeftOut, AllAlone, Doubles}
+use Rattle.prolly_merge.specs.Many.{HaltsApart, SendsMany}
 use Rattle.prolly_merge.specs.Merged.{SendsAll}
 use Rattle.prolly_merge.specs.MergeStep.{IsStep}
 use Rattle.prolly_merge.specs.Peeked.{Advances, heads_in, places_after}
 use Rattle.prolly_merge.specs.Places.{Place, heads_of, AllFit, after, wholes, lefts, ComeFirst, Halts}
-use Rattle.prolly_merge.specs.Unique.{records_with, AreApart, IsDoubled, SendsApart}
+use Rattle.prolly_merge.specs.Unique.{records_with, AreApart, IsAlone, IsDoubled, SendsApart}
 use Rattle.prolly_merge.specs.lemmas.Stops.{done_all}
 use Rattle.prolly_merge.proofs.Apart.{above_none, same_key, records_left, left_more, alone_goes}
-use Rattle.prolly_merge.proofs.Apart.{are_apart, is_among, in_order}
+use Rattle.prolly_merge.proofs.Apart.{are_apart, is_among, in_order, none_before}
 use Rattle.prolly_merge.proofs.Places.{begin_lists, AllMove, back, fit_back, wholes_back, lefts_back}
 use Rattle.prolly_merge.proofs.Places.{lefts_not_below, stops, sends_items, own_items}
 use Rattle.prolly_merge.proofs.Shared.{with_key, hands_more}
@@ -100,6 +102,39 @@ goes_alone ps qs xs r first none allows alone moves fs fit rising key =
     ∙ sym (append_assoc (records_with key xs) (records_with key (r ∷ [])) left)
     ∙ ap (λ rs. rs ++ left) (sym (filter-append (with_key key) xs (r ∷ [])))
 
+-- What was sent stays alone.
+stays_alone : (key : List ℕ) (ps qs : List Place) (xs : List Record) → AllAlone ps xs →
+    AllMove key ps qs → AllAlone qs xs
+stays_alone key ps qs xs alone moves fs fit rising =
+    let es : List (Input RunFault) = back key ps qs fs in
+    let same : wholes ps es ≡ wholes qs fs = wholes_back key ps qs fs moves in
+    subst (λ i. AllByRecursion (IsAlone (lists_of i)) xs) same
+    (alone es (fit_back key ps qs fs moves fit)
+    (subst (λ i. AllRising (lists_of i)) (sym same) rising))
+
+-- A record that no other head has the key of is sent, and is alone.
+sent_alone : (ps qs : List Place) (xs : List Record) (r : Record) → ComeFirst ps xs →
+    NoneLeftOut ps xs → AllAlone ps xs → AllByRecursion (Allows r.key) (heads_of ps) →
+    IsLeftOut (heads_of ps) r None → AllMove r.key ps qs → ComeFirst qs (xs ++ r ∷ []) →
+    AllAlone qs (xs ++ r ∷ [])
+sent_alone ps qs xs r first none before allows alone moves next fs fit rising =
+    let es : List (Input RunFault) = back r.key ps qs fs in
+    let same : wholes ps es ≡ wholes qs fs = wholes_back r.key ps qs fs moves in
+    let fits : AllFit ps es = fit_back r.key ps qs fs moves fit in
+    let rises : AllRising (lists_of (wholes ps es)) =
+    subst (λ i. AllRising (lists_of i)) (sym same) rising in
+    let left : List Record = raw_merged_part (lefts qs fs) in
+    let merged : raw_merged_part (wholes qs fs) ≡ xs ++ r ∷ left =
+    (next fs fit rising).merged ∙ append_assoc xs (r ∷ []) left in
+    let sent : records_with r.key xs ≡ [] = none_before xs left r (subst IsRising merged
+    (is_rising (raw_merged_part (wholes qs fs)) (merged_part_rises RunFault (wholes qs fs)))) in
+    let own : IsAlone (lists_of (wholes qs fs)) r =
+    ap (λ i. records_with r.key (records_left i)) (sym same) ∙ none es fits rises r.key
+    ∙ ap (λ rs. rs ++ records_with r.key (records_left (lefts ps es))) sent
+    ∙ hands_are r.key ps es allows fits (first es fits rises).rising ∙ alone in
+    all_append (IsAlone (lists_of (wholes qs fs))) xs (r ∷ [])
+    (stays_alone r.key ps qs xs before moves fs fit rising) (own, tt)
+
 -- A record that another head has the key of is taken, and both are told.
 goes_doubled : (ps qs : List Place) (xs : List Record) (d : Doubled) → ComeFirst ps xs →
     NoneLeftOut ps xs → AllByRecursion (Allows d.second.key) (heads_of ps) →
@@ -152,6 +187,28 @@ module _ {I : Type 0} (link : I → LinkId) (progress : I → Progress) (Follows
         (subst (λ hs. IsLeftOut hs r None) (sym heads) alone)
         (all_go_on link progress Follows received goes_on received_both r.key os ms ns a step.2).1
 
+    -- After a step that takes a record, what was sent before is alone still.
+    pub step_stays_alone : (os ms ns : List (Peeked I)) (xs : List Record) (r : Record) →
+        Advance os ms → AllAlone (places os ms) xs →
+        IsStep link progress Follows received ms (Send r) ns → AllAlone (places os ns) xs
+    step_stays_alone os ms ns xs r a alone step =
+        stays_alone r.key (places os ms) (places os ns) xs alone
+        (all_go_on link progress Follows received goes_on received_both r.key os ms ns a step.2).1
+
+    -- After a step that sends a record which no other head has the key of, it is alone too.
+    pub step_sends_alone : (os ms ns : List (Peeked I)) (xs : List Record) (r : Record) →
+        Advance os ms → ComeFirst (places os ms) xs → NoneLeftOut (places os ms) xs →
+        AllAlone (places os ms) xs → IsStep link progress Follows received ms (Send r) ns →
+        IsLeftOut (heads_in ms) r None → ComeFirst (places os ns) (xs ++ r ∷ []) →
+        AllAlone (places os ns) (xs ++ r ∷ [])
+    step_sends_alone os ms ns xs r a first none before step alone next =
+        let heads = heads_are link progress Follows received goes_on received_both os ms a in
+        sent_alone (places os ms) (places os ns) xs r first none before
+        (subst (AllByRecursion (Allows r.key)) (sym heads) step.0)
+        (subst (λ hs. IsLeftOut hs r None) (sym heads) alone)
+        (all_go_on link progress Follows received goes_on received_both r.key os ms ns a step.2).1
+        next
+
     -- After a step that takes a record which another head has the key of, both are told.
     pub step_doubled : (os ms ns : List (Peeked I)) (xs : List Record) (d : Doubled) →
         Advance os ms → ComeFirst (places os ms) xs → NoneLeftOut (places os ms) xs →
@@ -172,10 +229,12 @@ not_clean f end e h = cc
 
 -- Where memory was refused for a record, it halts.
 pub halts_refused : (shared : SharedKey) (ps : List Place) (xs : List Record) (r : Record) →
-    ComeFirst ps (xs ++ r ∷ []) → HaltsApart shared ps xs (Fault Memory) None
-halts_refused shared ps xs r first = (
+    ComeFirst ps (xs ++ r ∷ []) → (shared ≡ Refused → AllAlone ps xs) →
+    HaltsApart shared ps xs (Fault Memory) None
+halts_refused shared ps xs r first alone = (
   inr (refl, (r ∷ [], first)),
   λ refused clean. absurd (not_clean Memory (Fault Memory) refl clean),
+  alone,
 )
 
 fault_not_clean : (hs : List Head) (end : End) → IsFaultIn hs end → end ≡ Clean → ⊥
@@ -224,7 +283,11 @@ sends_none {T} items_of shared before sent end_sent is is' inputs = go shared
     go : (shared : SharedKey) →
         SendsMany (flat_map items_of) shared before inputs None sent end_sent
     go LastWins = (refl, all)
-    go Refused = (all, λ clean. absurd (not_clean Memory end_sent is' clean))
+    go Refused = (
+      all,
+      λ clean. absurd (not_clean Memory end_sent is' clean),
+      ([], is ∙ sym (append-nil before), tt),
+    )
 
 -- Where a merger of many halts, it sent what it is to send, and its end.
 pub sends_many : {T : Type 0} (items_of : Record → List T) (shared : SharedKey) (ps : List Place)
@@ -240,6 +303,7 @@ sends_many items_of LastWins ps before sent xs end end_sent (Some d) h is is' fs
 sends_many items_of Refused ps before sent xs end end_sent None h is is' fs fit rising = (
   sends_items items_of ps before sent xs end end_sent h.0 is is' fs fit rising,
   λ clean. sends_apart ps xs end h.0 (sym is' ∙ clean) (h.1 refl (sym is' ∙ clean)) fs fit rising,
+  (xs, is, h.2 refl fs fit rising),
 )
 sends_many items_of Refused ps before sent xs end end_sent (Some d) h is is' fs fit rising = (
   h.3 fs fit rising,
@@ -249,6 +313,7 @@ sends_many items_of Refused ps before sent xs end end_sent (Some d) h is is' fs 
     sent_is = is;
     next_is = (h.2 fs fit rising).merged
         ∙ append_assoc xs (d.second ∷ []) (raw_merged_part (lefts ps fs));
+    apart = h.4 fs fit rising;
     end_is = is' ∙ h.1;
   },
 )
@@ -285,6 +350,7 @@ own_apart before sent end_sent None inputs all = (
   subst (λ ms. SendsAll before ms (stop_end inputs) sent end_sent)
       (own_items (raw_merged_part inputs)) all.0,
   all.1,
+  (all.2.0, all.2.1 ∙ ap (λ rs. before ++ rs) (own_items all.2.0), all.2.2),
 )
 own_apart before sent end_sent (Some d) inputs all = (
   all.0,
@@ -293,6 +359,7 @@ own_apart before sent end_sent (Some d) inputs all = (
     rest = all.1.rest;
     sent_is = all.1.sent_is ∙ ap (λ rs. before ++ rs) (own_items all.1.sent);
     next_is = all.1.next_is;
+    apart = all.1.apart;
     end_is = all.1.end_is;
   },
 )

@@ -9,7 +9,7 @@ use Rattle.prolly_entry.specs.Keys.{key_order, KeyBelow}
 use Rattle.prolly_entry.specs.Overlay.{change_of, or_else, last_change_of, AllRising, NotBelow}
 use Rattle.prolly_entry.specs.Overlay.{rest_after}
 use Rattle.prolly_entry.specs.Record.{Record}
-use Rattle.prolly_entry.specs.lemmas.Orders.{order_same, not_eq_above, eq_true}
+use Rattle.prolly_entry.specs.lemmas.Orders.{order_same, not_eq_below, not_eq_above, eq_true}
 use Rattle.prolly_entry.specs.lemmas.RisingRecords.{AllAbove, IsRising, is_rising, above_trans}
 use Rattle.prolly_tree.specs.Chunk.{IsIn}
 use Rattle.prolly_tree.specs.Merge.{Input}
@@ -26,6 +26,18 @@ use Rattle.prolly_merge.proofs.Shared.{with_key, own_record}
 pub above_none : (key : List ℕ) (rs : List Record) → AllAbove key rs → records_with key rs ≡ []
 above_none key [] h = refl
 above_none key (r ∷ rs) h = rw (not_eq_above key r.key h.0) (above_none key rs h.1)
+
+above_last : (key : List ℕ) (rs more : List Record) (r : Record) → AllAbove key (rs ++ r ∷ more) →
+    KeyBelow key r.key
+above_last key [] more r h = h.0
+above_last key (x ∷ rs) more r h = above_last key rs more r h.1
+
+-- In a rising list no record before another one has its key.
+pub none_before : (rs more : List Record) (r : Record) → IsRising (rs ++ r ∷ more) →
+    records_with r.key rs ≡ []
+none_before [] more r h = refl
+none_before (x ∷ rs) more r h =
+    rw (not_eq_below x.key r.key (above_last x.key rs more r h.0)) (none_before rs more r h.1)
 
 -- A record that passes has the key.
 pub same_key : (r : Record) (key : List ℕ) → with_key key r ≡ true → r.key ≡ key

@@ -1,6 +1,6 @@
 -- How a merger of many goes on, and what it knows of keys that several inputs have.
 use Rattle.std.specs.Prelude.{◌≡◌, ℕ, List, [], ◌∷◌, ◌++◌, Option, Some, None, if◌then◌else◌}
-use Rattle.std.specs.List.{flat_map}
+use Rattle.std.specs.List.{flat_map, AllByRecursion}
 use Rattle.prolly_entry.specs.Overlay.{or_else, AllRising}
 use Rattle.prolly_entry.specs.Record.{Record}
 use Rattle.prolly_link.specs.Identity.{LinkId}
@@ -16,7 +16,7 @@ use Rattle.prolly_merge.specs.MergeStep.{IsStep}
 use Rattle.prolly_merge.specs.Merged.{SendsAll}
 use Rattle.prolly_merge.specs.Peeked.{heads_in}
 use Rattle.prolly_merge.specs.Places.{Place, AllFit, wholes, lefts, ComeFirst, Halts}
-use Rattle.prolly_merge.specs.Unique.{all_in, records_with, IsDoubled, SendsApart}
+use Rattle.prolly_merge.specs.Unique.{all_in, records_with, IsAlone, IsDoubled, SendsApart}
 use Rattle.prolly_merge.specs.declared.heads.Head.{Head}
 use Rattle.prolly_merge.specs.declared.heads.MergeStep.TheVariants.{Send as SendOne, Stop as StopNow}
 use Rattle.prolly_merge.specs.declared.heads.Peeked.{Peeked}
@@ -73,18 +73,26 @@ NoneLeftOut places sent = (fs : List (Input RunFault)) → AllFit places fs →
     records_with key (all_in (lists_of (wholes places fs))) ≡
     records_with key sent ++ records_with key (all_in (lists_of (lefts places fs)))
 
+-- Whatever the inputs may still give, as long as they rise: each record that was sent is the only
+-- one of its key.
+abbrev pub AllAlone : List Place → List Record → Type 0
+AllAlone places sent = (fs : List (Input RunFault)) → AllFit places fs →
+    AllRising (lists_of (wholes places fs)) →
+    AllByRecursion (IsAlone (lists_of (wholes places fs))) sent
+
 -- Whatever the inputs may still give, as long as they rise: they have these two with one key.
 abbrev pub Doubles : List Place → Doubled → Type 0
 Doubles places doubled = (fs : List (Input RunFault)) → AllFit places fs →
     AllRising (lists_of (wholes places fs)) → IsDoubled (lists_of (wholes places fs)) doubled
 
 -- A merger of many halts as any merger; where shared keys are refused, with none left out at a
--- clean end. Or it halts before a record whose key is shared.
+-- clean end, and with no such key sent. Or it halts before the first record whose key is shared.
 abbrev pub HaltsApart : SharedKey → List Place → List Record → End → Option Doubled → Type 0
 HaltsApart shared places sent end None = Halts places sent end
     × (shared ≡ Refused → end ≡ Clean → NoneLeftOut places sent)
+    × (shared ≡ Refused → AllAlone places sent)
 HaltsApart shared places sent end (Some d) = (shared ≡ Refused) × (end ≡ Fault Lost)
-    × ComeFirst places (sent ++ d.second ∷ []) × Doubles places d
+    × ComeFirst places (sent ++ d.second ∷ []) × Doubles places d × AllAlone places sent
 
 -- What a merger of many sent: all, where the last record of a shared key wins; and as it does where
 -- such a key is refused.

@@ -23,6 +23,10 @@ all_in lists = flat_map (λ records. records) lists
 abbrev pub records_with : List ℕ → List Record → List Record
 records_with key records = filter (λ r. is_eq (key_order r.key key)) records
 
+-- The record is the only one of its key in all of the lists.
+abbrev pub IsAlone : List (List Record) → Record → Type 0
+IsAlone lists r = records_with r.key (all_in lists) ≡ r ∷ []
+
 -- No key stands in two of the lists: of the keys of each, those behind it say nothing.
 abbrev pub AreApart : List (List Record) → Type 0
 AreApart [] = Unit {0}
@@ -43,8 +47,16 @@ pub record IsDoubled (lists : List (List Record)) (doubled : Doubled) : Type 0 w
   pub last : (before : List Record) × (records_with doubled.second.key (all_in lists) ≡
       before ++ doubled.first ∷ doubled.second ∷ [])
 
+-- After `before`, what `items` makes of records was sent, each of which is the only one of its key
+-- in all of the lists.
+abbrev pub SendsAlone : {T : Type 0} → (List Record → List T) → List T → List (List Record) →
+    List T → Type 0
+SendsAlone items before lists all_sent =
+    (sent : List Record) × (all_sent ≡ before ++ items sent) × AllByRecursion (IsAlone lists) sent
+
 -- After `before`, what `items` makes of all records before the key that is doubled was sent, and
--- then a fault.
+-- then a fault. Each of them is the only one of its key, so that key is the least one that is
+-- doubled.
 pub record SendsBefore {T : Type 0} (items : List Record → List T) (before : List T)
     (inputs : List (Input RunFault)) (doubled : Doubled) (all_sent : List T) (end_sent : End) :
     Type 0 where
@@ -52,15 +64,18 @@ pub record SendsBefore {T : Type 0} (items : List Record → List T) (before : L
   pub rest : List Record
   pub sent_is : all_sent ≡ before ++ items sent
   pub next_is : raw_merged_part inputs ≡ sent ++ doubled.second ∷ rest
+  pub apart : AllByRecursion (IsAlone (lists_of inputs)) sent
   pub end_is : end_sent ≡ Fault Lost
 
--- After `before`, what `items` makes of the raw merged part was sent, and where the end is clean, no
--- key stands in two inputs; or a key that does is told.
+-- After `before`, what `items` makes of the raw merged part was sent, or memory was refused. No
+-- record was sent whose key stands in two inputs; where the end is clean, no key does. Or the least
+-- key that does is told.
 abbrev pub SendsApart : {T : Type 0} → (List Record → List T) → List T → List (Input RunFault) →
     Option Doubled → List T → End → Type 0
 SendsApart items before inputs None all_sent end_sent =
     SendsAll before (items (raw_merged_part inputs)) (stop_end inputs) all_sent end_sent
     × (end_sent ≡ Clean → AreApart (lists_of inputs))
+    × SendsAlone items before (lists_of inputs) all_sent
 SendsApart items before inputs (Some doubled) all_sent end_sent =
     IsDoubled (lists_of inputs) doubled
     × SendsBefore items before inputs doubled all_sent end_sent

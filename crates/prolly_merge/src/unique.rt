@@ -35,8 +35,9 @@ pub struct MergedUnique<I, O: Out<Record>> {
 /// Where one does, it sends the records before the least such key, closes with `Fault(Lost)`, and
 /// gives back the last two records with the key. Otherwise it closes, and is refused memory, as
 /// [`merge_records`](crate::merge_records) does. So a clean end says that no key stands in two
-/// inputs; behind a fault one may. All inputs are received to their ends. All this is promised of
-/// inputs whose keys rise; of others it is known only that they have ended.
+/// inputs; at a fault one may, but none of its records was sent. All inputs are received to their
+/// ends. All this is promised of inputs whose keys rise; of others it is known only that they have
+/// ended.
 ///
 /// Takes as many comparisons as `merge_records`.
 pub fn merge_unique<I: In<Record>, O: Out<Record>, R: Wait>(

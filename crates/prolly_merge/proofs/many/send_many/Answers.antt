@@ -1,13 +1,14 @@
 use Rattle.std.proofs.Common.{[], ◌∷◌, ◌++◌, inl, refl, sym, ap, ◌∙◌, subst, append_assoc}
 use Rattle.std.proofs.lemmas.List.{append-nil}
 use Rattle.std.specs.List.{flat_map}
-use Rattle.prolly_merge.specs.Many.{NoneLeftOut}
+use Rattle.prolly_merge.specs.Many.{NoneLeftOut, AllAlone}
 use Rattle.prolly_merge.specs.Peeked.{peeked_of, places_after}
 use Rattle.prolly_merge.proofs.Counts.{count_none, count_more}
 use Rattle.prolly_merge.proofs.Places.{items_more}
 use Rattle.prolly_merge.proofs.Steps.{all_stay, start, step_sends, step_advances, step_stops}
 use Rattle.prolly_merge.proofs.Steps.{stop_advances}
-use Rattle.prolly_merge.proofs.Alone.{start_whole, step_alone, step_doubled, halts_refused}
+use Rattle.prolly_merge.proofs.Alone.{start_whole, step_alone, step_stays_alone, step_sends_alone}
+use Rattle.prolly_merge.proofs.Alone.{step_doubled, halts_refused}
 use Rattle.prolly_merge.proofs.many.send_many.Goals as goal
 
 pub loop-init : goal.loop-init
@@ -25,6 +26,7 @@ loop-init g c =
             g.met.I.In.received_none os,
         λ refused. start_whole g.I.In.link g.I.In.progress g.I.In.Follows g.I.In.received
             g.met.I.In.stays g.met.I.In.received_none os,
+        λ refused fs fit rising. tt,
       );
     }
 
@@ -38,6 +40,9 @@ loop-preserved g c =
     let sent = g.O.Out.sent c.args.out.now in
     let put = g.T.MergeItem.items_of r in
     let ok = c.in-Ok.ensures.sent in
+    let next = step_sends g.I.In.link g.I.In.progress g.I.In.Follows g.I.In.received
+    g.met.I.In.goes_on g.met.I.In.received_both os ms ns i.first.0 r i.advance i.first.2
+    c.in-Send.ensures.0 in
     record {
       advance = step_advances g.I.In.link g.I.In.progress g.I.In.Follows g.I.In.received
           g.met.I.In.goes_on g.met.I.In.received_both os ms ns r i.advance c.in-Send.ensures.0;
@@ -48,11 +53,14 @@ loop-preserved g c =
         i.first.0 ++ r ∷ [],
         ok ∙ ap (λ x. x ++ put) i.first.1 ∙ append_assoc sent (flat_map g.T.MergeItem.items_of i.first.0) put ∙
             ap (λ x. sent ++ x) (sym (items_more g.T.MergeItem.items_of i.first.0 r)),
-        step_sends g.I.In.link g.I.In.progress g.I.In.Follows g.I.In.received g.met.I.In.goes_on
-            g.met.I.In.received_both os ms ns i.first.0 r i.advance i.first.2 c.in-Send.ensures.0,
+        next,
         λ refused. step_alone g.I.In.link g.I.In.progress g.I.In.Follows g.I.In.received
             g.met.I.In.goes_on g.met.I.In.received_both os ms ns i.first.0 r i.advance i.first.2
             (i.first.3 refused) c.in-Send.ensures.0 (c.in-Send.ensures.1 refused),
+        λ refused. step_sends_alone g.I.In.link g.I.In.progress g.I.In.Follows g.I.In.received
+            g.met.I.In.goes_on g.met.I.In.received_both os ms ns i.first.0 r i.advance i.first.2
+            (i.first.3 refused) (i.first.4 refused) c.in-Send.ensures.0
+            (c.in-Send.ensures.1 refused) next,
       );
     }
 
@@ -75,7 +83,10 @@ returns-in-Err g c =
         halts_refused c.args.shared (places_after g.I.In.received os ns) i.first.0 r
             (step_sends g.I.In.link g.I.In.progress g.I.In.Follows g.I.In.received
             g.met.I.In.goes_on g.met.I.In.received_both os ms ns i.first.0 r i.advance i.first.2
-            c.in-Send.ensures.0),
+            c.in-Send.ensures.0)
+            (λ shared. step_stays_alone g.I.In.link g.I.In.progress g.I.In.Follows g.I.In.received
+            g.met.I.In.goes_on g.met.I.In.received_both os ms ns i.first.0 r i.advance
+            (i.first.4 shared) c.in-Send.ensures.0),
       );
     }
 
@@ -100,6 +111,8 @@ returns-in-Stop g c =
               i.advance i.first.2 c.in-Stop.ensures),
           λ refused clean. subst (λ ps. NoneLeftOut (places_after g.I.In.received os ps) i.first.0)
               (sym c.in-Stop.ensures.1) (i.first.3 refused),
+          λ refused. subst (λ ps. AllAlone (places_after g.I.In.received os ps) i.first.0)
+              (sym c.in-Stop.ensures.1) (i.first.4 refused),
         ),
       );
     }
@@ -128,6 +141,9 @@ returns-in-Refuse g c =
           step_doubled g.I.In.link g.I.In.progress g.I.In.Follows g.I.In.received
               g.met.I.In.goes_on g.met.I.In.received_both os ms ns i.first.0 d i.advance i.first.2
               (i.first.3 e.0) e.1 e.2,
+          step_stays_alone g.I.In.link g.I.In.progress g.I.In.Follows g.I.In.received
+              g.met.I.In.goes_on g.met.I.In.received_both os ms ns i.first.0 d.second i.advance
+              (i.first.4 e.0) e.1,
         ),
       );
     }

@@ -5,7 +5,7 @@ use Rattle.prolly_merge.specs.Each.{Each}
 use Rattle.prolly_merge.specs.Peeked.{peeked_of, Advances, places_after}
 use Rattle.prolly_merge.specs.Places.{ComeFirst}
 use Rattle.prolly_merge.specs.Merged.{Counts}
-use Rattle.prolly_merge.specs.Many.{NoneLeftOut}
+use Rattle.prolly_merge.specs.Many.{NoneLeftOut, AllAlone}
 use Rattle.prolly_merge.specs.declared.round.SharedKey.TheVariants.{Refused}
 use Rattle.prolly_merge.proofs.many.send_many.Given as goal
 
@@ -19,5 +19,7 @@ invariant-loop g l = record {
       × ComeFirst (places_after g.I.In.received (peeked_of l.initial.inputs l.initial.heads)
       (peeked_of l.inputs l.heads)) xs
       × (l.shared ≡ Refused → NoneLeftOut (places_after g.I.In.received
+      (peeked_of l.initial.inputs l.initial.heads) (peeked_of l.inputs l.heads)) xs)
+      × (l.shared ≡ Refused → AllAlone (places_after g.I.In.received
       (peeked_of l.initial.inputs l.initial.heads) (peeked_of l.inputs l.heads)) xs);
 }
