@@ -26,7 +26,7 @@ use Rattle.prolly_check.specs.Verdict.{AcceptsFiles, IsFileOf, ReadVerdict}
 use Rattle.prolly_check.specs.declared.verdict.fault.CheckFault.{CheckFault}
 use Rattle.prolly_check.specs.declared.verdict.fault.CheckFault.TheVariants.{NotCanonical}
 use Rattle.prolly_c.proofs.Entries.{end_behind}
-use Rattle.prolly_c.proofs.LeafPairs.{leaf_read}
+use Rattle.prolly_check.specs.lemmas.Held.{difference_ok, held_is, or_none}
 use Rattle.prolly_c.specs.Runs.{IsEnd, run_count, runs_in}
 use Rattle.prolly_c.specs.Writing.{Spells, Wrote, WroteChunk}
 use Rattle.prolly_c.specs.declared.run.Run.{Run}
@@ -75,28 +75,6 @@ content_is : (content found : Content) (fault : Option CheckFault) →
 content_is content found None e = (same_ok e, refl)
 content_is content found (Some fault) e = absurd (not_err e)
 
-first_none : (a b : Option CheckFault) → or_else a b ≡ None → a ≡ None
-first_none None b e = refl
-first_none (Some fault) b e = cc
-
-second_none : (a b : Option CheckFault) → or_else a b ≡ None → b ≡ None
-second_none None b e = e
-second_none (Some fault) b e = cc
-
--- Chunks that do not differ are the same.
-same_chunks : (number : ℕ) (cs ds : List (List ℕ)) → difference number cs ds ≡ None → cs ≡ ds
-same_chunks number [] [] e = refl
-same_chunks number [] (d ∷ ds) e = cc
-same_chunks number (c ∷ cs) [] e = cc
-same_chunks number (c ∷ cs) (d ∷ ds) e = go (bytes_eq c d) refl e (same_chunks (suc number) cs ds)
-  where
-    go : (same : Bool) → bytes_eq c d ≡ same →
-        (if same then difference (suc number) cs ds else Some (NotCanonical number)) ≡ None →
-        (difference (suc number) cs ds ≡ None → cs ≡ ds) → c ∷ cs ≡ d ∷ ds
-    go true is e behind = ap (λ x. x ∷ cs) ((bytes_eq-Decides c d).0 is) ∙
-        ap (λ xs. d ∷ xs) (behind e)
-    go false is e behind = cc
-
 -- What is judged to be a file has the chunks of its content.
 judged_is : (content : Content) (version : Version) (bits : ℕ) (chunks : List (List ℕ))
     (ending : List ℕ) (lists : List (List Pair)) →
@@ -106,19 +84,12 @@ judged_is : (content : Content) (version : Version) (bits : ℕ) (chunks : List 
 judged_is content version bits chunks ending lists e =
     let pairs = flat_map (λ pairs. pairs) lists in
     let is = content_is content _ _ e in
-    let canonical = first_none (canonical_fault version bits chunks ending lists) _ is.1 in
-    let behind = second_none (order_fault None 0 lists) _ canonical in (
+    let canonical = or_none (canonical_fault version bits chunks ending lists) _ is.1 in
+    let behind = or_none (order_fault None 0 lists) _ canonical.0 in (
       is.0,
-      same_chunks 0 (chunk_bytes version bits pairs) chunks
-          (first_none (difference 0 (chunk_bytes version bits pairs) chunks) _ behind),
+      difference_ok 0 (chunk_bytes version bits pairs) chunks
+          (or_none (difference 0 (chunk_bytes version bits pairs) chunks) _ behind.1).0,
     )
-
--- The pairs that a chunk holds are read from it.
-held_is : (version : Version) (chunk : List ℕ) (pairs : List Pair) → Holds version chunk pairs →
-    pairs ≡ pairs_held chunk
-held_is version [] pairs holds = absurd holds
-held_is version (zero ∷ entries) pairs holds = sym (leaf_read entries pairs holds)
-held_is version (suc level ∷ entries) pairs holds = holds.none
 
 all_held : (version : Version) (chunks : List (List ℕ)) (lists : List (List Pair)) →
     AllHold version chunks lists → lists ≡ map pairs_held chunks

@@ -14,8 +14,6 @@ pub mod Sides
 pub mod ProofRests
 -- Verifying a proof, chunk by chunk.
 pub mod Verifying
--- The pairs that the entries of a leaf are read as.
-pub mod LeafPairs
 -- The pairs of a range among those of a leaf.
 pub mod RangeParts
 -- The pairs of a range that the chunks of its proof show.

@@ -22,7 +22,7 @@ use Rattle.prolly_range.specs.SetProof.{AreTaken, Due, IsSetProof, child_due, du
 use Rattle.prolly_range.specs.SetProof.{root_due, set_start}
 use Rattle.prolly_tree.specs.lemmas.Maps.{Rises, rises}
 use Rattle.prolly_c.proofs.Entries.{end_behind}
-use Rattle.prolly_c.proofs.LeafPairs.{leaf_read}
+use Rattle.prolly_check.specs.lemmas.ReadEntries.{leaf_pairs}
 use Rattle.prolly_c.specs.RangeProofs.{Shows, runs_shown}
 use Rattle.prolly_c.specs.Runs.{IsEnd}
 use Rattle.prolly_c.specs.Writing.{Wrote, WroteChunk}
@@ -216,7 +216,7 @@ pub leaf_shows : (version : Version) (from : List ℕ) (to : Option (List ℕ)) 
 leaf_shows version from to [] pairs s some leaf = absurd (omega arith)
 leaf_shows version from to (zero ∷ entries) pairs s some leaf =
     let whole = s.ordered.whole in
-    let same = leaf_read entries whole.pairs whole.holds in record {
+    let same = leaf_pairs entries whole.pairs whole.holds in record {
       all = whole.pairs;
       leaf = whole.holds;
       rise = subst Rises same (rises (pairs_in entries) s.ordered.rising);

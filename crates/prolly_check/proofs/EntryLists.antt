@@ -1,12 +1,10 @@
--- Entries that bytes spell, read one after another.
-use Rattle.std.proofs.Common.{rules, ◌≡◌, ℕ, zero, suc, ◌<◌, ◌≤◌, List, [], ◌∷◌, ◌++◌, length, drop}
-use Rattle.std.proofs.Common.{map, refl, sym, ap, ◌∙◌, arith, append_assoc, ◌+◌, ◌==◌, Some}
+-- Lawful entries and nothing else, one after another.
+use Rattle.std.proofs.Common.{rules, ◌≡◌, ℕ, ◌<◌, ◌≤◌, List, [], ◌∷◌, ◌++◌, length, drop}
+use Rattle.std.proofs.Common.{map, refl, sym, ap, ◌∙◌, arith, append_assoc, ◌+◌, ◌==◌}
 use Rattle.std.proofs.Common.{length-drop, ◌-◌, take}
-use Rattle.std.specs.Int.{w32, to_be_bytes}
 use Rattle.std.specs.List.{flat_map, AllByRecursion}
 use Rattle.std.proofs.lemmas.Bool.Decides.{nat_tests}
-use Rattle.std.proofs.lemmas.Grind.{common_steps}
-use Rattle.std.proofs.lemmas.List.{length-append, take_at, drop-drop, map-id}
+use Rattle.std.proofs.lemmas.List.{length-append, take_at, drop-drop}
 use Rattle.prolly_entry.specs.ChildAt.{tail_length, NoChildAt}
 use Rattle.prolly_entry.specs.Front.{NoPairAt}
 use Rattle.prolly_entry.specs.Pair.{Pair, IsPair}
@@ -14,14 +12,17 @@ use Rattle.prolly_entry.specs.Reading.{key_length}
 use Rattle.prolly_entry.specs.Spelling.{key_spelling, pair_spelling, count_spelling}
 use Rattle.prolly_entry.specs.declared.version.Version.{Version}
 use Rattle.prolly_entry.specs.declared.version.Version.TheVariants.{One, Two}
-use Rattle.prolly_entry.specs.lemmas.Spellings.{numbers, key_size, pair_spellings_apart, found_key}
+use Rattle.prolly_entry.specs.lemmas.Spellings.{pair_spellings_apart, found_key}
 use Rattle.prolly_entry.specs.lemmas.Spellings.{key_there, after_two, child_spellings_apart}
 use Rattle.prolly_tree.specs.RecordFile.{record_file}
 use Rattle.prolly_tree.specs.Tree.{last_key}
-use Rattle.prolly_check.specs.Entries.{BeginsWith, entries_up_to, entries_in, NoLeaf, IsLeaf}
+use Rattle.prolly_check.specs.Entries.{BeginsWith, entries_in, NoLeaf}
 use Rattle.prolly_check.specs.Entries.{first_pair, behind_pair, pairs_in, NoNode, Child, IsChild}
 use Rattle.prolly_check.specs.Entries.{IsNode, entry_of, first_count, first_child, behind_child}
 use Rattle.prolly_check.specs.Entries.{children_in, IsSomeLeaf}
+pub use Rattle.prolly_check.specs.lemmas.ReadEntries.{leaf_pairs}
+use Rattle.prolly_check.specs.lemmas.ReadEntries.{drop_front, pair_reads, pair_shrinks, reads_all}
+use Rattle.prolly_check.specs.lemmas.ReadEntries.{reads_on, Reads, Shrinks}
 
 -- ---- lawful entries and nothing else
 
@@ -40,10 +41,6 @@ pub record AreApart {A : Type 0} (spelling : A → List ℕ) (Lawful : A → Typ
   pub some : (a : A) → 0 < length (spelling a)
   pub rests : (a b : A) (x y : List ℕ) → Lawful a → Lawful b → spelling a ++ x ≡ spelling b ++ y →
       x ≡ y
-
-pub drop_front : (xs ys : List ℕ) (n : ℕ) → n ≡ length xs → drop n (xs ++ ys) ≡ ys
-drop_front [] ys n e = ap (λ m. drop m ys) e
-drop_front (x ∷ xs) ys n e = ap (λ m. drop m (x ∷ xs ++ ys)) e ∙ drop_front xs ys (length xs) refl
 
 module _ {A : Type 0} (spelling : A → List ℕ) (Lawful : A → Type 0)
     (apart : AreApart spelling Lawful) where
@@ -105,56 +102,6 @@ module _ {A : Type 0} (spelling : A → List ℕ) (Lawful : A → Type 0)
       rest_is_none done rest lawful.1 left none
       (one_less (flat_map spelling (d ∷ done) ++ rest) more d b e)
 
--- ---- what functions read of them
-
--- behind the first entry less is left
-abbrev pub Shrinks : (List ℕ → List ℕ) → Type 0
-Shrinks behind = (b : ℕ) (bytes : List ℕ) → length (behind (b ∷ bytes)) ≤ length bytes
-
-module _ {B : Type 0} (first : List ℕ → B) (behind : List ℕ → List ℕ) (shrinks : Shrinks behind)
-  where
-    enough : (n m : ℕ) (bytes : List ℕ) → length bytes ≤ n → length bytes ≤ m →
-        entries_up_to first behind n bytes ≡ entries_up_to first behind m bytes
-    enough zero zero [] h k = refl
-    enough zero (suc m) [] h k = refl
-    enough (suc n) zero [] h k = refl
-    enough (suc n) (suc m) [] h k = refl
-    enough zero m (b ∷ bytes) h k = absurd (let h' : suc (length bytes) ≤ 0 = h in omega arith)
-    enough (suc n) zero (b ∷ bytes) h k = search rules
-    enough (suc n) (suc m) (b ∷ bytes) h k = simp (
-      common_steps,
-      enough n m (behind (b ∷ bytes)) (omega arith) (omega arith),
-    )
-
-    pub first_in : (bytes : List ℕ) → 0 < length bytes →
-        entries_in first behind bytes ≡ first bytes ∷ entries_in first behind (behind bytes)
-    first_in [] h = absurd (omega arith)
-    first_in (b ∷ bytes) h = grind (arith, enough)
-
--- the functions read an entry from its spelling, and leave what is behind it
-pub record Reads {B : Type 0} (first : List ℕ → B) (behind : List ℕ → List ℕ) (spelled : List ℕ)
-    (entry : B) : Type 0 where
-  pub some : 0 < length spelled
-  pub read : (more : List ℕ) → first (spelled ++ more) ≡ entry
-  pub left : (more : List ℕ) → behind (spelled ++ more) ≡ more
-
-module _ {B : Type 0} (first : List ℕ → B) (behind : List ℕ → List ℕ) (shrinks : Shrinks behind)
-  where
-    pub reads_on : (bytes spelled more : List ℕ) (entry : B) → Reads first behind spelled entry →
-        bytes ≡ spelled ++ more → entries_in first behind bytes ≡ entry ∷ entries_in first behind
-        more
-    reads_on bytes spelled more entry r e = grind (arith, first_in, length-append)
-
-    reads_all : {A : Type 0} (spelling : A → List ℕ) (read : A → B) (Lawful : A → Type 0) →
-        ((a : A) → Lawful a → Reads first behind (spelling a) (read a)) →
-        (entries : List A) → AllByRecursion Lawful entries →
-        entries_in first behind (flat_map spelling entries) ≡ map read entries
-    reads_all spelling read Lawful reads [] h = refl
-    reads_all spelling read Lawful reads (a ∷ entries) h =
-        reads_on (flat_map spelling (a ∷ entries)) (spelling a) (flat_map spelling entries) (read a)
-        (reads a h.0) refl
-        ∙ ap (λ bs. read a ∷ bs) (reads_all spelling read Lawful reads entries h.1)
-
 -- ---- the pairs that entries spell
 
 pub leaf_apart : AreApart pair_spelling IsPair
@@ -181,45 +128,6 @@ no_leaf done pairs rest lawful left none l =
     (record { entries = pairs; is = l.is; lawful = l.lawful })
 
 -- ---- what is read of them
-
-pair_shrinks : Shrinks behind_pair
-pair_shrinks b bytes = grind (arith, length-drop)
-
-pair_reads : (p : Pair) → IsPair p → Reads first_pair behind_pair (pair_spelling p) p
-pair_reads p h = record {
-  some = leaf_apart.some p;
-  read = λ more. (both more).0;
-  left = λ more. (both more).1;
-}
-  where
-    both : (more : List ℕ) → (first_pair (pair_spelling p ++ more) ≡ p) ×
-        (behind_pair (pair_spelling p ++ more) ≡ more)
-    both more =
-        let entries = pair_spelling p ++ more in
-        let n = numbers (record { key = p.key; value = Some p.value }) more entries
-        (record { key = h.key; value = h.value }) refl in
-        let front = key_spelling p.key ++ to_be_bytes w32 (length p.value) in
-        let parts : entries ≡ front ++ (p.value ++ more) = simp append_assoc in
-        let size : 6 + length p.key ≡ length front =
-        omega (
-          arith,
-          length-append (key_spelling p.key) (to_be_bytes w32 (length p.value)),
-          key_size p.key,
-        ) in
-        let left : drop (6 + length p.key) entries ≡ p.value ++ more =
-        ap (drop (6 + length p.key)) parts ∙
-        drop_front front (p.value ++ more) (6 + length p.key) size in (
-          rw (n.there, n.value, n.key, left, take_at p.value more (length p.value) refl) refl,
-          rw (n.value, n.key) (sym (drop-drop (length p.value) (6 + length p.key) entries) ∙
-              ap (drop (length p.value)) left ∙ drop_front p.value more (length p.value) refl),
-        )
-
-pub leaf_pairs : (entries : List ℕ) (pairs : List Pair) → IsLeaf entries pairs →
-    pairs_in entries ≡ pairs
-unfolding pairs_in
-leaf_pairs entries pairs h =
-    ap (entries_in first_pair behind_pair) h.is ∙ reads_all first_pair behind_pair pair_shrinks
-    pair_spelling (λ p. p) IsPair pair_reads pairs h.lawful ∙ map-id pairs
 
 pub next_pair : (entries : List ℕ) (p : Pair) (rest : List ℕ) →
     BeginsWith pair_spelling IsPair entries p rest → pairs_in entries ≡ p ∷ pairs_in rest

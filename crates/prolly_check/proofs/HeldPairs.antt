@@ -25,7 +25,8 @@ pub use Rattle.prolly_check.specs.HeldPairs.{bytes_in, pairs_held}
 use Rattle.prolly_check.specs.FirstFault.{chunk_bytes}
 use Rattle.prolly_check.specs.Kinds.{kind_of}
 use Rattle.prolly_check.specs.Kinds.Entries.{Leaf, Node}
-use Rattle.prolly_check.proofs.EntryLists.{leaf_pairs}
+use Rattle.prolly_check.specs.lemmas.Held.{held_is}
+use Rattle.prolly_check.specs.lemmas.ReadEntries.{leaf_pairs}
 use Rattle.prolly_check.specs.declared.verdict.fault.CheckFault.TheVariants as faults
 
 -- ---- the pairs that chunks hold
@@ -49,11 +50,6 @@ pub record IsOfChildren (version : Version) (chunk : List ℕ) : Type 0 where
   pub is : IsNode version (drop 1 chunk) []
 
 module _ (version : Version) where
-  held_is : (chunk : List ℕ) (held : List Pair) → Holds version chunk held → held ≡ pairs_held chunk
-  held_is [] held h = absurd h
-  held_is (zero ∷ entries) held h = sym (leaf_pairs entries held h)
-  held_is (suc level ∷ entries) held h = h.none
-
   pub of_pairs : (chunk : List ℕ) → IsWhole version chunk → get_or chunk 0 0 ≡ 0 →
       IsOfPairs version chunk
   of_pairs [] w e = absurd w.holds
@@ -82,7 +78,7 @@ module _ (version : Version) where
   lists_are [] [] h = refl
   lists_are [] (held ∷ lists) h = absurd h
   lists_are (chunk ∷ chunks) [] h = absurd h
-  lists_are (chunk ∷ chunks) (held ∷ lists) h = search (rules, held_is, lists_are chunks lists h.1)
+  lists_are (chunk ∷ chunks) (held ∷ lists) h = search (rules, held_is version, lists_are chunks lists h.1)
 
   -- and they are whole; whole chunks have them
   pub are_whole : (chunks : List (List ℕ)) (lists : List (List Pair)) →
@@ -94,7 +90,7 @@ module _ (version : Version) where
   pub all_hold : (chunks : List (List ℕ)) → AreWhole version chunks →
       AllHold version chunks (map pairs_held chunks)
   all_hold [] w = tt
-  all_hold (chunk ∷ chunks) w = grind (arith, held_is, all_hold chunks w.1)
+  all_hold (chunk ∷ chunks) w = grind (arith, held_is version, all_hold chunks w.1)
 
   pub each_whole : (chunks : List (List ℕ)) (number : ℕ) → AreWhole version chunks →
       number < length chunks → IsWhole version (get_or chunks number [])

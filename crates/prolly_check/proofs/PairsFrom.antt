@@ -55,12 +55,6 @@ some_from from (p ∷ q ∷ ps) some h e =
 
 -- ---- in a map
 
--- those from a key on are all from it on
-pub from_again : (key : List ℕ) (ps : List Pair) →
-    pairs_from key (pairs_from key ps) ≡ pairs_from key ps
-from_again key [] = refl
-from_again key (p ∷ ps) = grind (arith, from_again key ps)
-
 -- what holds of all pairs holds of those from a key on
 pub all_from : (P : Pair → Type 0) (key : List ℕ) (ps : List Pair) → AllByRecursion P ps →
     AllByRecursion P (pairs_from key ps)
@@ -72,20 +66,18 @@ pub rises_from : (key : List ℕ) (ps : List Pair) → Rises ps → Rises (pairs
 rises_from key [] h = tt
 rises_from key (p ∷ ps) h = grind (arith, all_from, rises_from key ps h.1)
 
--- ---- in a leaf
+-- ---- copies of the first pairs
 
--- of the pairs of a leaf the rest is left, and the scan has come to it with these
-pub record LeafScan (from : List ℕ) (limit : ℕ) (old leaf pairs rest : List Pair) : Type 0 where
+-- of all pairs these were copied, and the rest is left
+pub record IsCopiedTo (limit : ℕ) (all pairs rest : List Pair) : Type 0 where
   pub within : length pairs ≤ limit
-  pub same : take limit (old ++ pairs_from from leaf) ≡ take limit (pairs ++ pairs_from from rest)
+  pub same : take limit all ≡ take limit (pairs ++ rest)
 
--- the scan has come behind a part of the rest
-pub leaf_scanned : (from : List ℕ) (limit : ℕ) (old leaf pairs rest : List Pair) →
-    LeafScan from limit old leaf pairs rest → (part more : List Pair) → rest ≡ part ++ more →
-    (new : List Pair) → new ≡ take limit (pairs ++ pairs_from from part) →
-    LeafScan from limit old leaf new more
-leaf_scanned from limit old leaf pairs rest s part more e new is =
-    grind (arith, common_steps, pairs_from-append)
+-- a part of the rest was copied
+pub copied_on : (limit : ℕ) (all pairs rest : List Pair) → IsCopiedTo limit all pairs rest →
+    (part more : List Pair) → rest ≡ part ++ more → (new : List Pair) →
+    new ≡ take limit (pairs ++ part) → IsCopiedTo limit all new more
+copied_on limit all pairs rest s part more e new is = grind (arith, common_steps)
 
 -- ---- the least key above another
 

@@ -37,19 +37,11 @@ use Rattle.prolly_check.specs.Verdict.{FramesVerdict, AcceptsFiles}
 use Rattle.prolly_check.specs.declared.verdict.fault.CheckFault.{CheckFault}
 use Rattle.prolly_check.specs.declared.verdict.fault.CheckFault.TheVariants.{NotCanonical}
 use Rattle.prolly_check.specs.declared.verdict.fault.CheckFault.TheVariants.{Collision}
+pub use Rattle.prolly_check.specs.lemmas.Held.{difference_ok, if_none, or_none}
 use Rattle.prolly_check.proofs.HeldPairs.{flat_held, all_hold, map_holds}
 use Rattle.prolly_check.proofs.RisingKeys.{rises_append, rising_is}
 
 -- ---- what is accepted is the file of a map
-
-pub if_none : {F : Type 0} (t : Bool) (f : F) (o : Option F) → cond t o (Some f) ≡ None →
-    (t ≡ true) × (o ≡ None)
-if_none true f o e = (refl, e)
-if_none false f o e = cc
-
-pub or_none : {A : Type 0} (a b : Option A) → or_else a b ≡ None → (a ≡ None) × (b ≡ None)
-or_none None b e = (refl, e)
-or_none (Some x) b e = cc
 
 pub unless_none : (t : Bool) (f : CheckFault) (o : Option CheckFault) → cond t (Some f) o ≡ None →
     (t ≡ false) × (o ≡ None)
@@ -97,15 +89,6 @@ order_is last number (ps ∷ lists) =
     search (rules, rises_append, order_is (last_behind last ps) (suc number) lists)
 
 -- ---- the one file
-
-pub difference_ok : (number : ℕ) (cs ds : List (List ℕ)) → difference number cs ds ≡ None → cs ≡ ds
-difference_ok number [] [] h = refl
-difference_ok number [] (d ∷ ds) h = cc
-difference_ok number (c ∷ cs) [] h = cc
-difference_ok number (c ∷ cs) (d ∷ ds) h =
-    let s = if_none (bytes_eq c d) (NotCanonical number) (difference (suc number) cs ds) h in
-    ap (λ x. x ∷ cs) ((bytes_eq-Decides c d).0 s.0) ∙
-    ap (λ xs. d ∷ xs) (difference_ok (suc number) cs ds s.1)
 
 pub end_is : (found wanted : List ℕ) → (end_fault found wanted ≡ None) ↔ (found ≡ wanted)
 end_is found wanted = grind (arith, bytes_eq-Decides)

@@ -10,6 +10,7 @@ use Rattle.prolly_entry.specs.declared.version.Version.{Version}
 use Rattle.prolly_tree.specs.File.{file}
 use Rattle.prolly_file.specs.Header.{header_tests, header_fault, version_of}
 use Rattle.prolly_file.specs.declared.format.header.HeaderFault.{HeaderFault}
+use Rattle.prolly_file.specs.declared.device.part_reader.ReadFault.{ReadFault}
 use Rattle.prolly_file.specs.declared.device.whole.WholeFault.{WholeFault}
 use Rattle.prolly_check.specs.Content.{Content}
 use Rattle.prolly_check.specs.Entries.{IsRead}
@@ -19,6 +20,7 @@ use Rattle.prolly_check.specs.declared.verdict.fault.CheckFault.{CheckFault}
 use Rattle.prolly_check.specs.declared.verdict.fault.CheckFault.TheVariants.{Memory, Read, TooLong}
 use Rattle.prolly_check.specs.declared.verdict.fault.CheckFault.TheVariants.{BadHeader, Truncated}
 use Rattle.prolly_file.specs.declared.format.header.HeaderFault.TheVariants as header
+use Rattle.prolly_file.specs.declared.device.part_reader.ReadFault.TheVariants as part
 use Rattle.prolly_file.specs.declared.device.whole.WholeFault.TheVariants as whole
 
 -- The fault is want of memory, or it is such a one.
@@ -30,6 +32,11 @@ abbrev pub read_fault : WholeFault → CheckFault
 read_fault whole.Memory = Memory
 read_fault whole.Read = Read
 read_fault whole.TooLong = TooLong
+
+-- The fault of reading some of them, as one of checking.
+abbrev pub fault_of_read : ReadFault → CheckFault
+fault_of_read part.Memory = Memory
+fault_of_read part.Read = Read
 
 -- The fault of a header, as one of checking.
 abbrev pub fault_of_header : HeaderFault → CheckFault

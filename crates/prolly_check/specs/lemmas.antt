@@ -7,3 +7,7 @@ pub mod Clashes
 pub mod Chunks
 -- What is found in lists that stand one behind another.
 pub mod PairLists
+-- The entries that bytes spell are read one after another.
+pub mod ReadEntries
+-- The pairs that chunks hold, and chunks that do not differ.
+pub mod Held

@@ -14,8 +14,8 @@ mod verdict;
 
 pub use entries::{CHUNK_LIMIT, Pairs, leaf_event, pairs_of, split_first_child, split_first_pair};
 pub use look_up::{
-    ChildSought, ChunkFlaw, Due, Leaves, Mark, Sought, Step, falls_to, first_pairs_from,
-    pair_sought, rest_from, step_at, step_of, test_chunk, value_in,
+    ChildSought, ChunkFlaw, Due, Leaves, Mark, Sought, Step, falls_to, first_pairs, pair_sought,
+    rest_from, step_at, step_of, test_chunk, value_in,
 };
 pub use numbers::{Level, Missing};
 pub use report::{FileReport, check_bytes};

@@ -10,7 +10,7 @@ pub(crate) use descent::way_to;
 pub use found::{pair_sought, value_in};
 pub(crate) use found::{find_nth, find_value};
 pub use leaves::{Leaves, rest_from};
-pub use scan::first_pairs_from;
+pub use scan::first_pairs;
 pub(crate) use scan::scan_pairs;
 pub use sought::{ChildSought, Mark, Sought};
 pub use step::{ChunkFlaw, Due, Step, falls_to, step_at, step_of, test_chunk};

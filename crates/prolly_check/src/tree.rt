@@ -168,7 +168,7 @@ impl Tree {
         ensures { IfOk result (λ pairs. (content : Content) → IsFileOf self.now content →
             pairs.items ≡ scan content.pairs from.now limit) }
     {
-        scan_pairs(alloc, self.leaves_from(from), from, limit as usize)
+        scan_pairs(alloc, self.leaves_from(from), limit as usize)
     }
 
     /// The key and the value of the pair of this number, counted from 0 in the order of the keys,

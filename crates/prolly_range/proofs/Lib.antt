@@ -4,6 +4,8 @@ mod Splitting
 mod Parts
 -- Chunks that are taken one after another.
 mod Taking
+-- Bytes that are one frame and no more.
+mod FrameReads
 -- Bytes that begin as a proof, or as none.
 mod Starts
 -- What is due below a chunk.

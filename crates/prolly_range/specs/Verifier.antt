@@ -4,6 +4,8 @@ use Rattle.std.specs.List.{AllByRecursion, flat_map}
 use Rattle.prolly_entry.specs.Pair.{Pair}
 use Rattle.prolly_entry.specs.declared.version.Version.{Version}
 use Rattle.prolly_file.specs.Frame.{framed, IsSmall}
+use Rattle.prolly_file.specs.declared.device.part_reader.ReadFault.{ReadFault}
+use Rattle.prolly_file.specs.declared.device.part_reader.ReadFault.TheVariants as part
 use Rattle.prolly_root.specs.ProofFault.{IsChunkFault, IsFrameFault}
 use Rattle.prolly_root.specs.declared.proof.fault.ProofFault.{ProofFault}
 use Rattle.prolly_root.specs.declared.proof.fault.ProofFault.TheVariants as proofs
@@ -11,6 +13,11 @@ use Rattle.prolly_range.specs.SetProof.{AreTaken, Due, Takes}
 use Rattle.prolly_range.specs.Start.{IsSetStartFault}
 use Rattle.prolly_range.specs.declared.fault.SetFault.{SetFault}
 use Rattle.prolly_range.specs.declared.fault.SetFault.TheVariants.{Memory, Proof, Read, Stopped}
+
+-- The fault of reading a part of a proof, as one of verifying it.
+abbrev pub fault_of_read : ReadFault → SetFault
+fault_of_read part.Memory = Memory
+fault_of_read part.Read = Read
 
 -- What a verifier keeps: the version of the chunks, those that are due, how many were taken, and
 -- whether a call failed.

@@ -1,7 +1,7 @@
 //! Why a proof of a set of keys shows nothing more.
 ghost use Rattle.std.specs.Prelude.{◌≡◌};
 
-use prolly_file::SourceFault;
+use prolly_file::ReadFault;
 use prolly_root::ProofFault;
 use std::alloc::AllocError;
 use std::error::Error;
@@ -49,12 +49,15 @@ impl From<AllocError> for SetFault {
     }
 }
 
-impl From<SourceFault> for SetFault {
-    ghost use Rattle.prolly_range.specs.declared.fault.SetFault.TheVariants.{Read};
+impl From<ReadFault> for SetFault {
+    ghost use Rattle.prolly_range.specs.Verifier.{fault_of_read};
 
-    ghost from_gives = { λ _ fault. fault ≡ Read };
+    ghost from_gives = { λ read fault. fault ≡ fault_of_read read };
 
-    fn from(_: SourceFault) -> Self {
-        SetFault::Read
+    fn from(read: ReadFault) -> Self {
+        match read {
+            ReadFault::Memory => SetFault::Memory,
+            ReadFault::Read => SetFault::Read,
+        }
     }
 }

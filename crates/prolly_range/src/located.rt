@@ -16,7 +16,6 @@ ghost use Rattle.prolly_range.specs.SetProof.{due_below};
 
 use crate::children::{ChildMet, children_met};
 use crate::due::{Due, LEAF};
-use prolly_check::falls_to;
 use prolly_check::laws::tops_are_read;
 use prolly_entry::Version;
 use prolly_root::{ChunkSource, RootFault, tested_chunk};
@@ -47,13 +46,12 @@ impl<'a, T: Copy + Drop> Located<'a, T> {
             MayFail result }
         ensures asked { HasAsked S.has S.failures source.old source.new result }
     {
-        let chunk = tested_chunk(alloc, source, version, &self.due.reference, &self.place)?;
-        if !falls_to(self.due.above, &chunk) {
-            return Err(RootFault::Level {
-                chunk: S::number(&self.place),
-            });
-        }
-        Ok(chunk)
+        let Due {
+            reference,
+            above,
+            set: _,
+        } = self.due;
+        tested_chunk(alloc, source, version, &reference, above, &self.place)
     }
 
     /// What is due below the chunk, which has these bytes and was tested.

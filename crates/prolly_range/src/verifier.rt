@@ -1,5 +1,5 @@
 //! What the proof of a set of keys shows, for who knows the root alone.
-ghost use Rattle.std.specs.Prelude.{◌≡◌, ◌≢◌, ◌↔◌, ◌<◌, ◌++◌, [], ◌∷◌, length, vec_len, true, false, map, drop};
+ghost use Rattle.std.specs.Prelude.{◌≡◌, ◌≢◌, ◌↔◌, ◌++◌, [], ◌∷◌, true, false, map};
 ghost use Rattle.std.specs.Prelude.{ℕ, Err, IfErr, IfOk, IsErrOf, MatchOption, OnErr, OnOk};
 ghost use Rattle.prolly_entry.specs.declared.version.Version.{Version as VersionValue};
 ghost use Rattle.prolly_file.specs.Writer.{next_count};
@@ -14,20 +14,17 @@ ghost use Rattle.prolly_range.specs.Verifier.{ComesTo, IsNextFault, IsRestOf, Is
 
 use crate::due::{Due, put_below};
 use crate::fault::SetFault;
-use crate::frames::{next_frame, read_up_to};
+use crate::frames::next_frame;
 use crate::key_set::KeySet;
 use crate::proved::ProvedChunk;
 use crate::start::{START_SIZE, test_start};
-use prolly_check::{falls_to, test_chunk};
+use prolly_check::test_chunk;
 use prolly_entry::{Ref, Version};
-use prolly_file::{FRAME_START, Source};
+use prolly_file::{FRAME_START, PartReader, Source};
 use prolly_root::ProofFault;
 use std::alloc::{AllocError, Global};
 use std::collections::VecDeque;
 use std::marker::Model;
-
-/// How many bytes are asked for at a time.
-const PART_BYTES: usize = 65_536;
 
 /// Reads the proof of what a map has at the keys of a set, chunk by chunk, from a [`Source`] of any
 /// size, which is lent to each call.
@@ -49,12 +46,11 @@ pub struct SetVerifier<'a> {
     count: usize,
     /// Whether a call failed.
     stopped: bool,
-    /// Room for what is read at a time.
-    part: Vec<u8>,
+    reader: PartReader,
 }
 
 impl<'a> Model for SetVerifier<'a> {
-    ghost use Rattle.std.specs.Prelude.{◌<◌, map, vec_len};
+    ghost use Rattle.std.specs.Prelude.{map};
     ghost use Rattle.prolly_range.specs.Dues.{due_of};
     ghost use Rattle.prolly_range.specs.Verifier.{VerifierView};
 
@@ -66,8 +62,6 @@ impl<'a> Model for SetVerifier<'a> {
       count = v.count;
       stopped = v.stopped;
     } };
-
-    ghost invariant = { λ v. 0 < vec_len v.part };
 }
 
 impl<'a> SetVerifier<'a> {
@@ -97,15 +91,15 @@ impl<'a> SetVerifier<'a> {
         ensures steady { (S.seen source.old).is_steady ≡ true →
             (S.seen source.new).is_steady ≡ true }
     {
-        let mut part = part_buffer(alloc)?;
+        let mut reader = PartReader::new(alloc)?;
         let due = whole_due(alloc, root, set)?;
-        read_start(alloc, source, &mut part, version)?;
+        read_start(alloc, source, &mut reader, version)?;
         Ok(SetVerifier {
             version,
             due,
             count: 0,
             stopped: false,
-            part,
+            reader,
         })
     }
 
@@ -152,7 +146,7 @@ impl<'a> SetVerifier<'a> {
             alloc,
             source,
             self.version,
-            &mut self.part,
+            &mut self.reader,
             &mut self.due,
             self.count,
         )?;
@@ -182,22 +176,13 @@ fn whole_due<'a>(
     Ok(due)
 }
 
-/// Room for a part.
-fn part_buffer(alloc: Global) -> Result<Vec<u8>, AllocError>
-    ensures { IfOk result (λ part. vec_len part ≡ PART_BYTES) }
-{
-    vec![in alloc; 0; PART_BYTES]
-}
-
 /// Reads what a proof over chunks of the version begins with.
 fn read_start<S: Source>(
     alloc: Global,
     source: &mut S,
-    part: &mut [u8],
+    reader: &mut PartReader,
     version: Version,
 ) -> Result<(), SetFault>
-    requires { 0 < length part.old }
-    ensures part { length part.new ≡ length part.old }
     ensures start { (S.seen source.old).is_honest ≡ true → OnOk result
         ((S.seen source.old).left ≡ set_start version ++ (S.seen source.new).left) }
     ensures fault { (S.seen source.old).is_honest ≡ true →
@@ -208,7 +193,7 @@ fn read_start<S: Source>(
     ensures steady { (S.seen source.old).is_steady ≡ true → (S.seen source.new).is_steady ≡ true }
 {
     let mut front = Vec::new(alloc);
-    let _ = read_up_to(source, part, &mut front, START_SIZE)?;
+    let _ = reader.read_up_to(source, &mut front, START_SIZE)?;
     match test_start(version, &front) {
         Ok(()) => Ok(()),
         Err(fault) => Err(SetFault::Proof(fault)),
@@ -220,12 +205,10 @@ fn next_chunk<'a, S: Source>(
     alloc: Global,
     source: &mut S,
     version: Version,
-    part: &mut [u8],
+    reader: &mut PartReader,
     due: &mut VecDeque<Due<'a>>,
     number: usize,
 ) -> Result<Option<ProvedChunk<'a>>, SetFault>
-    requires { 0 < length part.old }
-    ensures part { length part.new ≡ length part.old }
     ensures comes { IfOk result (λ chunk. ComesTo version (map due_of due.old.items) chunk
         (map due_of due.new.items) (S.seen source.old).is_honest (S.seen source.old).left
         (S.seen source.new).left) }
@@ -239,19 +222,21 @@ fn next_chunk<'a, S: Source>(
     ensures steady { (S.seen source.old).is_steady ≡ true → (S.seen source.new).is_steady ≡ true }
 {
     let Some(first) = due.pop_front() else {
-        test_end(alloc, source, part)?;
+        test_end(alloc, source, reader)?;
         return Ok(None);
     };
-    let frame = next_frame(alloc, source, part, number)?;
+    let frame = next_frame(alloc, source, reader, number)?;
     test_due(version, &frame[FRAME_START..], &first, number)?;
     put_below(alloc, version, &frame[FRAME_START..], first.set, due)?;
     Ok(Some(ProvedChunk::new(version, frame, first.set)))
 }
 
 /// Tests whether the source is at its end.
-fn test_end<S: Source>(alloc: Global, source: &mut S, part: &mut [u8]) -> Result<(), SetFault>
-    requires { 0 < length part.old }
-    ensures part { length part.new ≡ length part.old }
+fn test_end<S: Source>(
+    alloc: Global,
+    source: &mut S,
+    reader: &mut PartReader,
+) -> Result<(), SetFault>
     ensures over { (S.seen source.old).is_honest ≡ true →
         OnOk result ((S.seen source.old).left ≡ []) }
     ensures fault { (S.seen source.old).is_honest ≡ true → (version : VersionValue) (number : ℕ) →
@@ -262,7 +247,7 @@ fn test_end<S: Source>(alloc: Global, source: &mut S, part: &mut [u8]) -> Result
     ensures steady { (S.seen source.old).is_steady ≡ true → (S.seen source.new).is_steady ≡ true }
 {
     let mut behind = Vec::new(alloc);
-    if read_up_to(source, part, &mut behind, 1)? {
+    if reader.read_up_to(source, &mut behind, 1)? {
         return Ok(());
     }
     Err(SetFault::Proof(ProofFault::Trailing))
@@ -275,11 +260,8 @@ fn test_due(version: Version, chunk: &[u8], due: &Due<'_>, number: usize) -> Res
     ensures err { IfErr result (λ fault. (flaw : ProofFault) × (fault ≡ SetFault.Proof flaw) ×
         IsChunkFault version due.now.reference.0 due.now.above chunk.now number flaw) }
 {
-    if let Err(flaw) = test_chunk(version, chunk, &due.reference) {
-        return Err(SetFault::Proof(ProofFault::of_flaw(flaw, number)));
+    match test_chunk(version, chunk, &due.reference, due.above) {
+        Ok(()) => Ok(()),
+        Err(flaw) => Err(SetFault::Proof(ProofFault::of_flaw(flaw, number))),
     }
-    if !falls_to(due.above, chunk) {
-        return Err(SetFault::Proof(ProofFault::Level { chunk: number }));
-    }
-    Ok(())
 }

@@ -1,25 +1,22 @@
 -- Going down in a lawful tree, from a node to the top of a tree below it.
-use Rattle.std.proofs.Common.{◌≡◌, ℕ, zero, suc, ◌-◌, List, [], ◌∷◌, ◌++◌, length, drop, map, inl}
+use Rattle.std.proofs.Common.{◌≡◌, ℕ, zero, suc, ◌-◌, List, [], ◌∷◌, ◌++◌, length, drop, map}
 use Rattle.std.proofs.Common.{inr, Option, Some, Result, Ok, Err, refl, sym, ap, ◌∙◌, subst, arith}
 use Rattle.prolly_check.specs.Chunks.{chunks_of}
 use Rattle.prolly_check.specs.Content.{Content}
-use Rattle.prolly_check.specs.Descent.{ChildIsTree, HasTree, IsTreeOf}
+use Rattle.prolly_check.specs.Descent.{ChildIsTree, IsTreeOf}
 use Rattle.prolly_check.specs.Descent.{TopIsRead, child_of}
 use Rattle.prolly_check.specs.Entries.{Child}
 use Rattle.prolly_check.specs.Kinds.{kind_of}
 use Rattle.prolly_check.specs.Sought.{Sought, IsChildOf}
 use Rattle.prolly_check.specs.Way.{FallsTo, IsOrdered, level_of}
 use Rattle.prolly_check.specs.declared.look_up.sought.ChildSought.{ChildSought}
-use Rattle.prolly_check.specs.lemmas.Chunks.{one_chunk}
 use Rattle.prolly_entry.specs.Reference.{reference_of}
 use Rattle.prolly_entry.specs.declared.version.Version.{Version}
-use Rattle.prolly_tree.specs.Chunk.{IsIn, chunk_of}
 use Rattle.prolly_tree.specs.Tree.{Tree, bytes_of}
-use Rattle.prolly_tree.specs.lemmas.Trees.{in_back}
-use Rattle.prolly_root.specs.Descent.{StandsAt, StandsBelow, StandsInPlace}
+use Rattle.prolly_root.specs.Descent.{StandsBelow, StandsInPlace}
 use Rattle.prolly_root.specs.RootFault.{IsOrFails, MayFail, OnlyRead}
 use Rattle.prolly_root.specs.declared.root_fault.RootFault.{RootFault}
-use Rattle.prolly_root.specs.ChunkSource.{IsChildNumber, IsLawful}
+use Rattle.prolly_root.specs.ChunkSource.{IsChildNumber}
 use Rattle.prolly_root.specs.declared.look_up.chunk_on_way.ChunkOnWay.{ChunkOnWay}
 use Rattle.prolly_root.specs.lemmas.Places.{level_is}
 
@@ -167,46 +164,25 @@ module _ {T : Type 0} (is_place : Content → (level : ℕ) → Tree level → T
         lands child (level - 1) level b found high (place b.ts b.t b.stands b.at),
       )
 
--- ---- the chunk of a reference
-
-top_in : (version : Version) (chunks : List (List ℕ)) (level : ℕ) (t : Tree level) →
-    HasTree version chunks level t → IsIn (bytes_of version level t) chunks
-top_in version chunks zero leaf has = has (chunk_of version 0 leaf) (inl refl)
-top_in version chunks (suc level) ts has = has (chunk_of version (suc level) ts)
-    (in_back (chunk_of version (suc level) ts) _ (chunk_of version (suc level) ts ∷ []) (inl refl))
-
--- two tops of trees with one reference are one chunk
-same_chunk : (content : Content) → IsLawful content → (level : ℕ) (t : Tree level) (other : ℕ)
-    (u : Tree other) → IsTreeOf content.version (chunks_of content) level t →
-    IsTreeOf content.version (chunks_of content) other u →
-    reference_of (bytes_of content.version level t) ≡
-    reference_of (bytes_of content.version other u) →
-    bytes_of content.version level t ≡ bytes_of content.version other u
-same_chunk content lawful level t other u of also = one_chunk (chunks_of content)
-    (bytes_of content.version level t) (bytes_of content.version other u) lawful.apart
-    (top_in content.version (chunks_of content) level t of.has)
-    (top_in content.version (chunks_of content) other u also.has)
-
 -- ---- at the chunk that is due
 
-module _ {T : Type 0} (is_place : Content → (level : ℕ) → Tree level → T → Type 0)
-    (content : Content) (reference : List ℕ) (place : T) where
-  -- what has its bytes has its reference, and can be read
-  pub is_due : (at : StandsAt is_place content reference place) →
-      ((version : Version) → TopIsRead version) → (version : Version) →
-      version ≡ content.version → (chunk : List ℕ) →
-      chunk ≡ bytes_of content.version at.level at.t →
-      (reference_of chunk ≡ reference) × IsOrdered version chunk
-  is_due at read version same chunk is = (
-    ap reference_of is ∙ sym at.named,
-    subst (λ v. IsOrdered v chunk) (sym same) (subst (IsOrdered content.version) (sym is)
-        (read content.version (chunks_of content) at.level at.t at.below).0),
-  )
+-- these bytes have the reference, can be read, and stand one level below this one
+pub record IsDue (version : Version) (reference : List ℕ) (above : Option ℕ) (chunk : List ℕ)
+    : Type 0 where
+  pub named : reference_of chunk ≡ reference
+  pub ordered : IsOrdered version chunk
+  pub falls : FallsTo above chunk
 
-  -- what was kept with its reference stands on the right level
-  pub kept_falls : (above : Option ℕ) → StandsBelow is_place content reference above place →
-      IsLawful content → (chunk : ChunkOnWay T) → StandsInPlace is_place content chunk →
-      chunk.reference.0 ≡ reference → FallsTo above chunk.chunk.items
-  kept_falls above due lawful chunk k same = subst (FallsTo above)
-      (sym (k.is ∙ same_chunk content lawful k.at.level k.at.t due.at.level due.at.t k.at.below
-      due.at.below (sym k.at.named ∙ same ∙ due.at.named))) due.falls
+-- so do those of the top of a tree
+pub is_due : {T : Type 0} (is_place : Content → (level : ℕ) → Tree level → T → Type 0)
+    (content : Content) (reference : List ℕ) (above : Option ℕ) (place : T)
+    (due : StandsBelow is_place content reference above place) →
+    ((version : Version) → TopIsRead version) → (version : Version) →
+    version ≡ content.version → (chunk : List ℕ) →
+    chunk ≡ bytes_of content.version due.at.level due.at.t → IsDue version reference above chunk
+is_due is_place content reference above place due read version same chunk is = record {
+  named = ap reference_of is ∙ sym due.at.named;
+  ordered = subst (λ v. IsOrdered v chunk) (sym same) (subst (IsOrdered content.version) (sym is)
+      (read content.version (chunks_of content) due.at.level due.at.t due.at.below).0);
+  falls = subst (FallsTo above) (sym is) due.falls;
+}

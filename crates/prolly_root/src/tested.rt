@@ -1,10 +1,10 @@
 //! Reading a chunk of which nothing is believed.
 ghost use Rattle.std.specs.Prelude.{◌≡◌, IfOk, IfErr, IsOk, OnOk};
 ghost use Rattle.prolly_check.specs.Content.{Content};
-ghost use Rattle.prolly_check.specs.Way.{IsNamed, IsOrdered};
+ghost use Rattle.prolly_check.specs.Way.{FallsTo, IsNamed, IsOrdered};
 ghost use Rattle.prolly_entry.specs.Reference.{reference_of};
 ghost use Rattle.prolly_root.specs.ChunkSource.{HasAsked};
-ghost use Rattle.prolly_root.specs.Descent.{StandsAt};
+ghost use Rattle.prolly_root.specs.Descent.{StandsBelow};
 ghost use Rattle.prolly_root.specs.RootFault.{IsOrFails, MayFail};
 ghost use Rattle.prolly_tree.specs.Tree.{bytes_of};
 
@@ -15,8 +15,9 @@ use prolly_check::test_chunk;
 use prolly_entry::{Ref, Version};
 use std::alloc::Global;
 
-/// The chunk that stands in this place, where it has the reference and can be read: it is a level
-/// and whole lawful entries of that level's kind, whose keys rise.
+/// The chunk that stands in this place, where it is the one that is due there: it has the reference,
+/// is a level and whole lawful entries of that level's kind, whose keys rise, and stands one level
+/// below `above`, where there is a chunk above it.
 ///
 /// Takes memory for the chunk, and time linear in its length.
 pub fn tested_chunk<S: ChunkSource>(
@@ -24,31 +25,40 @@ pub fn tested_chunk<S: ChunkSource>(
     source: &mut S,
     version: Version,
     reference: &Ref,
+    above: Option<u8>,
     place: &S::Place,
 ) -> Result<Vec<u8>, RootFault>
     ensures named { IfOk result (λ chunk. IsNamed version reference.now.0 chunk.items) }
+    ensures falls { IfOk result (λ chunk. FallsTo above chunk.items) }
 
     // The chunk of a lawful tree is never refused.
     ensures lawful { (content : Content) → S.has source.old content → version ≡ content.version →
-        (at : StandsAt S.is_place content reference.now.0 place.now) → IsOrFails (λ chunk.
-        chunk.items ≡ bytes_of content.version at.level at.t) MayFail result }
+        (due : StandsBelow S.is_place content reference.now.0 above place.now) → IsOrFails (λ chunk.
+        chunk.items ≡ bytes_of content.version due.at.level due.at.t) MayFail result }
     ensures asked { HasAsked S.has S.failures source.old source.new result }
 {
     // By this law the chunk of a lawful tree can be read.
     tops_are_read();
     let chunk = source.chunk(alloc, place)?;
-    test(version, &chunk, reference, S::number(place))?;
+    test(version, &chunk, reference, above, S::number(place))?;
     Ok(chunk)
 }
 
-/// Tests whether the chunk of this number has the reference and can be read.
-fn test(version: Version, chunk: &[u8], reference: &Ref, number: u64) -> Result<(), RootFault>
+/// Tests whether the chunk of this number is the one that is due.
+fn test(
+    version: Version,
+    chunk: &[u8],
+    reference: &Ref,
+    above: Option<u8>,
+    number: u64,
+) -> Result<(), RootFault>
     ensures named { OnOk result (IsNamed version reference.now.0 chunk.now) }
+    ensures falls { OnOk result (FallsTo above chunk.now) }
     ensures fits { reference_of chunk.now ≡ reference.now.0 → IsOrdered version chunk.now →
-        IsOk result }
+        FallsTo above chunk.now → IsOk result }
     ensures read { IfErr result (λ fault. fault ≡ RootFault.Read → ⊥) }
 {
-    match test_chunk(version, chunk, reference) {
+    match test_chunk(version, chunk, reference, above) {
         Ok(()) => Ok(()),
         Err(flaw) => Err(RootFault::of_flaw(flaw, number)),
     }

@@ -17,7 +17,7 @@ use Rattle.prolly_check.specs.Kinds.{Entries, kind_of}
 use Rattle.prolly_check.specs.Kinds.Entries.{Leaf, Node}
 use Rattle.prolly_check.specs.Way.{FallsTo, IsNamed, level_of}
 use Rattle.prolly_root.specs.ChunkSource.{IsChildNumber, IsLawful, root_level, root_tree}
-use Rattle.prolly_root.specs.Descent.{StandsAt, StandsBelow}
+use Rattle.prolly_root.specs.Descent.{StandsBelow}
 use Rattle.prolly_root.specs.RootFault.{IsOrFails, OnlyRead}
 use Rattle.prolly_root.specs.declared.root_fault.RootFault.{RootFault}
 use Rattle.prolly_root.specs.lemmas.Places.{level_is, root_stands}
@@ -378,13 +378,18 @@ module _ {T : Type 0} (is_place : Content → (level : ℕ) → Tree level → T
 
   -- ---- the chunk that was read
 
-  -- the chunk of a reference stands where that of the same reference does
-  abbrev pub renamed : (r s : List ℕ) (place : T) → r ≡ s → StandsAt is_place content s place →
-      StandsAt is_place content r place
-  renamed r s place same at = record {
-    level = at.level;
-    t = at.t;
-    below = at.below;
-    named = same ∙ at.named;
-    stands = at.stands;
+  -- the chunk of a reference stands where that of the same reference does, and as deep
+  abbrev pub stands_below : (r s : List ℕ) (place : T) → r ≡ s → (above over : Option ℕ) →
+      above ≡ over → StandsBelow is_place content s over place →
+      StandsBelow is_place content r above place
+  stands_below r s place same above over level due = record {
+    at = record {
+      level = due.at.level;
+      t = due.at.t;
+      below = due.at.below;
+      named = same ∙ due.at.named;
+      stands = due.at.stands;
+    };
+    falls = subst (λ a. FallsTo a (bytes_of content.version due.at.level due.at.t)) (sym level)
+        due.falls;
   }

@@ -134,7 +134,7 @@ fn test_all<R: Threads + Sync>(rt: &R, threads: usize, version: Version, chunks:
 fn is_leaf_named(version: Version, chunk: &[u8], reference: &Ref) -> bool
     ensures { result ≡ true → IsLeafNamed version reference.now.0 chunk.now }
 {
-    match test_chunk(version, chunk, reference) {
+    match test_chunk(version, chunk, reference, None) {
         Ok(()) => chunk[0] == LEAF,
         Err(_) => false,
     }

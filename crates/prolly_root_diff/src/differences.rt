@@ -158,6 +158,8 @@ impl<T: Copy + Drop, U: Copy + Drop> RootDifferences<T, U> {
             self.old.notes) }
         ensures none { result ≡ None → (notes : NotesValue) → self.old.notes ≡ Some notes →
             2 ^ 64 ≤ sum_by (λ n. n.length) notes.new.items }
+        ensures stays { (self.new.version ≡ self.old.version) ×
+            (lefts_of self.new ≡ lefts_of self.old) × (self.new.stopped ≡ self.old.stopped) }
     {
         // By this law what was noted tells what is missing.
         walks_are_right();

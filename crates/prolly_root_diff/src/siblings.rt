@@ -13,7 +13,7 @@ ghost use Rattle.prolly_root_diff.specs.Sides.{level_above};
 
 use crate::ahead::Fetched;
 use prolly_check::laws::tops_are_read;
-use prolly_check::{falls_to, split_first_child};
+use prolly_check::split_first_child;
 use prolly_entry::{Ref, Version};
 use prolly_root::{ChunkSource, RootFault, tested_chunk};
 use std::alloc::{AllocError, Global};
@@ -242,12 +242,8 @@ impl<T: Copy + Drop> Siblings<T> {
         ensures asked { HasAsked S.has S.failures source.old source.new result }
     {
         let place = self.find(source, version)?;
-        let chunk = tested_chunk(alloc, source, version, &self.next, &place)?;
-        if !falls_to(self.above(), &chunk) {
-            return Err(RootFault::Level {
-                chunk: S::number(&place),
-            });
-        }
+        let above = self.above();
+        let chunk = tested_chunk(alloc, source, version, &self.next, above, &place)?;
         Ok((chunk, place))
     }
 }

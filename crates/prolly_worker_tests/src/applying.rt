@@ -77,7 +77,7 @@ fn leaves_of<R: Wait>(
 fn old_leaf(alloc: Global, event: ChunkEvent) -> Result<Option<OldLeaf>, Fail> {
     let reference = event.reference();
     let chunk = event.into_bytes();
-    if let Err(_) = test_chunk(Version::One, &chunk, &reference) {
+    if let Err(_) = test_chunk(Version::One, &chunk, &reference, None) {
         return Ok(None);
     }
     if pairs_of(Version::One, &chunk).is_empty() {

@@ -60,10 +60,7 @@ pub fn step_at<'c, 'a>(
     ensures step { IfOk result (IsStep version (sought_of due.now.sought) chunk.now) }
     ensures err { IfErr result (IsFlawedChunk version due.now.reference.0 due.now.above chunk.now) }
 {
-    test_chunk(version, chunk, &due.reference)?;
-    if !falls_to(due.above, chunk) {
-        return Err(ChunkFlaw::Level);
-    }
+    test_chunk(version, chunk, &due.reference, due.above)?;
     match step_of(version, chunk, Mark::first(), due.sought) {
         Some(child) => Ok(Step::Below(Due {
             reference: child.reference,
@@ -74,11 +71,32 @@ pub fn step_at<'c, 'a>(
     }
 }
 
-/// Tests whether a chunk has the reference, and is a level and whole lawful entries of that level's
-/// kind, whose keys rise.
+/// Tests whether a chunk is the one that is due: it has the reference, is a level and whole lawful
+/// entries of that level's kind, whose keys rise, and stands one level below `above`, where there is a
+/// chunk above it.
 ///
 /// Takes no memory. Hashes the chunk and reads it twice, so in time linear in its length.
-pub fn test_chunk(version: Version, chunk: &[u8], reference: &Ref) -> Result<(), ChunkFlaw>
+pub fn test_chunk(
+    version: Version,
+    chunk: &[u8],
+    reference: &Ref,
+    above: Option<u8>,
+) -> Result<(), ChunkFlaw>
+    ensures named { OnOk result (IsNamed version reference.now.0 chunk.now) }
+    ensures falls { OnOk result (FallsTo above chunk.now) }
+    ensures err { IfErr result (IsFlawedChunk version reference.now.0 above chunk.now) }
+{
+    test_named(version, chunk, reference)?;
+    if falls_to(above, chunk) {
+        Ok(())
+    } else {
+        Err(ChunkFlaw::Level)
+    }
+}
+
+/// Tests whether a chunk has the reference, and is a level and whole lawful entries of that level's
+/// kind, whose keys rise.
+fn test_named(version: Version, chunk: &[u8], reference: &Ref) -> Result<(), ChunkFlaw>
     ensures ok { OnOk result (IsNamed version reference.now.0 chunk.now) }
     ensures err { IfErr result (λ flaw. (above : Option ℕ) →
         IsFlawedChunk version reference.now.0 above chunk.now flaw) }

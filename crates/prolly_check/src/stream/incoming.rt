@@ -1,11 +1,11 @@
 //! The bytes of a source as they come.
-ghost use Rattle.std.specs.Prelude.{◌≡◌, ◌≢◌, ◌↔◌, ◌<◌, ◌≤◌, ◌++◌, [], true, false, length, vec_len};
-ghost use Rattle.std.specs.Prelude.{IfErr, IfOk, IsErrOf, OnOk, ◌⊎◌};
+ghost use Rattle.std.specs.Prelude.{◌≡◌, ◌≢◌, ◌↔◌, ◌⊎◌, ◌++◌, [], true, false, IfErr, IfOk, IsErrOf};
+ghost use Rattle.std.specs.Prelude.{OnOk};
 ghost use Rattle.prolly_check.specs.Incoming.{IsFilled};
 
 use crate::entries::CHUNK_LIMIT;
 use crate::verdict::CheckFault;
-use prolly_file::{FRAME_LETTER, FRAME_START, Source, frame_at};
+use prolly_file::{FRAME_LETTER, FRAME_START, PartReader, Source, frame_at};
 
 /// How many bytes of a file are looked at together: as many as this, and more only where a frame is
 /// larger. Threads share the chunks of a window out, so it has to hold many of them.
@@ -21,11 +21,9 @@ const LONGEST_FRAME: usize = FRAME_START + CHUNK_LIMIT;
 /// is not believed. Once more than [`CHUNK_LIMIT`] bytes of a chunk came, memory is refused.
 pub(crate) fn fill<S: Source>(
     source: &mut S,
-    part: &mut [u8],
+    reader: &mut PartReader,
     bytes: &mut Vec<u8>,
 ) -> Result<bool, CheckFault>
-    requires { 0 < length part.old }
-    ensures part { length part.new ≡ length part.old }
     ensures bytes { (S.seen source.old).is_honest ≡ true → OnOk result
         (bytes.old.items ++ (S.seen source.old).left ≡ bytes.new.items ++ (S.seen source.new).left) }
     ensures over { (S.seen source.old).is_honest ≡ true →
@@ -42,7 +40,7 @@ pub(crate) fn fill<S: Source>(
 {
     let mut wanted = WINDOW_BYTES;
     loop {
-        if read_up_to(source, part, bytes, wanted)? {
+        if reader.read_up_to(source, bytes, wanted)? {
             return Ok(true);
         }
         if bytes[0] != FRAME_LETTER {
@@ -56,39 +54,4 @@ pub(crate) fn fill<S: Source>(
         }
         wanted = bytes.len() * 2;
     }
-}
-
-/// Reads on until there are so many bytes, or the source is at its end. Answers whether it is.
-fn read_up_to<S: Source>(
-    source: &mut S,
-    part: &mut [u8],
-    bytes: &mut Vec<u8>,
-    wanted: usize,
-) -> Result<bool, CheckFault>
-    requires { 0 < length part.old }
-    ensures part { length part.new ≡ length part.old }
-    ensures bytes { (S.seen source.old).is_honest ≡ true → OnOk result
-        (bytes.old.items ++ (S.seen source.old).left ≡ bytes.new.items ++ (S.seen source.new).left) }
-    ensures over { (S.seen source.old).is_honest ≡ true →
-        IfOk result (λ is_over. is_over ≡ true → (S.seen source.new).left ≡ []) }
-    ensures enough { IfOk result (λ is_over. is_over ≡ false → wanted ≤ vec_len bytes.new) }
-    ensures read { IsErrOf result CheckFault.Read ↔ ((S.seen source.new).failures ≢ (S.seen
-        source.old).failures) }
-    ensures unfailed { OnOk result ((S.seen source.new).failures ≡ (S.seen source.old).failures) }
-    ensures only { IfErr result (λ fault. (fault ≡ CheckFault.Memory) ⊎ (fault ≡ CheckFault.Read)) }
-    ensures never { (S.seen source.old).is_steady ≡ true →
-        (S.seen source.new).failures ≡ (S.seen source.old).failures }
-    ensures honest { (S.seen source.old).is_honest ≡ true → (S.seen source.new).is_honest ≡ true }
-    ensures steady { (S.seen source.old).is_steady ≡ true → (S.seen source.new).is_steady ≡ true }
-{
-    while bytes.len() < wanted {
-        let Ok(count) = source.read(part) else {
-            return Err(CheckFault::Read);
-        };
-        if count == 0 {
-            return Ok(true);
-        }
-        bytes.extend_from_slice(&part[..count])?;
-    }
-    Ok(false)
 }

@@ -12,11 +12,8 @@ use crate::stream::fault::StreamFault;
 use crate::stream::incoming::fill;
 use crate::verdict::{CheckFault, ChunkHasher, find_frames};
 use prolly_entry::{Ref, Sha512Cut, Version};
-use prolly_file::{HEADER_SIZE, Header, Source, read_header};
-use std::alloc::{AllocError, Global};
-
-/// How many bytes are asked for at a time.
-const PART_BYTES: usize = 65_536;
+use prolly_file::{HEADER_SIZE, Header, PartReader, Source, read_header};
+use std::alloc::Global;
 
 /// What is said of a file that is that of the tree of a root.
 #[derive(Clone, Copy, Debug, PartialEq, Eq)]
@@ -71,9 +68,9 @@ pub fn check_by_root<H: ChunkHasher, S: Source>(
     ensures honest { (S.seen source.old).is_honest ≡ true → (S.seen source.new).is_honest ≡ true }
     ensures steady { (S.seen source.old).is_steady ≡ true → (S.seen source.new).is_steady ≡ true }
 {
-    let mut part = part_buffer(alloc)?;
+    let mut reader = PartReader::new(alloc)?;
     let mut bytes = Vec::new(alloc);
-    fill(source, &mut part, &mut bytes)?;
+    fill(source, &mut reader, &mut bytes)?;
     let header = match read_header(&bytes) {
         Ok(header) => header,
         Err(fault) => return Err(StreamFault::Check(CheckFault::from(fault))),
@@ -82,19 +79,12 @@ pub fn check_by_root<H: ChunkHasher, S: Source>(
         return Err(StreamFault::Version);
     }
     let_go(&mut bytes, HEADER_SIZE);
-    let (chunks, found) = check_body(hasher, alloc, source, &mut part, bytes, header)?;
+    let (chunks, found) = check_body(hasher, alloc, source, &mut reader, bytes, header)?;
     if found != *root {
         return Err(StreamFault::OtherRoot);
     }
     let bits = header.bits;
     Ok(RootReport { bits, chunks })
-}
-
-/// Room for a part.
-fn part_buffer(alloc: Global) -> Result<Vec<u8>, AllocError>
-    ensures { IfOk result (λ part. vec_len part ≡ PART_BYTES) }
-{
-    vec![in alloc; 0; PART_BYTES]
 }
 
 /// Lets the first bytes go, so many.
@@ -113,12 +103,11 @@ fn check_body<H: ChunkHasher, S: Source>(
     hasher: &H,
     alloc: Global,
     source: &mut S,
-    part: &mut [u8],
+    reader: &mut PartReader,
     mut bytes: Vec<u8>,
     header: Header,
 ) -> Result<(u64, Ref), CheckFault>
     requires can { H.can_hash hasher.now }
-    requires room { 0 < length part.old }
     requires bits { header.bits ≤ 24 }
     ensures verdict { (S.seen source.old).is_honest ≡ true → IsBodyVerdict header.version header.bits
         (bytes.items ++ (S.seen source.old).left) result }
@@ -137,7 +126,7 @@ fn check_body<H: ChunkHasher, S: Source>(
     let mut read = ChunksRead::new(alloc, cut, header.version)?;
     let mut size: u64 = 0;
     loop {
-        fill(source, part, &mut bytes)?;
+        fill(source, reader, &mut bytes)?;
         let frames = find_frames(alloc, &bytes, 0)?;
         if frames.spans.len() == 0 {
             return read.finish(alloc, &bytes);

@@ -1,7 +1,7 @@
 //! Why bytes are no chunk file.
 
 use prolly_entry::FaultText;
-use prolly_file::{HeaderFault, WholeFault};
+use prolly_file::{HeaderFault, ReadFault, WholeFault};
 use std::alloc::AllocError;
 use std::error::Error;
 use std::fmt;
@@ -110,6 +110,20 @@ impl From<WholeFault> for CheckFault {
             WholeFault::Memory => CheckFault::Memory,
             WholeFault::Read => CheckFault::Read,
             WholeFault::TooLong => CheckFault::TooLong,
+        }
+    }
+}
+
+impl From<ReadFault> for CheckFault {
+    ghost use Rattle.std.specs.Prelude.{◌≡◌};
+    ghost use Rattle.prolly_check.specs.Verdict.{fault_of_read};
+
+    ghost from_gives = { λ read fault. fault ≡ fault_of_read read };
+
+    fn from(read: ReadFault) -> Self {
+        match read {
+            ReadFault::Memory => CheckFault::Memory,
+            ReadFault::Read => CheckFault::Read,
         }
     }
 }

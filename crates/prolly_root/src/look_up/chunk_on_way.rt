@@ -1,10 +1,11 @@
 //! A chunk on the way of a look-up by the root.
-ghost use Rattle.std.specs.Prelude.{◌≡◌, IfOk, IfSome};
+ghost use Rattle.std.specs.Prelude.{◌≡◌, ◌<◌, true, length, IfOk, IfSome};
 ghost use Rattle.prolly_check.specs.Content.{Content};
 ghost use Rattle.prolly_check.specs.Sought.{sought_of};
+ghost use Rattle.prolly_check.specs.Way.{FallsTo};
 ghost use Rattle.prolly_root.specs.ChunkSource.{HasAsked};
-ghost use Rattle.prolly_root.specs.Descent.{IsAtDue, IsTested, IsOnward, StandsAt, StandsBelow};
-ghost use Rattle.prolly_root.specs.Descent.{StandsInPlace, StepsDown};
+ghost use Rattle.prolly_root.specs.Descent.{IsAtDue, IsTested, IsOnward, StandsBelow, StandsInPlace};
+ghost use Rattle.prolly_root.specs.Descent.{StepsDown};
 ghost use Rattle.prolly_root.specs.RootFault.{IsOrFails, MayFail};
 
 use crate::chunk_source::ChunkSource;
@@ -38,27 +39,41 @@ pub(crate) struct ChunkOnWay<T> {
 }
 
 impl<T: Copy> ChunkOnWay<T> {
-    /// The chunk of this reference in this place.
+    /// The chunk that is due in this place.
     fn read<S: ChunkSource<Place = T>>(
         alloc: Global,
         source: &mut S,
         version: Version,
-        reference: Ref,
+        due: &Due<'_>,
         place: T,
     ) -> Result<ChunkOnWay<T>, RootFault>
-        ensures is { IfOk result (λ chunk. IsTested version chunk × (chunk.reference ≡ reference)) }
+        ensures is { IfOk result (IsAtDue version due.now) }
         ensures lawful { (content : Content) → S.has source.old content →
-            version ≡ content.version → StandsAt S.is_place content reference.0 place →
+            version ≡ content.version →
+            StandsBelow S.is_place content due.now.reference.0 due.now.above place →
             IsOrFails (StandsInPlace S.is_place content) MayFail result }
         ensures asked { HasAsked S.has S.failures source.old source.new result }
     {
-        let chunk = tested_chunk(alloc, source, version, &reference, &place)?;
+        let reference = due.reference;
+        let chunk = tested_chunk(alloc, source, version, &reference, due.above, &place)?;
         Ok(ChunkOnWay {
             reference,
             place,
             chunk,
             mark: Mark::first(),
         })
+    }
+
+    /// Whether it is the one that is due.
+    fn is_due(&self, due: &Due<'_>) -> bool
+        requires { 0 < length self.now.chunk.items }
+        ensures { result ≡ true → (self.now.reference ≡ due.now.reference) ×
+            FallsTo due.now.above self.now.chunk.items }
+    {
+        if self.reference != due.reference {
+            return false;
+        }
+        falls_to(due.above, &self.chunk)
     }
 
     /// What a look-up comes to here. See [`ChunkSource::child`] for what is read.
@@ -96,7 +111,7 @@ impl<T: Copy> ChunkOnWay<T> {
     }
 }
 
-/// The chunk that is due in this place.
+/// The chunk that is due in this place: the one that was kept, where that is it, or else it is read.
 pub(crate) fn chunk_at<T: Copy + Drop, S: ChunkSource<Place = T>>(
     alloc: Global,
     source: &mut S,
@@ -113,34 +128,8 @@ pub(crate) fn chunk_at<T: Copy + Drop, S: ChunkSource<Place = T>>(
         IsOrFails (StandsInPlace S.is_place content) MayFail result }
     ensures asked { HasAsked S.has S.failures source.old source.new result }
 {
-    let chunk = kept_or_read(alloc, source, version, kept, due.reference, place)?;
-    if !falls_to(due.above, &chunk.chunk) {
-        return Err(RootFault::Level {
-            chunk: S::number(&place),
-        });
-    }
-    Ok(chunk)
-}
-
-/// The chunk that was kept, where it has this reference, or else the one that stands in this place.
-fn kept_or_read<T: Copy + Drop, S: ChunkSource<Place = T>>(
-    alloc: Global,
-    source: &mut S,
-    version: Version,
-    kept: Option<ChunkOnWay<T>>,
-    reference: Ref,
-    place: T,
-) -> Result<ChunkOnWay<T>, RootFault>
-    requires { IfSome kept (IsTested version) }
-    ensures is { IfOk result (λ chunk. IsTested version chunk × (chunk.reference ≡ reference)) }
-    ensures lawful { (content : Content) → S.has source.old content → version ≡ content.version →
-        StandsAt S.is_place content reference.0 place → IsOrFails (λ chunk.
-        IfSome kept (StandsInPlace S.is_place content) → StandsInPlace S.is_place content chunk)
-        MayFail result }
-    ensures asked { HasAsked S.has S.failures source.old source.new result }
-{
     match kept {
-        Some(chunk) if chunk.reference == reference => Ok(chunk),
-        _another => ChunkOnWay::read(alloc, source, version, reference, place),
+        Some(chunk) if chunk.is_due(due) => Ok(chunk),
+        _another => ChunkOnWay::read(alloc, source, version, due, place),
     }
 }

@@ -10,6 +10,7 @@ ghost use Rattle.prolly_root.specs.Descent.{IsDescent, IsTested, LastTested, Sta
 ghost use Rattle.prolly_root.specs.Descent.{StandsInPlace, chunks_on_way};
 ghost use Rattle.prolly_root.specs.ProofFile.{proof_file};
 ghost use Rattle.prolly_root.specs.RootFault.{IsOrFails, MayFail};
+ghost use Rattle.prolly_tree.specs.Difference.{IsMap};
 ghost use Rattle.prolly_root.specs.declared.look_up.chunk_on_way.ChunkOnWay.{ChunkOnWay as Chunk};
 
 use crate::chunk_source::ChunkSource;
@@ -33,8 +34,9 @@ impl<'a, T> Descent<'a, T> {
     /// The pairs of the last chunk. A node has none.
     pub(crate) fn pairs(&self, version: Version) -> Pairs<'_>
         requires { LastTested version self.now.levels.items }
-        ensures { (above : List (Chunk T)) (last : Chunk T) →
+        ensures last { (above : List (Chunk T)) (last : Chunk T) →
             self.now.levels.items ≡ above ++ last ∷ [] → result ≡ pairs_held last.chunk.items }
+        ensures rising { IsMap result }
     {
         last_pairs(version, &self.levels)
     }
@@ -52,8 +54,9 @@ impl<'a, T> Descent<'a, T> {
 /// The pairs of the last of these chunks. A node has none.
 pub(crate) fn last_pairs<T>(version: Version, levels: &[ChunkOnWay<T>]) -> Pairs<'_>
     requires { LastTested version levels.now }
-    ensures { (above : List (Chunk T)) (last : Chunk T) →
+    ensures last { (above : List (Chunk T)) (last : Chunk T) →
         levels.now ≡ above ++ last ∷ [] → result ≡ pairs_held last.chunk.items }
+    ensures rising { IsMap result }
 {
     let last = &levels[levels.len() - 1];
     pairs_of(version, &last.chunk)

@@ -24,7 +24,7 @@ use crate::look_up::chunk_on_way::ChunkOnWay;
 use crate::look_up::descent::{Descent, go_down, last_pairs};
 use crate::root_fault::RootFault;
 use prolly_check::laws::tops_are_read;
-use prolly_check::{Pairs, Sought, first_pairs_from, pair_sought, rest_from, value_in};
+use prolly_check::{Pairs, Sought, first_pairs, pair_sought, rest_from, value_in};
 use prolly_entry::{Pair, Ref, Version};
 use std::alloc::{AllocError, Global};
 use std::marker::Model;
@@ -183,7 +183,8 @@ impl<T: Copy + Drop> Reader<T> {
         ensures reads { TellsReads (S.failures source.old) (S.failures source.new) result }
     {
         let descent = self.descend(alloc, source, Sought::Key(from))?;
-        let pairs = first_pairs_from(alloc, descent.pairs(self.version), from, most)?;
+        let leaf = rest_from(descent.pairs(self.version), from);
+        let pairs = first_pairs(alloc, leaf, most)?;
         self.levels = descent.levels;
         Ok(pairs)
     }

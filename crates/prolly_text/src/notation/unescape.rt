@@ -12,7 +12,10 @@ pub(crate) fn unescaped(alloc: Global, text: &[u8]) -> Result<Vec<u8>, TextFault
     ensures ok { IfOk result (λ bytes. IsWritten Text text.now bytes.items) }
     ensures err { IfErr result (λ fault. IsTextFault Text text.now fault) }
 {
-    let mut bytes = Vec::new(alloc);
+    // No text is shorter than its bytes.
+    let Ok(mut bytes) = Vec::with_capacity(alloc, text.len()) else {
+        return Err(TextFault::Memory);
+    };
     let mut rest = text;
     while !rest.is_empty() {
         let Some((byte, behind)) = split_piece(rest) else {

@@ -1,4 +1,4 @@
-use Rattle.std.proofs.Common.{◌≡◌, ◌++◌, ◌∙◌, inl, inr, ap, sym, subst}
+use Rattle.std.proofs.Common.{◌≡◌, ◌++◌, ◌∙◌, arith, inl, inr, ap, sym, subst}
 use Rattle.std.proofs.lemmas.Bool.{cases_Bool}
 use Rattle.prolly_range.specs.Start.{IsSetStartFault}
 use Rattle.prolly_range.proofs.Starts.{AreFront, wrong_start}
@@ -13,7 +13,13 @@ returns-clause-fault g c honest =
     c.in_ok-read_up_to.ensures.bytes honest in
     let all : AreFront front after = elim (cases_Bool c.in_ok-read_up_to.field-0) [
       | inl over ↦ inl (c.in_ok-read_up_to.ensures.over honest over)
-      | inr more ↦ inr (sym c.read_up_to.new.bytes.ok.0 ∙ c.in_ok-read_up_to.ensures.enough more)
+      | inr more ↦ inr (omega (
+        arith,
+        c.new-front.ensures.items,
+        c.read_up_to.new.bytes.ok.0,
+        c.in_ok-read_up_to.ensures.enough more,
+        c.in_ok-read_up_to.ensures.within,
+      ))
     ] in
     subst (λ bytes. IsSetStartFault c.args.version bytes c.in-Err.fault) (sym is)
     (wrong_start c.args.version front after c.in-Err.fault all

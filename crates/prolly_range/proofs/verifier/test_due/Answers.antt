@@ -8,6 +8,6 @@ returns-in-Err-clause-err c = (
   record {
     flaw = c.in-Err.flaw;
     is = c.of_flaw.ensures;
-    so = c.in-Err.ensures.err c.args.due.now.above;
+    so = c.in-Err.ensures.err;
   },
 )

@@ -1,17 +1,13 @@
-use Rattle.std.proofs.Common.{refl, rules}
+use Rattle.std.proofs.Common.{refl}
 use Rattle.prolly_check.specs.Kinds.{kind_of}
 use Rattle.prolly_check.specs.Sought.{sought_of}
 use Rattle.prolly_check.specs.lemmas.Ways.{child_leads}
 use Rattle.prolly_check.proofs.HeldPairs.{some_byte}
 use Rattle.prolly_check.proofs.look_up.step.step_at.Goals as goal
 
-pub returns-in_err-test_chunk-clause-err : goal.returns-in_err-test_chunk-clause-err
-returns-in_err-test_chunk-clause-err c =
-    let flawed = c.in_err-test_chunk.ensures.err c.args.due.now.above in search rules
-
 pub step_of-requires-clause-mark : goal.step_of-requires-clause-mark
 step_of-requires-clause-mark c = c.first.ensures.first c.args.version c.args.chunk.now
-    (some_byte c.args.version c.args.chunk.now c.in_ok-test_chunk.ensures.ok.ordered.whole)
+    (some_byte c.args.version c.args.chunk.now c.in_ok-test_chunk.ensures.named.ordered.whole)
 
 pub returns-in-Some-clause-step : goal.returns-in-Some-clause-step
 returns-in-Some-clause-step c = (

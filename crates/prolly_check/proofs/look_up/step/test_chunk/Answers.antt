@@ -1,18 +1,6 @@
-use Rattle.std.proofs.Common.{◌∙◌, arith, sym}
-use Rattle.std.proofs.lemmas.List.{get_or_default}
-use Rattle.prolly_check.proofs.CheckedFile.{equal}
+use Rattle.std.proofs.Common.{rules}
 use Rattle.prolly_check.proofs.look_up.step.test_chunk.Goals as goal
 
-pub returns-clause-ok : goal.returns-clause-ok
-returns-clause-ok c =
-    let chunk = c.args.chunk.now in
-    record {
-      bytes = λ k d within.
-          omega (arith, c.type_inv.chunk k, get_or_default chunk k 0 d within);
-      is = sym c.of.ensures.hashed ∙
-          equal c.of.result.0 c.args.reference.now.0 c.if-ne.ensures;
-      ordered = record {
-        whole = c.is_whole.ensures.whole c.if-not-is_whole.false;
-        rising = c.keys_rise.ensures.0 c.if-not-keys_rise.false;
-      };
-    }
+pub returns-in_err-test_named-clause-err : goal.returns-in_err-test_named-clause-err
+returns-in_err-test_named-clause-err c =
+    let flawed = c.in_err-test_named.ensures.err c.args.above in search rules

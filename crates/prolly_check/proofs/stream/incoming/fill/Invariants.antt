@@ -1,4 +1,4 @@
-use Rattle.std.proofs.Common.{◌≡◌, ◌<◌, ◌≤◌, ◌^◌, ◌-◌, ◌++◌, true, length}
+use Rattle.std.proofs.Common.{◌≡◌, ◌≤◌, ◌^◌, ◌-◌, ◌++◌, true}
 use Rattle.prolly_check.proofs.stream.incoming.fill.Given as goal
 
 abbrev pub invariant-loop-bytes : goal.invariant-loop-bytes
@@ -11,8 +11,6 @@ invariant-loop-bytes g l = record {
   failures : (g.S.Source.seen l.source).failures ≡ (g.S.Source.seen l.initial.source).failures;
   steady : (g.S.Source.seen l.initial.source).is_steady ≡ true →
       (g.S.Source.seen l.source).is_steady ≡ true;
-  room : 0 < length l.part;
-  part : length l.part ≡ length l.initial.part;
   wanted : 30 ≤ l.wanted;
 }
 

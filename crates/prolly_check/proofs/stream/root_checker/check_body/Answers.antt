@@ -100,7 +100,6 @@ loop-read-preserved g c =
           c.in_ok-go_over.ensures.over) (omega (arith, c.in-Some-checked_add.ensures)));
       failures = c.in_ok-fill.ensures.unfailed ∙ c.loop-read.invariant.failures;
       steady = λ steady. c.in_ok-fill.ensures.steady (c.loop-read.invariant.steady steady);
-      room = omega (arith, c.in_ok-fill.ensures.part, c.loop-read.invariant.room);
       count = omega (arith, few, same, sum, c.in_ok-go_over.ensures.count, c.loop-read.invariant.count);
       fits = omega (arith, c.in-Some-checked_add.ensures);
       cut = c.in_ok-go_over.ensures.alike.0 ∙ c.loop-read.invariant.cut;

@@ -1,4 +1,4 @@
-use Rattle.std.proofs.Common.{◌≡◌, ◌<◌, ◌≤◌, ◌-◌, ◌^◌, ◌++◌, true, length}
+use Rattle.std.proofs.Common.{◌≡◌, ◌<◌, ◌≤◌, ◌-◌, ◌^◌, ◌++◌, true}
 use Rattle.prolly_check.proofs.ChunkSteps.{BodyRead}
 use Rattle.prolly_check.proofs.stream.root_checker.check_body.Given as goal
 
@@ -12,7 +12,6 @@ invariant-loop-read g l = record {
   failures : (g.S.Source.seen l.source).failures ≡ (g.S.Source.seen l.fn.source).failures;
   steady : (g.S.Source.seen l.fn.source).is_steady ≡ true →
       (g.S.Source.seen l.source).is_steady ≡ true;
-  room : 0 < length l.part;
   count : l.read.count ≤ l.size;
   fits : l.size < 2 ^ 64;
   cut : l.read.follower.cut ≡ l.fn.header.bits;

@@ -3,8 +3,8 @@ use Rattle.prolly_text.specs.Pieces.{HasPiece, BeginsWithAll, BeginsWithNone}
 use Rattle.prolly_text.specs.lemmas.Sequences.{all_more, none_read, piece_shortens}
 use Rattle.prolly_text.proofs.notation.unescape.unescaped.Goals as goal
 
-pub returns-in_default-clause-err : goal.returns-in_default-clause-err
-returns-in_default-clause-err c bytes h =
+pub returns-in_default-split_piece-clause-err : goal.returns-in_default-split_piece-clause-err
+returns-in_default-split_piece-clause-err c bytes h =
     let none : BeginsWithNone c.loop-rest.rest.now = search rules in
     let some : c.loop-rest.rest.now ≡ [] → ⊥ = λ e. grind (arith, ap length e) in
     none_read c.args.text.now c.loop-rest.bytes.items c.loop-rest.rest.now bytes

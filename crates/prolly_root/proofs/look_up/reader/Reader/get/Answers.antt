@@ -15,7 +15,7 @@ returns-clause-found g c =
     let found = c.in_ok-descent.ensures.found in record {
       way = found.way;
       value_is = c.in_ok-value.ensures ∙ c.value_in.ensures ∙ ap (λ ps. find ps c.args.key.now)
-          (c.pairs.ensures found.end.above found.end.last found.end.are ∙
+          (c.pairs.ensures.last found.end.above found.end.last found.end.are ∙
           ap pairs_held (sym found.last));
     }
 

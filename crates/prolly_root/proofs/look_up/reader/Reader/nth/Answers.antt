@@ -24,7 +24,7 @@ returns-clause-found g c =
     (sym c.requires) (λ way is. record { way = way; pair_is = is }) found.way
     (c.in_ok-pair.ensures ∙ c.pair_sought-found.ensures.is ∙
     ap (nth_sought (sought_of descent.sought))
-    (c.pairs.ensures found.end.above found.end.last found.end.are ∙
+    (c.pairs.ensures.last found.end.above found.end.last found.end.are ∙
     ap pairs_held (sym found.last)) ∙
     ap (λ s. nth_sought s (pairs_held found.way.last)) (sym found.there))
 

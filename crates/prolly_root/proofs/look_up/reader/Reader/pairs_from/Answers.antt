@@ -16,9 +16,9 @@ returns-clause-found g c =
     let found = c.in_ok-descent.ensures.found in record {
       found = pairs_from from (pairs_held found.way.last);
       way = record { way = found.way; found_is = refl };
-      are = c.in_ok-pairs.ensures ∙ ap (λ ps. take c.args.most (pairs_from from ps))
-          (c.pairs.ensures found.end.above found.end.last found.end.are ∙
-          ap pairs_held (sym found.last));
+      are = c.in_ok-pairs.ensures ∙ ap (take c.args.most) (c.rest_from-leaf.ensures ∙ ap (pairs_from from)
+          (c.pairs.ensures.last found.end.above found.end.last found.end.are ∙
+          ap pairs_held (sym found.last)));
     }
 
 pub returns-clause-kept : goal.returns-clause-kept
