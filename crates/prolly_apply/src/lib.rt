@@ -14,4 +14,5 @@ mod stop;
 
 pub use loader::{OldLoaded, load_old};
 pub use old_leaf::OldLeaf;
-pub use stage::{Applied, OLD_TREE, apply_stage};
+pub use prolly_stage::OLD_TREE;
+pub use stage::{Applied, apply_stage};

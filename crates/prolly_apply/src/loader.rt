@@ -12,12 +12,12 @@ ghost use Rattle.prolly_tree.specs.File.{root_reference};
 ghost use Rattle.prolly_apply.specs.OldLoaded.{IsOldLoaded, TellsReadsOf, load_end};
 
 use crate::old_leaf::OldLeaf;
-use crate::stage::OLD_TREE;
 use prolly_entry::{Ref, Version};
 use prolly_link::{End, Out, RunFault};
 use prolly_root::{ChunkSource, RootFault};
 use prolly_root_diff::laws::leaves_are_right;
 use prolly_root_diff::{LeafRead, RootLeaves};
+use prolly_stage::OLD_TREE;
 use std::alloc::{AllocError, Global};
 use std::num::NonZeroUsize;
 use std::sync::Wait;
@@ -47,7 +47,8 @@ pub struct OldLoaded<S, O: Out<OldLeaf>> {
 /// the number [`OLD_TREE`].
 ///
 /// Each chunk of a tree that the source has is read once, and hashed once. Leaves are read ahead, up
-/// to 4 MiB of them and one more, and hashed on all processors. Holds these, and the references of the
+/// to 4 MiB of the children of one node and one more, and hashed by a thread for each 128 KiB of
+/// them, at most one for each processor. Holds these, and the references of the
 /// children of the nodes above.
 pub fn load_old<S: ChunkSource, O: Out<OldLeaf>, R: Wait + Threads + Sync>(
     rt: &R,

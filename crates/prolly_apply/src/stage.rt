@@ -16,12 +16,9 @@ use prolly_chunk::{ChunkEvent, LeafLevel};
 use prolly_entry::{Cut, Record};
 use prolly_link::{End, In, Next, Out, RunFault, receive_rest};
 use prolly_merge::Peeked;
-use prolly_stage::send_closed;
+use prolly_stage::{OLD_TREE, send_closed};
 use std::alloc::Global;
 use std::sync::Wait;
-
-/// The number by which a run's faults name the old tree. No record file has it.
-pub const OLD_TREE: u32 = u32::MAX;
 
 /// What the stage gives back: both inputs have ended, and the output is closed.
 #[derive(Drop)]

@@ -32,7 +32,7 @@ use std::thread::Threads;
 pub const CHANGES_LIMIT: usize = 15;
 
 /// What is told of a fault of a run, where the old tree was refused or not, and its loader had this
-/// fault. A worker sends no fault of its start: who seems to is lost.
+/// fault. `NoThread` and `TooManyFiles` never come from a worker. If one does, the answer is `Lost`.
 fn told_fault(fault: RunFault, refused: bool, old: Option<RootFault>) -> ApplyFault
     ensures { IsTold fault refused old result }
 {

@@ -2,7 +2,7 @@
 use crate::expect::expect_eq;
 use prolly_file::{ScriptSink, ScriptSource, Sink, SinkFault, Source, SourceFault};
 use prolly_progress::{CountedSink, CountedSource, CountingGate, Counts, Progress, watched};
-use prolly_stage::{Gate, Worker};
+use prolly_stage::{Gate, OLD_TREE, Worker};
 use std::alloc::Global;
 use std::fmt::Display;
 use std::io::{Eprint, IsTerminal};
@@ -160,6 +160,7 @@ fn records_are_counted_once(rt: HostRuntime) {
     }
     for nth in 0..70 {
         gate.before_send(&rt, Worker::Loader(1), nth);
+        gate.before_send(&rt, Worker::Loader(OLD_TREE), nth);
     }
     // Three times 64 of the first file, and once of the second.
     expect_eq(&rt, &counts.records.count(), &256);

@@ -13,7 +13,7 @@ const BYTES_A_MESSAGE: u64 = 32_768;
 /// The bytes of the large batches of a link that were sent and not yet received. Its ends share it.
 ///
 /// A link holds as many batches as it has room for. Those that are not large are bounded by that.
-/// Of the large ones it holds no more bytes than half as many of the smallest large ones have, or a
+/// The large ones have at most 32 KiB together for each batch that it has room for, or there is a
 /// single one.
 #[derive(Drop)]
 pub(crate) struct InFlight {

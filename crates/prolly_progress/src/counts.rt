@@ -5,7 +5,7 @@ ghost use Rattle.std.specs.Duration.{as_nanos};
 
 use crate::progress::Progress;
 use prolly_file::{Sink, SinkFault, Source, SourceFault};
-use prolly_stage::{Gate, Worker};
+use prolly_stage::{Gate, OLD_TREE, Worker};
 use std::sync::Wait;
 use std::sync::atomic::{AtomicU64, Ordering};
 use std::time::Duration;
@@ -136,8 +136,8 @@ impl<'a, W: Sink> Sink for CountedSink<'a, W> {
 /// and so many that a record costs no addition that threads share.
 const RECORDS_AT_ONCE: u64 = 64;
 
-/// The gate that holds nobody back, and counts the records that the loaders make, 64 at once. What
-/// is left of a file at its end is not counted.
+/// The gate that holds nobody back, and counts the records that the loaders of record files make, 64
+/// at once. What is left of a file at its end is not counted, nor are the leaves of an old tree.
 #[derive(Clone, Copy)]
 pub struct CountingGate<'a> {
     counts: &'a Counts,
@@ -152,8 +152,16 @@ impl<'a> CountingGate<'a> {
 
 impl Gate for CountingGate<'_> {
     fn before_send<R: Wait>(&self, _rt: &R, worker: Worker, nth: u64) {
-        if matches!(worker, Worker::Loader(_)) && nth % RECORDS_AT_ONCE == RECORDS_AT_ONCE - 1 {
+        if sends_records(worker) && nth % RECORDS_AT_ONCE == RECORDS_AT_ONCE - 1 {
             self.counts.records.add(RECORDS_AT_ONCE);
         }
+    }
+}
+
+/// Whether the worker loads a record file.
+fn sends_records(worker: Worker) -> bool {
+    match worker {
+        Worker::Loader(number) => number != OLD_TREE,
+        Worker::Merger(_) | Worker::Stage(_) => false,
     }
 }

@@ -25,10 +25,14 @@ impl Gate for OpenGate {
     fn before_send<R: Wait>(&self, _rt: &R, _worker: Worker, _nth: u64) {}
 }
 
+/// The number of the loader of an old tree, by which a run's faults name that tree, too. No record
+/// file has it.
+pub const OLD_TREE: u32 = u32::MAX;
+
 /// A worker, which has a thread of its own. Each kind is numbered from 0.
 #[derive(Clone, Copy, Debug, PartialEq, Eq)]
 pub enum Worker {
-    /// The loader of the record file of this number.
+    /// The loader of the record file of this number, or of an old tree: see [`OLD_TREE`].
     Loader(u32),
     /// A merger, by the order in which the mergers are formed.
     Merger(u32),

@@ -14,7 +14,7 @@ pub mod laws;
 mod leaf;
 mod staged;
 
-pub use gate::{Gate, OpenGate, Worker};
+pub use gate::{Gate, OLD_TREE, OpenGate, Worker};
 pub use gated::Gated;
 pub use inner::{inner_stage, inner_stage_as};
 pub use leaf::{leaf_stage, take_decided_pair, take_pair};
