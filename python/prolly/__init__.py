@@ -10,8 +10,8 @@
 import builtins
 import mmap
 import os
-from contextlib import suppress
 
+from prolly._files import replace as _replace
 from prolly._prolly import Tree
 from prolly._prolly import chunk_file as _chunk_file
 from prolly._prolly import diff as _diff
@@ -100,19 +100,11 @@ def check(data):
 def build(path, pairs, bits=6, version=2):
     """Writes the chunk file of pairs whose keys rise, and returns its root.
 
-    `bits` says how large chunks are: they have some 2^bits pairs. The file is written beside the path first and then
-    renamed, so what was there stays until the new file is whole.
+    `bits` says how large chunks are: they have some 2^bits pairs. The file is written beside the path first, under a name
+    of its own, and then renamed. So what was there stays until the new file is whole.
     """
     content, root = _chunk_file(pairs, bits, version)
-    beside = f"{os.fspath(path)}.{os.getpid()}.tmp"
-    try:
-        with builtins.open(beside, "xb") as file:
-            file.write(content)
-        os.replace(beside, path)
-    except BaseException:
-        with suppress(FileNotFoundError):
-            os.unlink(beside)
-        raise
+    _replace(path, content)
     return root
 
 

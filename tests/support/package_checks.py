@@ -1,8 +1,12 @@
 """Compares the package for Python with the second builder: what it builds, and what it finds. Run beside both of them."""
 
 import gc
+import os
 import random
+import tempfile
 import threading
+from pathlib import Path
+from unittest import mock
 
 import prolly
 from oracle.proof import proof_of
@@ -24,6 +28,8 @@ def main():
             compare(pairs, bits, version, numbers)
     refusals()
     by_threads()
+    with tempfile.TemporaryDirectory() as folder:
+        replaced(Path(folder))
 
 
 def compare(pairs, bits, version, numbers):
@@ -138,6 +144,62 @@ def by_threads():
         for thread in threads:
             thread.join()
         assert done == [True] * 4
+
+
+def replaced(folder):
+    """Files that builds put in the place of others, in a folder of their own."""
+    path = folder / "some.prl"
+    by_threads_to(path)
+    assert names(folder) == ["some.prl"]
+    prolly.build(os.fsencode(path), [(b"a", b"1")])
+    # What a process that was killed left, of the same number as this one.
+    left = folder / f"some.prl.{os.getpid()}.tmp"
+    left.write_bytes(b"left")
+    prolly.build(path, [(b"a", b"2")])
+    assert left.read_bytes() == b"left"
+    left.unlink()
+    # A name that another call has is left to it.
+    with mock.patch("secrets.token_hex", return_value="0"):
+        others = folder / "some.prl.0.tmp"
+        others.write_bytes(b"another's")
+        raised(FileExistsError, prolly.build, path, [(b"a", b"3")])
+        assert others.read_bytes() == b"another's"
+        others.unlink()
+    with mock.patch("os.replace", side_effect=KeyboardInterrupt):
+        raised(KeyboardInterrupt, prolly.build, path, [(b"a", b"4")])
+    assert held(path) == [(b"a", b"2")]
+    assert names(folder) == ["some.prl"]
+
+
+def by_threads_to(path):
+    """Threads that build to one path at a time: each succeeds, and what is there is always one of their files."""
+    files = [[(b"%06d" % number, b"%d" % seed) for number in range(500)] for seed in range(6)]
+    prolly.build(path, files[0])
+    done = []
+
+    def build(pairs):
+        for _ in range(8):
+            prolly.build(path, pairs)
+            assert held(path) in files
+        done.append(pairs)
+
+    threads = [threading.Thread(target=build, args=[pairs]) for pairs in files]
+    for thread in threads:
+        thread.start()
+    for thread in threads:
+        thread.join()
+    assert len(done) == len(files)
+
+
+def held(path):
+    """The pairs of a file."""
+    with prolly.open(path) as tree_there:
+        return list(tree_there.items())
+
+
+def names(folder):
+    """What a folder has."""
+    return sorted(os.listdir(folder))
 
 
 def raised(kind, call, *args, **words):
