@@ -101,7 +101,9 @@ def build(path, pairs, bits=6, version=2):
     """Writes the chunk file of pairs whose keys rise, and returns its root.
 
     `bits` says how large chunks are: they have some 2^bits pairs. The file is written beside the path first, under a name
-    of its own, and then renamed. So what was there stays until the new file is whole.
+    of its own, and then renamed. So what was there stays until the new file is whole. A symbolic link stays, too: the file
+    that it names is replaced. The new file keeps the mode of the old one, and its owner and its group, as far as the user
+    may give them. A path that can't be written, or that is no regular file, raises OSError.
     """
     content, root = _chunk_file(pairs, bits, version)
     _replace(path, content)

@@ -3,8 +3,10 @@
 import gc
 import os
 import random
+import stat
 import tempfile
 import threading
+import traceback
 from pathlib import Path
 from unittest import mock
 
@@ -16,6 +18,9 @@ from oracle.trees import chunk_file, tree
 
 BITS_PLACE = 5
 """Where a file says by how many bits it was cut."""
+
+NOBODY = 65_534
+"""A user, and a group, without rights of their own."""
 
 
 def main():
@@ -30,6 +35,10 @@ def main():
     by_threads()
     with tempfile.TemporaryDirectory() as folder:
         replaced(Path(folder))
+    with tempfile.TemporaryDirectory() as folder:
+        kept_links(Path(folder))
+    with tempfile.TemporaryDirectory() as folder:
+        kept_access(Path(folder))
 
 
 def compare(pairs, bits, version, numbers):
@@ -169,6 +178,86 @@ def replaced(folder):
         raised(KeyboardInterrupt, prolly.build, path, [(b"a", b"4")])
     assert held(path) == [(b"a", b"2")]
     assert names(folder) == ["some.prl"]
+
+
+def kept_links(folder):
+    """Builds to symbolic links, which stay: what they name is replaced, or made."""
+    path, link, chain = folder / "some.prl", folder / "link", folder / "chain"
+    link.symlink_to("some.prl")
+    chain.symlink_to(link)
+    for number, name in enumerate((link, chain, path)):
+        prolly.build(name, [(b"a", b"%d" % number)])
+        assert held(path) == [(b"a", b"%d" % number)]
+    assert os.readlink(link) == "some.prl"
+    assert os.readlink(chain) == str(link)
+    loop = folder / "loop"
+    loop.symlink_to("loop")
+    raised(OSError, prolly.build, loop, [])
+    assert loop.is_symlink()
+    pipe = folder / "pipe"
+    os.mkfifo(pipe)
+    for no_file in (pipe, folder):
+        raised(OSError, prolly.build, no_file, [])
+    assert stat.S_ISFIFO(pipe.stat().st_mode)
+    assert names(folder) == ["chain", "link", "loop", "pipe", "some.prl"]
+
+
+def kept_access(folder):
+    """Who may use a file that a build makes, or puts in the place of another one."""
+    path = folder / "some.prl"
+    mask = os.umask(0o027)
+    try:
+        prolly.build(path, [])
+        assert access(path)[2] == 0o640
+        for mode in (0o600, 0o644, 0o666):
+            path.chmod(mode)
+            prolly.build(path, [(b"a", b"%d" % mode)])
+            assert access(path)[2] == mode
+    finally:
+        os.umask(mask)
+    if os.geteuid() != 0:
+        return
+    os.chown(path, NOBODY, NOBODY)
+    prolly.build(path, [(b"b", b"")])
+    assert access(path) == (NOBODY, NOBODY, 0o666)
+    # Nobody may not give a file away, and so not to the group of this one.
+    folder.chmod(0o777)
+    os.chown(path, 0, 0)
+    as_nobody(prolly.build, path, [(b"c", b"")])
+    assert held(path) == [(b"c", b"")]
+    assert access(path) == (NOBODY, NOBODY, 0o606)
+    # A group of nobody's can be given, and the owner can't.
+    os.chown(path, 0, NOBODY)
+    path.chmod(0o664)
+    as_nobody(prolly.build, path, [(b"d", b"")])
+    assert access(path) == (NOBODY, NOBODY, 0o664)
+    # A file that nobody may write is not replaced.
+    path.chmod(0o444)
+    as_nobody(raised, PermissionError, prolly.build, path, [(b"e", b"")])
+    assert held(path) == [(b"d", b"")]
+    assert names(folder) == ["some.prl"]
+
+
+def access(path):
+    """The owner, the group and the mode of a file."""
+    status = os.stat(path)
+    return status.st_uid, status.st_gid, stat.S_IMODE(status.st_mode)
+
+
+def as_nobody(call, *args):
+    """Makes a call in a process that has no rights of the system's own user."""
+    child = os.fork()
+    if child == 0:
+        try:
+            os.setgroups([])
+            os.setgid(NOBODY)
+            os.setuid(NOBODY)
+            call(*args)
+        except BaseException:
+            traceback.print_exc()
+            os._exit(1)
+        os._exit(0)
+    assert os.waitstatus_to_exitcode(os.waitpid(child, 0)[1]) == 0
 
 
 def by_threads_to(path):
