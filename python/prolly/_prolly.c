@@ -194,16 +194,20 @@ static PyObject *tree_getitem(PyObject *self, PyObject *key) {
   return is == 1 ? bytes_of(value) : NULL;
 }
 
-static PyObject *tree_get(PyObject *self, PyObject *const *args, Py_ssize_t count) {
+/* get(key, /, default=None). A default that is named stands behind the others. */
+static PyObject *tree_get(PyObject *self, PyObject *const *args, Py_ssize_t count, PyObject *names) {
   prolly_slice value = NO_BYTES;
-  if (count < 1 || count > 2) {
-    PyErr_Format(PyExc_TypeError, "get takes a key, and what to give where there is none (%zd given)", count);
+  Py_ssize_t named = names == NULL ? 0 : PyTuple_GET_SIZE(names);
+  int is_right = count >= 1 && count + named <= 2;
+  if (is_right && named == 1) is_right = PyUnicode_CompareWithASCIIString(PyTuple_GET_ITEM(names, 0), "default") == 0;
+  if (!is_right) {
+    PyErr_SetString(PyExc_TypeError, "get takes a key, and as default what to give where there is none");
     return NULL;
   }
   int is = found((Tree *)self, args[0], &value);
   if (is < 0) return NULL;
   if (is == 1) return bytes_of(value);
-  return Py_NewRef(count == 2 ? args[1] : Py_None);
+  return Py_NewRef(count + named == 2 ? args[1] : Py_None);
 }
 
 static int tree_contains(PyObject *self, PyObject *key) {
@@ -218,13 +222,15 @@ static Py_ssize_t tree_length(PyObject *self) {
 static PyObject *tree_nth(PyObject *self, PyObject *number) {
   Tree *tree = (Tree *)self;
   prolly_slice key = NO_BYTES, value = NO_BYTES;
-  if (!is_open(tree)) return NULL;
-  unsigned long long n = PyLong_AsUnsignedLongLong(number);
-  if (PyErr_Occurred()) return NULL;
-  uint32_t status = prolly_nth(tree->bytes.ptr, tree->bytes.len, tree->index, tree->runs, n, &key, &value);
+  /* No tree has a pair of a number that is too large for a size, or below 0. */
+  Py_ssize_t n = PyNumber_AsSsize_t(number, PyExc_IndexError);
+  if ((n == -1 && PyErr_Occurred()) || !is_open(tree)) return NULL;
+  uint32_t status = PROLLY_NONE;
+  if (n >= 0)
+    status = prolly_nth(tree->bytes.ptr, tree->bytes.len, tree->index, tree->runs, (uint64_t)n, &key, &value);
   if (status == PROLLY_DONE) return pair_of(key, value);
   if (status != PROLLY_NONE) return refused(status, 0);
-  PyErr_SetString(PyExc_IndexError, "the tree has not so many pairs");
+  PyErr_SetString(PyExc_IndexError, "the tree has no pair of this number");
   return NULL;
 }
 
@@ -290,11 +296,20 @@ static PyObject *go_over(Tree *tree, PyObject *start, PyObject *stop, int only_k
 
 static PyObject *tree_iter(PyObject *self) { return go_over((Tree *)self, Py_None, Py_None, 1); }
 
-static PyObject *tree_items(PyObject *self, PyObject *args, PyObject *words) {
+/* Goes over the pairs, or the keys, of the range that the words say. */
+static PyObject *go_over_range(PyObject *self, PyObject *args, PyObject *words, int only_keys) {
   static char *names[] = {"start", "stop", NULL};
   PyObject *start = Py_None, *stop = Py_None;
   if (!PyArg_ParseTupleAndKeywords(args, words, "|OO", names, &start, &stop)) return NULL;
-  return go_over((Tree *)self, start, stop, 0);
+  return go_over((Tree *)self, start, stop, only_keys);
+}
+
+static PyObject *tree_keys(PyObject *self, PyObject *args, PyObject *words) {
+  return go_over_range(self, args, words, 1);
+}
+
+static PyObject *tree_items(PyObject *self, PyObject *args, PyObject *words) {
+  return go_over_range(self, args, words, 0);
 }
 
 /* What a proof is made out of: the bytes of a tree of which the root is known. */
@@ -369,11 +384,14 @@ static PyObject *tree_version(PyObject *self, void *unused) {
 }
 
 static PyMethodDef tree_methods[] = {
-    {"get", (PyCFunction)(void (*)(void))tree_get, METH_FASTCALL, "get(key, default=None): the value of a key, or the other one where it has none."},
-    {"nth", tree_nth, METH_O, "nth(n): the pair of this number, counted from 0. IndexError where there is none."},
+    {"get", (PyCFunction)(void (*)(void))tree_get, METH_FASTCALL | METH_KEYWORDS,
+     "get(key, /, default=None): the value of a key, or the other one where it has none."},
+    {"nth", tree_nth, METH_O, "nth(n, /): the pair of this number, counted from 0. IndexError where there is none."},
+    {"keys", (PyCFunction)(void (*)(void))tree_keys, METH_VARARGS | METH_KEYWORDS,
+     "keys(start=None, stop=None): the keys in their order, from start on and before stop."},
     {"items", (PyCFunction)(void (*)(void))tree_items, METH_VARARGS | METH_KEYWORDS,
      "items(start=None, stop=None): the pairs in the order of their keys, from start on and before stop."},
-    {"prove", tree_prove, METH_O, "prove(key): the proof of what the tree has at a key, for who knows the root alone."},
+    {"prove", tree_prove, METH_O, "prove(key, /): the proof of what the tree has at a key, for who knows the root alone."},
     {"prove_range", (PyCFunction)(void (*)(void))tree_prove_range, METH_VARARGS | METH_KEYWORDS,
      "prove_range(start=None, stop=None): the proof of all pairs from start on and before stop."},
     {"close", tree_close, METH_NOARGS, "close(): lets the bytes go. The tree can't be asked any more."},

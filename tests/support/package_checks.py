@@ -54,6 +54,8 @@ def compare(pairs, bits, version, numbers):
         assert list(some) == [key for key, _ in pairs]
         assert list(some.items()) == pairs
         held = dict(pairs)
+        assert list(some.keys()) == list(held)
+        assert dict(some) == {**some} == held
         for number, (key, value) in enumerate(pairs):
             assert some[key] == some.get(bytearray(key)) == value
             assert memoryview(key) in some
@@ -63,7 +65,9 @@ def compare(pairs, bits, version, numbers):
             start, stop = sorted(numbers.randbytes(numbers.randrange(3)) for _ in range(2))
             assert list(some.items(start, stop)) == [pair for pair in pairs if start <= pair[0] < stop]
             assert list(some.items(start=start)) == [pair for pair in pairs if start <= pair[0]]
-            assert some.get(start, 7) == held.get(start, 7)
+            assert list(some.keys(start, stop)) == [key for key in held if start <= key < stop]
+            assert list(some.keys(stop=stop)) == [key for key in held if key < stop]
+            assert some.get(start, 7) == some.get(start, default=7) == held.get(start, 7)
             proof = some.prove(start)
             assert proof == proof_of(top, start, version)
             assert prolly.verify(root, start, proof, version) == held.get(start)
@@ -76,13 +80,21 @@ def compare(pairs, bits, version, numbers):
                 assert list(rooted.items(start, stop)) == list(some.items(start, stop))
                 assert rooted.get(start, 7) == held.get(start, 7)
                 assert (start in rooted) == (start in held)
-        raised(IndexError, some.nth, len(pairs))
+        for number in (len(pairs), -1, -(2**70), 2**63, 2**64, 2**70):
+            raised(IndexError, some.nth, number)
+        raised(TypeError, some.nth, "0")
+        raised(TypeError, some.get)
+        raised(TypeError, some.get, default=7)
+        raised(TypeError, some.get, b"", 7, default=7)
+        raised(TypeError, some.get, b"", other=7)
         raised(KeyError, some.__getitem__, b"no such key")
         less = prolly.check(chunk_file(pairs[::2], bits, version))
         assert list(prolly.diff(some, less)) == [(key, value, None) for key, value in pairs[1::2]]
         assert list(prolly.diff(less, some)) == [(key, None, value) for key, value in pairs[1::2]]
         left = some.items()
     raised(ValueError, some.get, b"")
+    raised(ValueError, some.nth, -1)
+    raised(ValueError, some.keys)
     raised(ValueError, next, left)
 
 
