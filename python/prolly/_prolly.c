@@ -146,11 +146,13 @@ static PyObject *tree_new(PyTypeObject *type, PyObject *args, PyObject *words) {
   return (PyObject *)tree;
 }
 
+/* Closes a tree. To let its bytes go may run code, for which it is closed already. */
 static void let_go(Tree *tree) {
-  if (tree->is_open) PyBuffer_Release(&tree->view);
+  int was_open = tree->is_open;
   tree->is_open = 0;
   PyMem_RawFree(tree->index);
   tree->index = NULL;
+  if (was_open) PyBuffer_Release(&tree->view);
 }
 
 static void tree_dealloc(PyObject *self) {
@@ -171,32 +173,33 @@ static PyObject *tree_enter(PyObject *self, PyObject *unused) {
 
 static PyObject *tree_exit(PyObject *self, PyObject *unused) { return tree_close(self, unused); }
 
-/* The value of a key: 1, 0 where there is none, and -1 with an error. */
-static int found(Tree *tree, PyObject *object, prolly_slice *value) {
+/* Whether a tree has a key: 1, 0 where it has not, and -1 with an error. Copies the value to `*value`, unless that is not asked
+ * for. To borrow a key, and to let it go, may run code that closes the tree. */
+static int found(Tree *tree, PyObject *object, PyObject **value) {
   Key key;
   if (!take_key(&key, object)) return -1;
-  /* To borrow a key may run code that closes the tree. */
   int answer = -1;
   if (is_open(tree)) {
+    prolly_slice bytes = NO_BYTES;
     uint32_t status = prolly_get(tree->bytes.ptr, tree->bytes.len, tree->index, tree->runs, key.bytes.ptr,
-                                 key.bytes.len, value);
+                                 key.bytes.len, &bytes);
     if (status > PROLLY_NONE) refused(status, 0);
-    else answer = status == PROLLY_DONE;
+    else if (status == PROLLY_NONE) answer = 0;
+    else if (value == NULL || (*value = bytes_of(bytes)) != NULL) answer = 1;
   }
   let_key(&key);
   return answer;
 }
 
 static PyObject *tree_getitem(PyObject *self, PyObject *key) {
-  prolly_slice value = NO_BYTES;
-  int is = found((Tree *)self, key, &value);
-  if (is == 0) PyErr_SetObject(PyExc_KeyError, key);
-  return is == 1 ? bytes_of(value) : NULL;
+  PyObject *value = NULL;
+  if (found((Tree *)self, key, &value) == 0) PyErr_SetObject(PyExc_KeyError, key);
+  return value;
 }
 
 /* get(key, /, default=None). A default that is named stands behind the others. */
 static PyObject *tree_get(PyObject *self, PyObject *const *args, Py_ssize_t count, PyObject *names) {
-  prolly_slice value = NO_BYTES;
+  PyObject *value = NULL;
   Py_ssize_t named = names == NULL ? 0 : PyTuple_GET_SIZE(names);
   int is_right = count >= 1 && count + named <= 2;
   if (is_right && named == 1) is_right = PyUnicode_CompareWithASCIIString(PyTuple_GET_ITEM(names, 0), "default") == 0;
@@ -204,16 +207,11 @@ static PyObject *tree_get(PyObject *self, PyObject *const *args, Py_ssize_t coun
     PyErr_SetString(PyExc_TypeError, "get takes a key, and as default what to give where there is none");
     return NULL;
   }
-  int is = found((Tree *)self, args[0], &value);
-  if (is < 0) return NULL;
-  if (is == 1) return bytes_of(value);
+  if (found((Tree *)self, args[0], &value) != 0) return value;
   return Py_NewRef(count + named == 2 ? args[1] : Py_None);
 }
 
-static int tree_contains(PyObject *self, PyObject *key) {
-  prolly_slice value = NO_BYTES;
-  return found((Tree *)self, key, &value);
-}
+static int tree_contains(PyObject *self, PyObject *key) { return found((Tree *)self, key, NULL); }
 
 static Py_ssize_t tree_length(PyObject *self) {
   return is_open((Tree *)self) ? (Py_ssize_t)((Tree *)self)->report.pairs : -1;
@@ -268,6 +266,22 @@ static void pairs_dealloc(PyObject *self) {
   PyObject_Free(self);
 }
 
+/* Puts a cursor before the first pair whose key is not less than this one. */
+static int seek(Tree *tree, PyObject *start, prolly_cursor *cursor) {
+  Key from;
+  if (!take_key(&from, start)) return 0;
+  /* To borrow a key may run code that closes the tree. */
+  int is_right = is_open(tree);
+  if (is_right) {
+    uint32_t status = prolly_seek(tree->bytes.ptr, tree->bytes.len, tree->index, tree->runs, from.bytes.ptr,
+                                  from.bytes.len, cursor);
+    is_right = status == PROLLY_DONE;
+    if (!is_right) refused(status, 0);
+  }
+  let_key(&from);
+  return is_right;
+}
+
 /* Goes over the pairs, or the keys, from one key on and up to another. */
 static PyObject *go_over(Tree *tree, PyObject *start, PyObject *stop, int only_keys) {
   if (!is_open(tree)) return NULL;
@@ -278,17 +292,7 @@ static PyObject *go_over(Tree *tree, PyObject *start, PyObject *stop, int only_k
   pairs->stop = stop == Py_None ? NULL : PyBytes_FromObject(stop);
   pairs->only_keys = only_keys;
   int is_right = stop == Py_None || pairs->stop != NULL;
-  Key from;
-  if (is_right && start != Py_None) {
-    is_right = take_key(&from, start) && is_open(tree);
-    if (is_right) {
-      uint32_t status = prolly_seek(tree->bytes.ptr, tree->bytes.len, tree->index, tree->runs, from.bytes.ptr,
-                                    from.bytes.len, &pairs->cursor);
-      let_key(&from);
-      if (status != PROLLY_DONE) refused(status, 0);
-      is_right = status == PROLLY_DONE;
-    }
-  }
+  if (is_right && start != Py_None) is_right = seek(tree, start, &pairs->cursor);
   if (is_right) return (PyObject *)pairs;
   Py_DECREF(pairs);
   return NULL;
@@ -501,35 +505,27 @@ static int reserve(Room *room, size_t more) {
   return 1;
 }
 
-/* Appends the record of one pair. */
+/* Appends the record of one pair. A list is copied, since to borrow its key may run code that changes it. */
 static int append_pair(Room *records, PyObject *pair) {
-  PyObject *parts = PySequence_Fast(pair, "a pair is a key and a value");
-  Py_buffer key, value;
+  PyObject *parts = PySequence_Tuple(pair);
   if (parts == NULL) return 0;
-  if (PySequence_Fast_GET_SIZE(parts) != 2) {
-    PyErr_SetString(PyExc_ValueError, "a pair is a key and a value");
-    Py_DECREF(parts);
-    return 0;
+  Key key = {.is_lent = 0}, value = {.is_lent = 0};
+  int is_right = PyTuple_GET_SIZE(parts) == 2;
+  if (!is_right) PyErr_SetString(PyExc_ValueError, "a pair is a key and a value");
+  else is_right = take_key(&key, PyTuple_GET_ITEM(parts, 0)) && take_key(&value, PyTuple_GET_ITEM(parts, 1));
+  if (is_right) {
+    prolly_slice k = key.bytes, v = value.bytes;
+    uint32_t status = PROLLY_MEMORY;
+    if (reserve(records, k.len + v.len + 6))
+      status = prolly_record(k.ptr, k.len, v.ptr, v.len, records->bytes, records->room, &records->len);
+    if (status == PROLLY_USAGE) PyErr_SetString(PyExc_ValueError, "a key has 1,024 bytes at most, a value 65,536");
+    else if (status != PROLLY_DONE) refused(status, 0);
+    is_right = status == PROLLY_DONE;
   }
-  if (PyObject_GetBuffer(PySequence_Fast_GET_ITEM(parts, 0), &key, PyBUF_SIMPLE) < 0) {
-    Py_DECREF(parts);
-    return 0;
-  }
-  if (PyObject_GetBuffer(PySequence_Fast_GET_ITEM(parts, 1), &value, PyBUF_SIMPLE) < 0) {
-    PyBuffer_Release(&key);
-    Py_DECREF(parts);
-    return 0;
-  }
-  prolly_slice k = lent(&key), v = lent(&value);
-  uint32_t status = PROLLY_MEMORY;
-  if (reserve(records, k.len + v.len + 6))
-    status = prolly_record(k.ptr, k.len, v.ptr, v.len, records->bytes, records->room, &records->len);
-  PyBuffer_Release(&key);
-  PyBuffer_Release(&value);
+  let_key(&key);
+  let_key(&value);
   Py_DECREF(parts);
-  if (status == PROLLY_USAGE) PyErr_SetString(PyExc_ValueError, "a key has 1,024 bytes at most, a value 65,536");
-  else if (status != PROLLY_DONE) refused(status, 0);
-  return status == PROLLY_DONE;
+  return is_right;
 }
 
 /* chunk_file(pairs, bits, version) -> (bytes, root) */
@@ -542,6 +538,7 @@ static PyObject *chunk_file(PyObject *module, PyObject *args) {
   if (iterator == NULL) return NULL;
   Room records = {NULL, 0, 0}, file = {NULL, 0, 0};
   int is_right = reserve(&records, 4096);
+  if (!is_right) PyErr_NoMemory();
   while (is_right && (pair = PyIter_Next(iterator)) != NULL) {
     is_right = append_pair(&records, pair);
     Py_DECREF(pair);
@@ -687,11 +684,11 @@ static struct PyModuleDef module = {PyModuleDef_HEAD_INIT, "prolly._prolly", NUL
 
 PyMODINIT_FUNC PyInit__prolly(void) {
   if (PyType_Ready(&TreeType) < 0 || PyType_Ready(&PairsType) < 0 || PyType_Ready(&ChangesType) < 0) return NULL;
-  PyObject *self = PyModule_Create(&module);
-  PyObject *faults = self == NULL ? NULL : PyImport_ImportModule("prolly.faults");
+  PyObject *faults = PyImport_ImportModule("prolly.faults");
   if (faults == NULL) return NULL;
   ProllyError = PyObject_GetAttrString(faults, "ProllyError");
   Py_DECREF(faults);
-  if (ProllyError == NULL || PyModule_AddObject(self, "Tree", Py_NewRef((PyObject *)&TreeType)) < 0) return NULL;
+  PyObject *self = ProllyError == NULL ? NULL : PyModule_Create(&module);
+  if (self != NULL && PyModule_AddObjectRef(self, "Tree", (PyObject *)&TreeType) < 0) Py_CLEAR(self);
   return self;
 }

@@ -4,6 +4,7 @@ import gc
 import os
 import random
 import stat
+import sys
 import tempfile
 import threading
 import traceback
@@ -11,6 +12,7 @@ from pathlib import Path
 from unittest import mock
 
 import prolly
+from prolly import Tree, _prolly
 from oracle.proof import proof_of
 from oracle.range_proof import range_proof_of
 from oracle.trees import chunk_file, tree
@@ -18,6 +20,9 @@ from oracle.trees import chunk_file, tree
 
 BITS_PLACE = 5
 """Where a file says by how many bits it was cut."""
+
+MOST_GROWTHS = 60
+"""No call of a small tree takes memory so often."""
 
 NOBODY = 65_534
 """A user, and a group, without rights of their own."""
@@ -32,6 +37,8 @@ def main():
         for bits, version in ((0, 1), (1, 2), (6, 2), (12, 1)):
             compare(pairs, bits, version, numbers)
     refusals()
+    keys_let_go()
+    memory_refused()
     by_threads()
     with tempfile.TemporaryDirectory() as folder:
         replaced(Path(folder))
@@ -139,6 +146,99 @@ def refusals():
     gc.collect()
 
 
+def keys_let_go():
+    """A key is borrowed for a call, and let go also where the call fails: a bytearray can then grow again."""
+    key, short = bytearray(b"a"), prolly.check(chunk_file([(b"a", b"b")], 6, 2))
+
+    def closing():
+        short.close()
+        yield from b"z"
+
+    raised(ValueError, short.items, key, closing())
+    raised(ValueError, short.__getitem__, key)
+    raised(ValueError, short.prove, key)
+    raised(TypeError, _prolly.prove_range, b"", bytes(20), key, "z", 2)
+    raised(ValueError, _prolly.prove, b"", b"short", key, 2)
+    raised(TypeError, _prolly.chunk_file, [(key, "b")], 6, 2)
+    raised(ValueError, _prolly.chunk_file, [(key, b"b", b"c")], 6, 2)
+    raised(ValueError, _prolly.chunk_file, [(key, b"v" * 65537)], 6, 2)
+    key.append(0)
+    if sys.version_info >= (3, 12):
+        keys_that_call()
+
+
+class Key:
+    """A key that makes a call as it is borrowed, and one as it is let go. Python knows such since 3.12."""
+
+    def __init__(self, borrowed=int, let_go=int):
+        self.borrowed, self.let_go = borrowed, let_go
+
+    def __buffer__(self, _):
+        self.borrowed()
+        return memoryview(b"key")
+
+    def __release_buffer__(self, view):
+        view.release()
+        self.let_go()
+
+
+def keys_that_call():
+    """Keys that close the tree which is asked, and one that empties its pair."""
+    prolly.build("closed.prl", [(b"key", b"value")])
+    for ask in (Tree.__getitem__, Tree.get):
+        closed = prolly.open("closed.prl")
+        assert ask(closed, Key(let_go=closed.close)) == b"value"
+        raised(ValueError, ask, closed, b"key")
+    for ask in (Tree.__getitem__, Tree.get, Tree.keys, Tree.prove, Tree.prove_range):
+        closed = prolly.open("closed.prl")
+        raised(ValueError, ask, closed, Key(borrowed=closed.close))
+    pair = [Key(borrowed=lambda: pair.clear()), b"value" * 100]
+    content, _ = _prolly.chunk_file([pair], 6, 2)
+    assert list(prolly.check(content).items()) == [(b"key", b"value" * 100)]
+
+
+def memory_refused():
+    """Calls to which each growth of memory is refused in turn. They raise MemoryError, or do without, and let their keys go.
+    Python can refuse it where it has the module for its own tests."""
+    try:
+        from _testcapi import remove_mem_hooks, set_nomemory
+    except ImportError:
+        return
+    content, root = _prolly.chunk_file([(b"key", b"value")], 6, 2)
+    key, small = bytearray(b"key"), prolly.check(content)
+    other = prolly.check(chunk_file([(b"key", b"other")], 6, 2))
+    proof, range_proof = small.prove(key), small.prove_range()
+    for wanted, call in (
+        ((content, root), lambda: _prolly.chunk_file([(key, b"value")], 6, 2)),
+        (1, lambda: len(prolly.check(content))),
+        (b"value", lambda: small[key]),
+        (b"value", lambda: small.get(key, default=7)),
+        ((b"key", b"value"), lambda: small.nth(0)),
+        ([b"key"], lambda: list(small.keys(key, b"l"))),
+        ([(b"key", b"value")], lambda: list(small.items(key))),
+        ([(b"key", b"value", b"other")], lambda: list(prolly.diff(small, other))),
+        (proof, lambda: small.prove(key)),
+        (range_proof, lambda: small.prove_range(key)),
+        (b"value", lambda: prolly.verify(root, key, proof)),
+        ([(b"key", b"value")], lambda: list(prolly.verify_range(root, key, None, range_proof))),
+    ):
+        refusals_met = 0
+        for number in range(MOST_GROWTHS):
+            set_nomemory(number, number + 1)
+            try:
+                answer = call()
+            except MemoryError:
+                refusals_met += 1
+            else:
+                assert answer == wanted
+            finally:
+                remove_mem_hooks()
+            key.append(0)
+            key.pop()
+        assert refusals_met > 0
+        assert call() == wanted
+
+
 def damaged(proof):
     """Each prefix of a proof, the proof with each bit flipped, and with a byte more."""
     for place in range(len(proof)):
@@ -188,7 +288,7 @@ def replaced(folder):
         others.unlink()
     with mock.patch("os.replace", side_effect=KeyboardInterrupt):
         raised(KeyboardInterrupt, prolly.build, path, [(b"a", b"4")])
-    assert held(path) == [(b"a", b"2")]
+    assert pairs_at(path) == [(b"a", b"2")]
     assert names(folder) == ["some.prl"]
 
 
@@ -199,7 +299,7 @@ def kept_links(folder):
     chain.symlink_to(link)
     for number, name in enumerate((link, chain, path)):
         prolly.build(name, [(b"a", b"%d" % number)])
-        assert held(path) == [(b"a", b"%d" % number)]
+        assert pairs_at(path) == [(b"a", b"%d" % number)]
     assert os.readlink(link) == "some.prl"
     assert os.readlink(chain) == str(link)
     loop = folder / "loop"
@@ -236,7 +336,7 @@ def kept_access(folder):
     folder.chmod(0o777)
     os.chown(path, 0, 0)
     as_nobody(prolly.build, path, [(b"c", b"")])
-    assert held(path) == [(b"c", b"")]
+    assert pairs_at(path) == [(b"c", b"")]
     assert access(path) == (NOBODY, NOBODY, 0o606)
     # A group of nobody's can be given, and the owner can't.
     os.chown(path, 0, NOBODY)
@@ -246,7 +346,7 @@ def kept_access(folder):
     # A file that nobody may write is not replaced.
     path.chmod(0o444)
     as_nobody(raised, PermissionError, prolly.build, path, [(b"e", b"")])
-    assert held(path) == [(b"d", b"")]
+    assert pairs_at(path) == [(b"d", b"")]
     assert names(folder) == ["some.prl"]
 
 
@@ -281,7 +381,7 @@ def by_threads_to(path):
     def build(pairs):
         for _ in range(8):
             prolly.build(path, pairs)
-            assert held(path) in files
+            assert pairs_at(path) in files
         done.append(pairs)
 
     threads = [threading.Thread(target=build, args=[pairs]) for pairs in files]
@@ -292,7 +392,7 @@ def by_threads_to(path):
     assert len(done) == len(files)
 
 
-def held(path):
+def pairs_at(path):
     """The pairs of a file."""
     with prolly.open(path) as tree_there:
         return list(tree_there.items())
