@@ -333,9 +333,15 @@ static uint32_t prove_into(const Proved *of, const Range *range, int is_range, u
   return prolly_prove(of->bytes.ptr, of->bytes.len, of->version, of->root, from.ptr, from.len, out, room, count, chunk);
 }
 
+/* The room with which a proof is begun, since one for which it is too small is made twice. That of a key is enough for chunks of
+ * some 2^8 pairs. No proof out of a checked file is longer than the file. */
+#define KEY_ROOM ((size_t)64 << 10)
+#define RANGE_ROOM ((size_t)4 << 20)
+
 static PyObject *proof_in(Proved of, const Range *range, int is_range) {
   uint8_t *proof = NULL, *wider;
-  size_t count = 4096;
+  size_t count = is_range ? RANGE_ROOM : KEY_ROOM;
+  if (count > of.bytes.len) count = of.bytes.len;
   uint64_t chunk = 0;
   uint32_t status = PROLLY_NO_ROOM;
   for (int i = 0; i < 2 && status == PROLLY_NO_ROOM; i++) {

@@ -36,6 +36,7 @@ def main():
         pairs = [(key, numbers.randbytes(numbers.randrange(30))) for key in keys]
         for bits, version in ((0, 1), (1, 2), (6, 2), (12, 1)):
             compare(pairs, bits, version, numbers)
+    long_proofs()
     refusals()
     keys_let_go()
     memory_refused()
@@ -103,6 +104,16 @@ def compare(pairs, bits, version, numbers):
     raised(ValueError, some.nth, -1)
     raised(ValueError, some.keys)
     raised(ValueError, next, left)
+
+
+def long_proofs():
+    """Proofs for which there is less room at first than they need."""
+    pairs = [(b"%03d" % number, bytes(65_536)) for number in range(80)]
+    content, top = chunk_file(pairs, 6, 2), tree(pairs, 6, 2)
+    long = prolly.check(content)
+    assert long.prove(b"040") == proof_of(top, b"040", 2)
+    for first, end in ((None, None), (b"040", None), (b"040", b"041")):
+        assert long.prove_range(first, end) == range_proof_of(top, first or b"", end, 2)
 
 
 def refusals():
