@@ -8,8 +8,8 @@ _T = TypeVar("_T")
 class ProllyError(ValueError):
     fault: str
     status: int
-    place: int
-    def __init__(self, fault: str, status: int, place: int) -> None: ...
+    place: int | None
+    def __init__(self, fault: str, status: int, place: int | None) -> None: ...
 
 class Tree:
     def __init__(self, data: Buffer) -> None: ...

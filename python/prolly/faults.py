@@ -11,7 +11,7 @@ class ProllyError(ValueError):
         self.status = status
         """Its number in prolly.h."""
         self.place = place
-        """The chunk, or the record, that it names, counted from 0; else 0."""
+        """The chunk, or the record, that it names, counted from 0. None where it names none."""
 
     def __str__(self):
-        return f"{self.fault} ({self.place})" if self.place else self.fault
+        return self.fault if self.place is None else f"{self.fault} ({self.place})"

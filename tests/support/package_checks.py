@@ -15,7 +15,7 @@ import prolly
 from prolly import Tree, _prolly
 from oracle.proof import proof_of
 from oracle.range_proof import range_proof_of
-from oracle.trees import chunk_file, tree
+from oracle.trees import END_SIZE, chunk_file, tree
 
 
 BITS_PLACE = 5
@@ -154,7 +154,28 @@ def refusals():
     raised(ValueError, prolly.open, "kept.prl", check=False)
     raised(ValueError, prolly.open, "kept.prl", root=bytes(20))
     raised(prolly.ProllyError, prolly.open("kept.prl", check=False, root=bytes(20)).get, b"a")
+    places()
     gc.collect()
+
+
+def places():
+    """The chunk or the record that a fault names, where it names one."""
+    content = chunk_file([(b"a", b"b")], 6, 2)
+    kept = prolly.check(content)
+    proof = kept.prove(b"a")
+    for text, place, call, *args in (
+        ("chunk file: truncated", None, prolly.check, content[:-1]),
+        ("chunk file: bad frame", 0, prolly.check, content[:6] + b"?"),
+        ("chunk file: bad frame", 1, prolly.check, content[:-END_SIZE] + b"?"),
+        ("key out of order", 1, _prolly.chunk_file, [(b"b", b""), (b"a", b"")], 6, 2),
+        ("proof: truncated", None, prolly.verify, kept.root, b"a", proof[:-1]),
+        ("proof: a chunk is not the one referred to", 0, prolly.verify, bytes(20), b"a", proof),
+        ("proof: bytes after the end", None, prolly.verify, kept.root, b"a", proof + b"C"),
+    ):
+        error = raised(prolly.ProllyError, call, *args)
+        assert (error.fault, error.place) == (text, place)
+        assert str(error) == (text if place is None else f"{text} ({place})")
+        assert error.args == (text, error.status, place)
 
 
 def keys_let_go():
@@ -415,11 +436,11 @@ def names(folder):
 
 
 def raised(kind, call, *args, **words):
-    """Whether a call raises this."""
+    """The error of a call, which has to be of this kind."""
     try:
         call(*args, **words)
-    except kind:
-        return
+    except kind as error:
+        return error
     raise AssertionError(f"{call} of {args!r:.80} did not raise {kind.__name__}")
 
 
