@@ -1,7 +1,9 @@
-from collections.abc import Buffer, Iterable, Iterator
+from collections.abc import Iterable, Iterator
 from os import PathLike
 from types import TracebackType
 from typing import Literal, SupportsIndex, TypeVar, overload
+
+from typing_extensions import Buffer
 
 _T = TypeVar("_T")
 
