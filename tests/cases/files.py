@@ -187,6 +187,13 @@ def is_standard_output(place, words, mode):
     place.holds(log=BEFORE if mode == "ab" else b"", **files)
 
 
+def is_read_twice(place, words, name):
+    """A pipe that two words name, of which each would get a part."""
+    place.lay(in_prl=TREE, old_prl=OLD_TREE)
+    place.answers(place.run(*words, stdin=b"61\n"), refusal(b"one pipe is two inputs: " + name))
+    place.holds(in_prl=TREE, old_prl=OLD_TREE)
+
+
 def is_a_device(place):
     """A device may be both."""
     place.answers(place.run("build", "--bits", "0", "/dev/null", "/dev/null"), (0, report([], 0), b""))
@@ -608,7 +615,14 @@ def tests():
 
 
 def inputs_written():
-    """Outputs that are inputs, or standard output."""
+    """Outputs that are inputs, or standard output; and a pipe that is two inputs."""
+    stdin = "/dev/stdin"
+    root = reference_text(ROOTED.root)
+    twice = [["build", "new.prl", stdin, stdin], ["build", "new.prl", stdin, "/dev/null", "/proc/self/fd/0"], ["apply", *ROOT, "in.prl", "new.prl", stdin, stdin]]
+    twice += [["diff", stdin, stdin], ["get", "--keys", stdin, stdin], ["prove", "--keys", stdin, stdin, "new.prf"], ["verify", "--keys", stdin, root, stdin]]
+    for words in twice:
+        yield f"one pipe is two inputs: {' '.join(words)}", partial(is_read_twice, words=words, name=next(word for word in reversed(words) if word.startswith(("/dev/stdin", "/proc"))).encode())
+    yield "one pipe is two inputs: verify without PROOF", partial(is_read_twice, words=["verify", "--keys", stdin, root], name=b"standard input")
     rec = ["a.rec", "b.rec"]
     same = [["a.rec", *rec], ["b.rec", *rec], ["./a.rec", *rec], ["hard", *rec], ["soft", *rec], ["a.rec", "b.rec", "soft"]]
     names = [b"a.rec", b"b.rec", b"a.rec", b"a.rec", b"a.rec", b"soft"]

@@ -37,6 +37,11 @@ impl Input {
         Ok(Input { file, found })
     }
 
+    /// What it is.
+    pub fn found(&self) -> Found {
+        self.found
+    }
+
     /// How many bytes it has, where it is a file that keeps them, and no pipe or terminal.
     pub fn size(&self) -> Option<u64> {
         self.found.size()
@@ -79,18 +84,34 @@ pub fn chunk_file(rt: &HostRuntime, name: &str) -> Result<FromRead<File>, Refusa
     Input::open(rt, name)?.into_chunk_file(rt)
 }
 
+/// Refuses a pipe that is one of the inputs that were named before: it gives its bytes once.
+pub fn refuse_read_twice(
+    rt: &HostRuntime,
+    found: Found,
+    earlier: &[Found],
+    name: &str,
+) -> Result<(), Refusal> {
+    for other in earlier {
+        if found.is_same_pipe(*other) {
+            return Err(Refusal::of_name(rt, NameFault::IsReadTwice, name));
+        }
+    }
+    Ok(())
+}
+
 /// The keys that the lines of the file of this name stand for, where it is not the one that is to be
-/// written.
+/// written; and what that file is.
 pub fn listed_keys(
     rt: &HostRuntime,
     name: &str,
     notation: Notation,
     output: Found,
-) -> Result<Vec<Vec<u8>>, Refusal> {
+) -> Result<(Vec<Vec<u8>>, Found), Refusal> {
     let input = Input::open_beside(rt, name, output)?;
+    let found = input.found();
     let mut source = input.into_whole(rt, Fault::InputTooLong)?;
     match read_keys(rt.alloc(), notation, &mut source) {
-        Ok(keys) => Ok(keys),
+        Ok(keys) => Ok((keys, found)),
         Err(fault) => Err(Refusal::of_fault(rt, fault)),
     }
 }

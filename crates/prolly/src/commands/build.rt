@@ -4,7 +4,7 @@ ghost use Rattle.prolly.specs.Requests.{AreInRange};
 
 use crate::commands::bits::chosen_bits;
 use crate::file_id::Found;
-use crate::inputs::Input;
+use crate::inputs::{Input, refuse_read_twice};
 use crate::output::{OUTPUT_BYTES, Output};
 use crate::output_kind::OutputKind;
 use crate::refusal::Refusal;
@@ -72,8 +72,8 @@ pub fn build_from<T: Wait + Threads + Clock + Sync>(
     output.finish(rt, answer)
 }
 
-/// The record files of these names, where none is the output, and how many bytes they have, where
-/// that is known.
+/// The record files of these names, where none is the output and no pipe is named twice, and how many
+/// bytes they have, where that is known.
 pub(super) fn sources_of<'a>(
     rt: &HostRuntime,
     files: &[String],
@@ -81,9 +81,12 @@ pub(super) fn sources_of<'a>(
     counts: &'a Counts,
 ) -> Result<(Vec<CountedSource<'a, FromRead<File>>>, Option<u64>), Refusal> {
     let mut total = Some(0);
+    let mut found = Vec::with_capacity(rt.alloc(), files.len())?;
     let mut sources = Vec::with_capacity(rt.alloc(), files.len())?;
     for name in files {
         let input = Input::open_beside(rt, name, output)?;
+        refuse_read_twice(rt, input.found(), &found, name)?;
+        found.push(input.found())?;
         total = sum_of(total, input.size());
         let source = CountedSource::new(input.into_source(), counts);
         sources.push(source)?;

@@ -1,7 +1,7 @@
 //! The command `diff`, of two files that are checked, and of two of which only the roots are
 //! believed.
 use crate::file_id::Found;
-use crate::inputs::{Chunks, Input, chunks_of};
+use crate::inputs::{Chunks, Input, chunks_of, refuse_read_twice};
 use crate::output::{OUTPUT_BYTES, Output};
 use crate::output_kind::OutputKind;
 use crate::patient::Patient;
@@ -59,7 +59,9 @@ impl Compared {
         request: DiffRequest,
     ) -> Result<Compared, Refusal> {
         let old = Input::open_beside(rt, old, output)?;
-        let new = Input::open_beside(rt, new, output)?;
+        let name = new;
+        let new = Input::open_beside(rt, name, output)?;
+        refuse_read_twice(rt, new.found(), &[old.found()], name)?;
         match request.roots {
             None => Ok(Compared::Whole {
                 old: old.into_whole(rt, Fault::CheckOld(CheckFault::TooLong))?,

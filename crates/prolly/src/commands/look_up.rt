@@ -1,6 +1,6 @@
 //! The commands `get`, `scan` and `nth`, each of a file that is checked, and of one of which only a
 //! root is believed.
-use crate::inputs::{Chunks, Input, chunk_file, chunks_of, listed_keys};
+use crate::inputs::{Chunks, Input, chunk_file, chunks_of, listed_keys, refuse_read_twice};
 use crate::output::OUTPUT_BYTES;
 use crate::patient::Patient;
 use crate::refusal::Refusal;
@@ -110,8 +110,9 @@ pub fn get_keys<H: ChunkHasher>(
     requires { H.can_hash hasher.now }
 {
     let printed = Stream::Output.found(rt)?;
-    let keys = listed_keys(rt, keys, notation, printed)?;
+    let (keys, listed) = listed_keys(rt, keys, notation, printed)?;
     let input = Input::open_beside(rt, file, printed)?;
+    refuse_read_twice(rt, input.found(), &[listed], file)?;
     let out = ToWrite::new(Patient::new(rt, rt.stdout()));
     let mut sink = Buffered::with_capacity(rt.alloc(), OUTPUT_BYTES, out)?;
     let answer = match root {

@@ -1,6 +1,6 @@
 //! The commands `prove` and `verify`.
 use crate::file_id::Found;
-use crate::inputs::{Input, chunks_of, listed_keys};
+use crate::inputs::{Input, chunks_of, listed_keys, refuse_read_twice};
 use crate::output::{OUTPUT_BYTES, Output};
 use crate::output_kind::OutputKind;
 use crate::patient::Patient;
@@ -54,17 +54,17 @@ impl<'a> Asked<'a> {
     }
 }
 
-/// The keys of the file that is named in their place, where that is not the one that is to be written;
-/// none where no file is.
+/// The keys of the file that is named in their place, where that is not the one that is to be written,
+/// and what it is; none where no file is.
 fn keys_read(
     rt: &HostRuntime,
     sought: &Sought,
     notation: Notation,
     output: Found,
-) -> Result<Vec<Vec<u8>>, Refusal> {
+) -> Result<(Vec<Vec<u8>>, Found), Refusal> {
     match sought {
         Sought::Keys(name) => listed_keys(rt, name, notation, output),
-        _ => Ok(Vec::new(rt.alloc())),
+        _ => Ok((Vec::new(rt.alloc()), Found::Nothing)),
     }
 }
 
@@ -84,9 +84,10 @@ pub fn prove<H: ChunkHasher>(
     requires { H.can_hash hasher.now }
 {
     let target = Target::look(rt, out, OutputKind::Proof, mode)?;
-    let keys = keys_read(rt, sought, notation, target.found())?;
+    let (keys, listed) = keys_read(rt, sought, notation, target.found())?;
     let asked = Asked::of(rt, sought, &keys)?;
     let input = Input::open_beside(rt, file, target.found())?;
+    refuse_read_twice(rt, input.found(), &[listed], file)?;
     match root {
         None => prove_checked(rt, hasher, input, asked, target),
         Some(root) => prove_from_root(rt, input, version, &root, asked, target),
@@ -178,10 +179,10 @@ pub fn verify(
         Sought::Keys(_) => Stream::Output.found(rt)?,
         _ => Found::Nothing,
     };
-    let keys = keys_read(rt, sought, notation, printed)?;
+    let (keys, listed) = keys_read(rt, sought, notation, printed)?;
     match Asked::of(rt, sought, &keys)? {
         Asked::Key(key) => verify_key(rt, root, version, key, proof, notation),
-        Asked::Set(set) => verify_set(rt, root, version, set, proof, notation),
+        Asked::Set(set) => verify_set(rt, root, version, set, listed, proof, notation),
     }
 }
 
@@ -211,27 +212,32 @@ fn verify_key(
     Ok(answer?)
 }
 
-/// The same of a set of keys, which prints what a leaf shows before it reads the next one. The proof may
-/// not be the file to which it is printed.
+/// The same of a set of keys, which prints as it goes. The proof may not be the file to which it is
+/// printed, nor a pipe from which the keys were read.
 fn verify_set(
     rt: &HostRuntime,
     root: Ref,
     version: Version,
     set: KeySet<'_>,
+    listed: Found,
     proof: Option<String>,
     notation: Notation,
 ) -> Result<Answer, Refusal> {
     let printed = Stream::Output.found(rt)?;
     let answer = match proof {
         None => {
-            if printed.is_same_file(Stream::Input.found(rt)?) {
-                return Err(Refusal::of_name(rt, NameFault::IsInput, Stream::Input.name()));
+            let (found, name) = (Stream::Input.found(rt)?, Stream::Input.name());
+            if printed.is_same_file(found) {
+                return Err(Refusal::of_name(rt, NameFault::IsInput, name));
             }
+            refuse_read_twice(rt, found, &[listed], name)?;
             let mut source = FromRead::new(Patient::new(rt, rt.stdin()));
             print_set(rt, &mut source, notation, version, &root, set)
         }
         Some(proof) => {
-            let mut source = Input::open_beside(rt, &proof, printed)?.into_source();
+            let input = Input::open_beside(rt, &proof, printed)?;
+            refuse_read_twice(rt, input.found(), &[listed], &proof)?;
+            let mut source = input.into_source();
             print_set(rt, &mut source, notation, version, &root, set)
         }
     };
@@ -247,6 +253,7 @@ fn print_set<S: Source>(
     root: &Ref,
     set: KeySet<'_>,
 ) -> Result<Answer, AllocError> {
-    let mut sink = ToWrite::new(Patient::new(rt, rt.stdout()));
+    let out = ToWrite::new(Patient::new(rt, rt.stdout()));
+    let mut sink = Buffered::with_capacity(rt.alloc(), OUTPUT_BYTES, out)?;
     answer_verify_set(rt.alloc(), source, notation, version, root, set, &mut sink)
 }

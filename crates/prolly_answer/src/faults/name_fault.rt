@@ -12,6 +12,8 @@ pub enum NameFault {
     CannotReplace,
     /// The file is an input, over which the output would be written.
     IsInput,
+    /// The file is a pipe that another word names, too. It gives its bytes once.
+    IsReadTwice,
     /// A chunk file is to be written over a file that has bytes and is none. `--force` was not
     /// given.
     NotChunkFile,
@@ -23,8 +25,8 @@ pub enum NameFault {
     /// Lines are to be written over a file that has bytes which no lines have. `--force` was not
     /// given.
     NotLines,
-    /// The empty tree is to be written over a file that has bytes: a build was given neither record
-    /// files nor `--force`.
+    /// The file has bytes, and a build was given no record files, or `apply` no changes, nor
+    /// `--force`.
     NotEmpty,
     /// Another run is writing the file.
     IsBusy,
@@ -39,6 +41,7 @@ impl NameFault {
             NameFault::CannotOpen => "cannot open ",
             NameFault::CannotReplace => "cannot replace ",
             NameFault::IsInput => "OUT is also an input: ",
+            NameFault::IsReadTwice => "one pipe is two inputs: ",
             NameFault::NotChunkFile => "OUT is not a chunk file: ",
             NameFault::NotProof => "OUT is not a proof: ",
             NameFault::NotRecordFile => "OUT is not a record file: ",
