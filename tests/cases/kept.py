@@ -276,6 +276,24 @@ def is_a_newcomer(place, before, force):
     place.holds(out=records(ABC) if force else PICTURE)
 
 
+def is_behind_a_link(place):
+    """What came in the place of the file behind a link is kept, also where the link was turned to another file meanwhile."""
+    for comes, answer in ((PICTURE, refusal(b"OUT is not a record file: out")), (None, (0, b"3\n", b""))):
+        place.lay(one=OLD_FILES["record file"], other=OLD_FILES["record file"])
+        place.path("out").symlink_to("one")
+        process = place.start(["pack", "out"], stdin=subprocess.PIPE)
+        wait_until_there(place.path("one.0.tmp"))
+        place.path("out").unlink()
+        place.path("out").symlink_to("other")
+        if comes is not None:
+            place.path("one").unlink()
+            place.lay(one=comes)
+        out, err = process.communicate(lines(ABC), timeout=60)
+        place.answers((process.returncode, out, err), answer)
+        place.path("out").unlink()
+        place.holds(one=comes or records(ABC), other=OLD_FILES["record file"])
+
+
 def is_a_new_folder(place):
     """So is a folder that came in OUT's place."""
     process = place.start(["pack", "--force", "out"], stdin=subprocess.PIPE)
@@ -457,7 +475,7 @@ def tests():
     for before in (None, OLD_FILES["record file"]):
         for force in (False, True):
             yield f"a newcomer, {'forced' if force else 'not forced'}", partial(is_a_newcomer, before=before, force=force)
-    for test in (is_not_readable, has_no_files, names_all_files, stays_before_the_header, is_made_early, is_busy, is_lost, is_not_its_own, is_a_new_folder, keeps_its_group):
+    for test in (is_not_readable, has_no_files, names_all_files, stays_before_the_header, is_made_early, is_busy, is_lost, is_not_its_own, is_behind_a_link, is_a_new_folder, keeps_its_group):
         yield test.__name__.replace("_", " "), test
     yield from failing()
 

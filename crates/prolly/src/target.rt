@@ -98,10 +98,15 @@ impl<'a> Target<'a> {
     /// Refuses an output that holds something else than what is to be written, unless `--force` is
     /// given.
     pub fn refuse_other_kind(self, rt: &HostRuntime) -> Result<(), Refusal> {
+        self.refuse_other_kind_at(rt, self.name)
+    }
+
+    /// The same of the file of this path, to which the name leads.
+    fn refuse_other_kind_at(self, rt: &HostRuntime, path: &str) -> Result<(), Refusal> {
         if !self.is_kept() {
             return Ok(());
         }
-        match self.kind.is_that_of(rt, self.name) {
+        match self.kind.is_that_of(rt, path) {
             Ok(true) => Ok(()),
             Ok(false) => Err(self.refused(rt, self.kind.fault())),
             Err(LookFault::Memory) => Err(Refusal::Memory),
@@ -109,12 +114,21 @@ impl<'a> Target<'a> {
         }
     }
 
-    /// Refuses to replace what the name leads to by now, where that may not be written over. Whether it
-    /// is another file than before can't be told: a new file may have the number of one that is gone.
-    pub fn refuse_newcomer(self, rt: &HostRuntime) -> Result<(), Refusal> {
-        let now = Target::look(rt, self.name, self.kind, self.mode)?;
-        match now.found {
-            Found::Nothing | Found::Regular(..) => now.refuse_other_kind(rt),
+    /// Refuses to replace what stands by now at this path, to which the name led, where that may not be
+    /// written over. Whether it is another file than before can't be told: a new file may have the
+    /// number of one that is gone.
+    pub fn refuse_newcomer(self, rt: &HostRuntime, path: &str) -> Result<(), Refusal> {
+        let Ok(found) = Found::at(rt, path) else {
+            return Err(self.refused(rt, NameFault::CannotOpen));
+        };
+        let now = Target {
+            name: self.name,
+            found,
+            kind: self.kind,
+            mode: self.mode,
+        };
+        match found {
+            Found::Nothing | Found::Regular(..) => now.refuse_other_kind_at(rt, path),
             _ => Err(self.refused(rt, NameFault::CannotReplace)),
         }
     }
