@@ -1,3 +1,5 @@
+-- What is answered to words that fit.
+mod Fits
 -- What stands in the rows of the subcommand that clap enters, by the subcommand as it is built.
 mod Levels
 -- What clap's clauses say of the program's command line.

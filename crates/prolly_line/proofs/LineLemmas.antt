@@ -120,18 +120,18 @@ pub answers_words : (words : List Text) (given : Text × List Row)
     (answer : Result Command ParseFault)
     → (line_faults words ≡ []) × (line_given words ≡ Some given) → Answers given answer →
     IfOk answer (IsGivenBy words) × IfErr answer (IsRefusedBy words)
-answers_words words given (Ok command) entered fields =
-    ((entered.0, (given, entered.1, fields)), tt)
+answers_words words given (Ok command) entered answer =
+    ((entered.0, (given, entered.1, answer.0, answer.1)), tt)
 answers_words words given (Err fault) entered refused = (tt, go fault refused)
   where
     go : (fault : ParseFault) → IsRefusedAt given fault → IsRefusedBy words fault
     go Memory r = tt
     go (Usage text) r = inr (entered.0, (given, entered.1, r))
-    go (Help text) r = absurd r
-    go BadRoot r = (entered.0, (given, entered.1, r))
-    go LoneRoot r = (entered.0, (given, entered.1, r))
-    go BadKey r = (entered.0, (given, entered.1, r))
-    go BadTextKey r = (entered.0, (given, entered.1, r))
+    go (Help text) r = absurd r.1
+    go BadRoot r = (entered.0, (given, entered.1, r.0, r.1))
+    go LoneRoot r = (entered.0, (given, entered.1, r.0, r.1))
+    go BadKey r = (entered.0, (given, entered.1, r.0, r.1))
+    go BadTextKey r = (entered.0, (given, entered.1, r.0, r.1))
 
 -- what a look-up trusts is lawful
 lawful_trust : (rows : List Row) (root : Option Ref) (version : ℕ) → GivesTrust rows root version →
@@ -180,10 +180,10 @@ version_kept : (rows : List Row) (version : Option ℕ) →
 version_kept rows None h = tt
 version_kept rows (Some version) h = (h.1, h.2)
 
--- the fields that an accepted subcommand gives are within the limits
-pub limits_kept : (given : Text × List Row) (answer : Result Command ParseFault) →
-    Answers given answer → IfOk answer IsWithinLimits
-limits_kept given (Ok command) fields = go command fields
+-- the fields that the words give are within the limits
+pub limits_kept : (words : List Text) (answer : Result Command ParseFault) →
+    IfOk answer (IsGivenBy words) → IfOk answer IsWithinLimits
+limits_kept words (Ok command) (faults, (given, is, fit, fields)) = go command fields
   where
     go : (command : Command) → HasFields command given → IsWithinLimits command
     go (Pack out notation removals mode) h = tt
@@ -235,4 +235,4 @@ limits_kept given (Ok command) fields = go command fields
     )
     go (Verify root sought version proof notation) h =
         (h.1.1, lawful_sought given.1 notation sought h.2, h.3.1, h.3.2)
-limits_kept given (Err fault) refused = tt
+limits_kept words (Err fault) is = tt

@@ -15,8 +15,9 @@ use Rattle.clap.specs.declared.parser.matches.Found.{Found}
 use Rattle.clap.proofs.CallerReads.{signed_reads}
 use Rattle.clap.proofs.WalkLemmas.{first_value-rows, one_text-rows}
 use Rattle.prolly_entry.specs.declared.reference.Ref.{Ref}
-use Rattle.prolly_line.specs.AcceptedWords.{DoFit, HasNumber, HasWord, IsRefusedAt, IsRefusedSought}
-use Rattle.prolly_line.specs.AcceptedWords.{MayReadNumber, ReadsNumber}
+use Rattle.prolly_line.specs.AcceptedWords.{DoFit, HasNumber, HasWord, IsRefusedAt}
+use Rattle.prolly_line.specs.AcceptedWords.{IsRefusedFitting, IsRefusedSought, MayReadNumber}
+use Rattle.prolly_line.specs.AcceptedWords.{ReadsNumber}
 use Rattle.prolly_line.specs.GivenCommand.{GivesSought, HasMisfit, IsWordFault, MayGiveNumber}
 use Rattle.prolly_line.specs.GivenCommand.{MayGiveRoot, decimal_of, number_given, place_of_last}
 use Rattle.prolly_line.specs.declared.command.ParseFault.{ParseFault}
@@ -167,7 +168,8 @@ last_there rows notation (Keys keys) last fit h = fit.in_place (inr (string_byte
 
 -- a word for what is sought is refused of `prove` where its root is none or good
 pub prove_refused : (rows : List Row) (root : Option Ref) (fault : ParseFault) →
-    MayGiveRoot rows root → IsRefusedSought rows fault → IsRefusedAt (codes "prove", rows) fault
+    MayGiveRoot rows root → IsRefusedSought rows fault →
+    IsRefusedFitting (codes "prove", rows) fault
 prove_refused rows root Memory has bad = tt
 prove_refused rows root (Usage text) has bad = absurd bad
 prove_refused rows root (Help text) has bad = absurd bad

@@ -82,19 +82,31 @@ pub record DoLinesFit (rows : List Row) : Type 0 where
 abbrev pub DoesCutFit : List Row → Type 0
 DoesCutFit rows = HasWord (codes "chunk-bytes") rows → HasNone (codes "bits") rows
 
--- an accepted subcommand is refused in this way
+-- an accepted subcommand, whose words fit, is refused in this way
+abbrev pub IsRefusedFitting : Text × List Row → ParseFault → Type 0
+IsRefusedFitting given Memory = ⊤
+IsRefusedFitting given BadRoot = HasBadRoot given
+IsRefusedFitting given LoneRoot = HasLoneRoot given
+IsRefusedFitting given BadKey = HasBadKey given Hex
+IsRefusedFitting given BadTextKey = HasBadKey given AsText
+IsRefusedFitting given _ = ⊥
+
+-- the answer to an accepted subcommand whose words fit
+abbrev pub AnswersFitting : Text × List Row → Result Command ParseFault → Type 0
+AnswersFitting given answer =
+    MatchResult answer (λ command. HasFields command given) (IsRefusedFitting given)
+
+-- an accepted subcommand is refused in this way: for anything but memory and wrong usage only where
+-- its words fit
 abbrev pub IsRefusedAt : Text × List Row → ParseFault → Type 0
 IsRefusedAt given Memory = ⊤
 IsRefusedAt given (Usage text) = HasMisfit given
-IsRefusedAt given BadRoot = HasBadRoot given
-IsRefusedAt given LoneRoot = HasLoneRoot given
-IsRefusedAt given BadKey = HasBadKey given Hex
-IsRefusedAt given BadTextKey = HasBadKey given AsText
-IsRefusedAt given _ = ⊥
+IsRefusedAt given fault = (HasMisfit given → ⊥) × IsRefusedFitting given fault
 
--- the answer to an accepted subcommand
+-- the answer to an accepted subcommand: a command only where its words fit
 abbrev pub Answers : Text × List Row → Result Command ParseFault → Type 0
-Answers given answer = MatchResult answer (λ command. HasFields command given) (IsRefusedAt given)
+Answers given answer = MatchResult answer
+    (λ command. (HasMisfit given → ⊥) × HasFields command given) (IsRefusedAt given)
 
 -- the two roots are refused in this way
 abbrev pub AreRefusedRoots : List Row → ParseFault → Type 0

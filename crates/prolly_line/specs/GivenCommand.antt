@@ -413,11 +413,26 @@ HasFields (Verify root sought version proof notation) given =
     × GivesNumber given.1 (codes "format") 1 2 version
     × GivesLast sought (codes "proof") given.1 (option_map string_bytes proof)
 
--- clap takes the words, and the command is what they give
-abbrev pub IsGivenBy : List Text → Command → Type 0
-IsGivenBy words command =
+-- the words of the subcommand do not fit: of one that takes a key, or a set of keys in its place; of
+-- `pack`, of `explain`, or of one that makes a tree of records
+abbrev pub HasMisfit : Text × List Row → Type 0
+HasMisfit given = ((given.0 ≡ codes "prove") × AreMisfit (codes "out") true given.1)
+    ⊎ ((given.0 ≡ codes "verify") × AreMisfit (codes "proof") false given.1)
+    ⊎ ((given.0 ≡ codes "get") × IsMisfitKey given.1)
+    ⊎ ((given.0 ≡ codes "pack") × IsMisfitSort given.1)
+    ⊎ ((given.0 ≡ codes "explain") × IsMisfitLines given.1)
+    ⊎ (((given.0 ≡ codes "scratch") ⊎ (given.0 ≡ codes "build")) × IsMisfitCut given.1)
+
+-- clap takes the words, they fit, and this holds of the subcommand that they give, and of its rows
+abbrev pub DoGive : List Text → (Text × List Row → Type 0) → Type 0
+DoGive words Holds =
     (line_faults words ≡ [])
-    × ((given : Text × List Row) × (line_given words ≡ Some given) × HasFields command given)
+    × ((given : Text × List Row) × (line_given words ≡ Some given) × (HasMisfit given → ⊥)
+    × Holds given)
+
+-- the words give this command
+abbrev pub IsGivenBy : List Text → Command → Type 0
+IsGivenBy words command = DoGive words (HasFields command)
 
 -- a root that may be missing is a reference, and the version one of the two
 abbrev pub IsLawfulTrust : Option Ref → ℕ → Type 0
@@ -523,16 +538,6 @@ abbrev pub HasBadKey : Text × List Row → Notation → Type 0
 HasBadKey given notation = (ReadsKey given × GivesBadKey given.1 notation)
     ⊎ (ReadsSought given × GivesBadSought given.1 notation)
 
--- the words of the subcommand do not fit: of one that takes a key, or a set of keys in its place; of
--- `pack`, of `explain`, or of one that makes a tree of records
-abbrev pub HasMisfit : Text × List Row → Type 0
-HasMisfit given = ((given.0 ≡ codes "prove") × AreMisfit (codes "out") true given.1)
-    ⊎ ((given.0 ≡ codes "verify") × AreMisfit (codes "proof") false given.1)
-    ⊎ ((given.0 ≡ codes "get") × IsMisfitKey given.1)
-    ⊎ ((given.0 ≡ codes "pack") × IsMisfitSort given.1)
-    ⊎ ((given.0 ≡ codes "explain") × IsMisfitLines given.1)
-    ⊎ (((given.0 ≡ codes "scratch") ⊎ (given.0 ≡ codes "build")) × IsMisfitCut given.1)
-
 -- an error of clap's of this kind is what the words ask for: help, or the version
 abbrev pub IsAskedFor : ErrorKind → Type 0
 IsAskedFor kind = (kind ≡ DisplayHelp) ⊎ (kind ≡ DisplayVersion)
@@ -546,18 +551,10 @@ IsRefusedBy words (Usage text) =
     × ((given : Text × List Row) × (line_given words ≡ Some given) × HasMisfit given))
 IsRefusedBy words (Help text) =
     (kind : ErrorKind) × IsAmong kind (line_faults words) × IsAskedFor kind
-IsRefusedBy words BadRoot =
-    (line_faults words ≡ [])
-    × ((given : Text × List Row) × (line_given words ≡ Some given) × HasBadRoot given)
-IsRefusedBy words LoneRoot =
-    (line_faults words ≡ [])
-    × ((given : Text × List Row) × (line_given words ≡ Some given) × HasLoneRoot given)
-IsRefusedBy words BadKey =
-    (line_faults words ≡ [])
-    × ((given : Text × List Row) × (line_given words ≡ Some given) × HasBadKey given Hex)
-IsRefusedBy words BadTextKey =
-    (line_faults words ≡ [])
-    × ((given : Text × List Row) × (line_given words ≡ Some given) × HasBadKey given AsText)
+IsRefusedBy words BadRoot = DoGive words HasBadRoot
+IsRefusedBy words LoneRoot = DoGive words HasLoneRoot
+IsRefusedBy words BadKey = DoGive words (λ given. HasBadKey given Hex)
+IsRefusedBy words BadTextKey = DoGive words (λ given. HasBadKey given AsText)
 
 -- the fault is that of words which do not fit, told as clap does; memory may run out
 abbrev pub IsWordFault : ParseFault → Type 0

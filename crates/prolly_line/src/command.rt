@@ -243,15 +243,16 @@ pub enum ParseFault {
     Usage(String),
     /// The words ask for help, or for the version, which is the text.
     Help(String),
-    /// The word for the root is not the text of a reference: 32 figures and letters from a to v.
+    /// The word for the root is not the text of a reference: 32 figures and letters from a to v. It is
+    /// told only where the words fit together.
     BadRoot,
     /// Of the roots of two trees one is given alone.
     LoneRoot,
     /// A word for a key is not hexadecimal, or writes more than 1,024 bytes. It is told only where
-    /// the word for the root, if there is one, is good.
+    /// the words fit together, and the word for the root, if there is one, is good.
     BadKey,
     /// With `--text`, a word for a key is no text of bytes, or of more than 1,024. It is told only
-    /// where the word for the root, if there is one, is good.
+    /// where the words fit together, and the word for the root, if there is one, is good.
     BadTextKey,
 }
 

@@ -3,9 +3,9 @@
 ghost use Rattle.std.specs.Prelude.{◌≡◌, ◌≤◌, ◌∷◌, [], Some, codes, IfErr, IfOk, length, true, false};
 ghost use Rattle.std.specs.Prelude.{unwrap_or};
 ghost use Rattle.clap.specs.Words.{Text, all_of, first_of};
-ghost use Rattle.prolly_line.specs.AcceptedWords.{Answers, DoFit, DoLinesFit, DoesCutFit};
-ghost use Rattle.prolly_line.specs.AcceptedWords.{DoesKeyFit, DoesSortFit, HasNumber, HasWord};
-ghost use Rattle.prolly_line.specs.AcceptedWords.{IsAccepted, IsRefusedLookUp, rows_in};
+ghost use Rattle.prolly_line.specs.AcceptedWords.{Answers, AnswersFitting, DoFit, DoLinesFit};
+ghost use Rattle.prolly_line.specs.AcceptedWords.{DoesCutFit, DoesKeyFit, DoesSortFit, HasNumber};
+ghost use Rattle.prolly_line.specs.AcceptedWords.{HasWord, IsAccepted, IsRefusedLookUp, rows_in};
 ghost use Rattle.prolly_line.specs.GivenCommand.{GivesFlag, GivesKey, GivesNotation, GivesTrust};
 ghost use Rattle.prolly_line.specs.GivenCommand.{HasFields, HasNone};
 
@@ -41,7 +41,7 @@ pub(crate) fn pack(alloc: Global, given: &ArgMatches<'_>) -> Result<Command, Par
 fn pack_sorted(alloc: Global, given: &ArgMatches<'_>) -> Result<Command, ParseFault>
     requires accepted { IsAccepted (codes "pack", rows_in given.now) }
     requires sort { GivesFlag (rows_in given.now) (codes "sort") true }
-    ensures { Answers (codes "pack", rows_in given.now) result }
+    ensures { AnswersFitting (codes "pack", rows_in given.now) result }
 {
     let out = text_of(alloc, given, "out")?;
     let notation = notation_of(given);
@@ -64,7 +64,7 @@ fn pack_as_they_come(alloc: Global, given: &ArgMatches<'_>) -> Result<Command, P
     requires accepted { IsAccepted (codes "pack", rows_in given.now) }
     requires fit { DoesSortFit (rows_in given.now) }
     requires none { GivesFlag (rows_in given.now) (codes "sort") false }
-    ensures { Answers (codes "pack", rows_in given.now) result }
+    ensures { AnswersFitting (codes "pack", rows_in given.now) result }
 {
     let out = text_of(alloc, given, "out")?;
     let notation = notation_of(given);
@@ -93,7 +93,7 @@ pub(crate) fn scratch(alloc: Global, given: &ArgMatches<'_>) -> Result<Command, 
 fn fitting_scratch(alloc: Global, given: &ArgMatches<'_>) -> Result<Command, ParseFault>
     requires accepted { IsAccepted (codes "scratch", rows_in given.now) }
     requires fit { DoesCutFit (rows_in given.now) }
-    ensures { Answers (codes "scratch", rows_in given.now) result }
+    ensures { AnswersFitting (codes "scratch", rows_in given.now) result }
 {
     let bits = bits_of(given);
     let chunk_bytes = chunk_bytes_of(given);
@@ -125,7 +125,7 @@ pub(crate) fn build(alloc: Global, given: &ArgMatches<'_>) -> Result<Command, Pa
 fn fitting_build(alloc: Global, given: &ArgMatches<'_>) -> Result<Command, ParseFault>
     requires accepted { IsAccepted (codes "build", rows_in given.now) }
     requires fit { DoesCutFit (rows_in given.now) }
-    ensures { Answers (codes "build", rows_in given.now) result }
+    ensures { AnswersFitting (codes "build", rows_in given.now) result }
 {
     let bits = bits_of(given);
     let chunk_bytes = chunk_bytes_of(given);
@@ -157,7 +157,7 @@ fn fitting_build(alloc: Global, given: &ArgMatches<'_>) -> Result<Command, Parse
 /// [CHANGES...]`
 pub(crate) fn apply(alloc: Global, given: &ArgMatches<'_>) -> Result<Command, ParseFault>
     requires { IsAccepted (codes "apply", rows_in given.now) }
-    ensures { Answers (codes "apply", rows_in given.now) result }
+    ensures { AnswersFitting (codes "apply", rows_in given.now) result }
 {
     let root = root_of(given, "root")?;
     let bits = optional_byte_of(given, "bits");
@@ -208,7 +208,7 @@ fn explain_lines(given: &ArgMatches<'_>) -> Command
 fn explain_file(alloc: Global, given: &ArgMatches<'_>) -> Result<Command, ParseFault>
     requires fit { DoLinesFit (rows_in given.now) }
     requires none { GivesFlag (rows_in given.now) (codes "lines") false }
-    ensures { Answers (codes "explain", rows_in given.now) result }
+    ensures { AnswersFitting (codes "explain", rows_in given.now) result }
 {
     let file = text_of(alloc, given, "file")?;
     let notation = notation_of(given);
@@ -218,7 +218,7 @@ fn explain_file(alloc: Global, given: &ArgMatches<'_>) -> Result<Command, ParseF
 /// `check [--root ROOT] [--format V] [--quiet] FILE...`
 pub(crate) fn check(alloc: Global, given: &ArgMatches<'_>) -> Result<Command, ParseFault>
     requires { IsAccepted (codes "check", rows_in given.now) }
-    ensures { Answers (codes "check", rows_in given.now) result }
+    ensures { AnswersFitting (codes "check", rows_in given.now) result }
 {
     match (flag_of(given, "quiet"), has_several(given, "file")) {
         (false, false) => check_one(alloc, given),
@@ -232,7 +232,7 @@ fn check_one(alloc: Global, given: &ArgMatches<'_>) -> Result<Command, ParseFaul
     requires loud { GivesFlag (rows_in given.now) (codes "quiet") false }
     requires one { (word : Text) → first_of (codes "file") (rows_in given.now) ≡ Some word
         → unwrap_or (all_of (codes "file") (rows_in given.now)) [] ≡ word ∷ [] }
-    ensures { Answers (codes "check", rows_in given.now) result }
+    ensures { AnswersFitting (codes "check", rows_in given.now) result }
 {
     let (root, version) = trust_of(given)?;
     let file = text_of(alloc, given, "file")?;
@@ -248,7 +248,7 @@ fn check_files(alloc: Global, given: &ArgMatches<'_>) -> Result<Command, ParseFa
     requires accepted { IsAccepted (codes "check", rows_in given.now) }
     requires several { GivesFlag (rows_in given.now) (codes "quiet") false
         → 2 ≤ length (unwrap_or (all_of (codes "file") (rows_in given.now)) []) }
-    ensures { Answers (codes "check", rows_in given.now) result }
+    ensures { AnswersFitting (codes "check", rows_in given.now) result }
 {
     let (root, version) = trust_of(given)?;
     let files = texts_of(alloc, given, "file")?;
@@ -264,7 +264,7 @@ fn check_files(alloc: Global, given: &ArgMatches<'_>) -> Result<Command, ParseFa
 /// `root FILE`
 pub(crate) fn root(alloc: Global, given: &ArgMatches<'_>) -> Result<Command, ParseFault>
     requires { IsAccepted (codes "root", rows_in given.now) }
-    ensures { Answers (codes "root", rows_in given.now) result }
+    ensures { AnswersFitting (codes "root", rows_in given.now) result }
 {
     let file = text_of(alloc, given, "file")?;
     Ok(Command::Root { file })
@@ -273,7 +273,7 @@ pub(crate) fn root(alloc: Global, given: &ArgMatches<'_>) -> Result<Command, Par
 /// `stat [--text] [--json] FILE`
 pub(crate) fn stat(alloc: Global, given: &ArgMatches<'_>) -> Result<Command, ParseFault>
     requires { IsAccepted (codes "stat", rows_in given.now) }
-    ensures { Answers (codes "stat", rows_in given.now) result }
+    ensures { AnswersFitting (codes "stat", rows_in given.now) result }
 {
     let file = text_of(alloc, given, "file")?;
     let json = flag_of(given, "json");
@@ -320,7 +320,7 @@ fn get_keys(alloc: Global, given: &ArgMatches<'_>) -> Result<Command, ParseFault
     requires accepted { IsAccepted (codes "get", rows_in given.now) }
     requires fit { DoesKeyFit (rows_in given.now) }
     requires keys { HasWord (codes "keys") (rows_in given.now) }
-    ensures { Answers (codes "get", rows_in given.now) result }
+    ensures { AnswersFitting (codes "get", rows_in given.now) result }
 {
     let notation = notation_of(given);
     let (root, version) = trust_of(given)?;
@@ -340,7 +340,7 @@ fn get_one(alloc: Global, given: &ArgMatches<'_>) -> Result<Command, ParseFault>
     requires accepted { IsAccepted (codes "get", rows_in given.now) }
     requires fit { DoesKeyFit (rows_in given.now) }
     requires none { HasNone (codes "keys") (rows_in given.now) }
-    ensures { Answers (codes "get", rows_in given.now) result }
+    ensures { AnswersFitting (codes "get", rows_in given.now) result }
 {
     let notation = notation_of(given);
     let (root, version, key) = trusted_key(alloc, given, notation)?;
@@ -359,7 +359,7 @@ fn get_one(alloc: Global, given: &ArgMatches<'_>) -> Result<Command, ParseFault>
 /// `scan [--text] [--root ROOT] [--format V] FILE KEY LIMIT`
 pub(crate) fn scan(alloc: Global, given: &ArgMatches<'_>) -> Result<Command, ParseFault>
     requires { IsAccepted (codes "scan", rows_in given.now) }
-    ensures { Answers (codes "scan", rows_in given.now) result }
+    ensures { AnswersFitting (codes "scan", rows_in given.now) result }
 {
     let notation = notation_of(given);
     let (root, version, from) = trusted_key(alloc, given, notation)?;
@@ -378,7 +378,7 @@ pub(crate) fn scan(alloc: Global, given: &ArgMatches<'_>) -> Result<Command, Par
 /// `nth [--text] [--root ROOT] [--format V] FILE N`
 pub(crate) fn nth(alloc: Global, given: &ArgMatches<'_>) -> Result<Command, ParseFault>
     requires { IsAccepted (codes "nth", rows_in given.now) }
-    ensures { Answers (codes "nth", rows_in given.now) result }
+    ensures { AnswersFitting (codes "nth", rows_in given.now) result }
 {
     let (root, version) = trust_of(given)?;
     let n = u64::from(number_of(given, "n"));
@@ -396,7 +396,7 @@ pub(crate) fn nth(alloc: Global, given: &ArgMatches<'_>) -> Result<Command, Pars
 /// `dump [--text] [--hex] [--root ROOT] [--format V] [--atomic] [--sync] [--force] FILE [OUT]`
 pub(crate) fn dump(alloc: Global, given: &ArgMatches<'_>) -> Result<Command, ParseFault>
     requires { IsAccepted (codes "dump", rows_in given.now) }
-    ensures { Answers (codes "dump", rows_in given.now) result }
+    ensures { AnswersFitting (codes "dump", rows_in given.now) result }
 {
     let (root, version) = trust_of(given)?;
     let file = text_of(alloc, given, "file")?;
@@ -417,7 +417,7 @@ pub(crate) fn dump(alloc: Global, given: &ArgMatches<'_>) -> Result<Command, Par
 /// [--sync] [--force] OLD NEW`
 pub(crate) fn diff(alloc: Global, given: &ArgMatches<'_>) -> Result<Command, ParseFault>
     requires { IsAccepted (codes "diff", rows_in given.now) }
-    ensures { Answers (codes "diff", rows_in given.now) result }
+    ensures { AnswersFitting (codes "diff", rows_in given.now) result }
 {
     let stat = flag_of(given, "stat");
     let notation = notation_of(given);
@@ -455,7 +455,7 @@ pub(crate) fn prove(alloc: Global, given: &ArgMatches<'_>) -> Result<Command, Pa
 fn fitting_prove(alloc: Global, given: &ArgMatches<'_>) -> Result<Command, ParseFault>
     requires accepted { IsAccepted (codes "prove", rows_in given.now) }
     requires fit { DoFit (codes "out") true (rows_in given.now) }
-    ensures { Answers (codes "prove", rows_in given.now) result }
+    ensures { AnswersFitting (codes "prove", rows_in given.now) result }
 {
     let notation = notation_of(given);
     let (root, version) = trust_of(given)?;
@@ -489,7 +489,7 @@ pub(crate) fn verify(alloc: Global, given: &ArgMatches<'_>) -> Result<Command, P
 fn fitting_verify(alloc: Global, given: &ArgMatches<'_>) -> Result<Command, ParseFault>
     requires accepted { IsAccepted (codes "verify", rows_in given.now) }
     requires fit { DoFit (codes "proof") false (rows_in given.now) }
-    ensures { Answers (codes "verify", rows_in given.now) result }
+    ensures { AnswersFitting (codes "verify", rows_in given.now) result }
 {
     let notation = notation_of(given);
     let root = root_of(given, "root")?;

@@ -1,4 +1,5 @@
-use Rattle.std.proofs.Common.{subst, sym}
+use Rattle.std.proofs.Common.{codes, refl, subst, sym}
+use Rattle.prolly_line.proofs.Fits.{always_fitting}
 use Rattle.prolly_line.proofs.Names.{not_strange}
 use Rattle.prolly_line.specs.AcceptedWords.{Answers, IsAccepted, rows_in}
 use Rattle.prolly_line.proofs.command.command_of.Goals as goal
@@ -42,7 +43,8 @@ apply-requires c = subst (λ name. IsAccepted (name, rows_in c.args.given.now)) 
 
 pub returns-in-apply : goal.returns-in-apply
 returns-in-apply c = subst (λ name. Answers (name, rows_in c.args.given.now) c.apply.result)
-    (sym c.in-apply.is) c.apply.ensures
+    (sym c.in-apply.is) (always_fitting (codes "apply") (rows_in c.args.given.now) c.apply.result refl refl
+    refl refl refl refl refl c.apply.ensures)
 
 pub explain-requires : goal.explain-requires
 explain-requires c = subst (λ name. IsAccepted (name, rows_in c.args.given.now)) c.in-explain.is c.requires
@@ -56,21 +58,24 @@ check-requires c = subst (λ name. IsAccepted (name, rows_in c.args.given.now)) 
 
 pub returns-in-check : goal.returns-in-check
 returns-in-check c = subst (λ name. Answers (name, rows_in c.args.given.now) c.check.result)
-    (sym c.in-check.is) c.check.ensures
+    (sym c.in-check.is) (always_fitting (codes "check") (rows_in c.args.given.now) c.check.result refl refl
+    refl refl refl refl refl c.check.ensures)
 
 pub root-requires : goal.root-requires
 root-requires c = subst (λ name. IsAccepted (name, rows_in c.args.given.now)) c.in-root.is c.requires
 
 pub returns-in-root : goal.returns-in-root
 returns-in-root c = subst (λ name. Answers (name, rows_in c.args.given.now) c.root.result)
-    (sym c.in-root.is) c.root.ensures
+    (sym c.in-root.is) (always_fitting (codes "root") (rows_in c.args.given.now) c.root.result refl refl
+    refl refl refl refl refl c.root.ensures)
 
 pub stat-requires : goal.stat-requires
 stat-requires c = subst (λ name. IsAccepted (name, rows_in c.args.given.now)) c.in-stat.is c.requires
 
 pub returns-in-stat : goal.returns-in-stat
 returns-in-stat c = subst (λ name. Answers (name, rows_in c.args.given.now) c.stat.result)
-    (sym c.in-stat.is) c.stat.ensures
+    (sym c.in-stat.is) (always_fitting (codes "stat") (rows_in c.args.given.now) c.stat.result refl refl
+    refl refl refl refl refl c.stat.ensures)
 
 pub get-requires : goal.get-requires
 get-requires c = subst (λ name. IsAccepted (name, rows_in c.args.given.now)) c.in-get.is c.requires
@@ -84,28 +89,32 @@ scan-requires c = subst (λ name. IsAccepted (name, rows_in c.args.given.now)) c
 
 pub returns-in-scan : goal.returns-in-scan
 returns-in-scan c = subst (λ name. Answers (name, rows_in c.args.given.now) c.scan.result)
-    (sym c.in-scan.is) c.scan.ensures
+    (sym c.in-scan.is) (always_fitting (codes "scan") (rows_in c.args.given.now) c.scan.result refl refl
+    refl refl refl refl refl c.scan.ensures)
 
 pub nth-requires : goal.nth-requires
 nth-requires c = subst (λ name. IsAccepted (name, rows_in c.args.given.now)) c.in-nth.is c.requires
 
 pub returns-in-nth : goal.returns-in-nth
 returns-in-nth c = subst (λ name. Answers (name, rows_in c.args.given.now) c.nth.result)
-    (sym c.in-nth.is) c.nth.ensures
+    (sym c.in-nth.is) (always_fitting (codes "nth") (rows_in c.args.given.now) c.nth.result refl refl
+    refl refl refl refl refl c.nth.ensures)
 
 pub dump-requires : goal.dump-requires
 dump-requires c = subst (λ name. IsAccepted (name, rows_in c.args.given.now)) c.in-dump.is c.requires
 
 pub returns-in-dump : goal.returns-in-dump
 returns-in-dump c = subst (λ name. Answers (name, rows_in c.args.given.now) c.dump.result)
-    (sym c.in-dump.is) c.dump.ensures
+    (sym c.in-dump.is) (always_fitting (codes "dump") (rows_in c.args.given.now) c.dump.result refl refl
+    refl refl refl refl refl c.dump.ensures)
 
 pub diff-requires : goal.diff-requires
 diff-requires c = subst (λ name. IsAccepted (name, rows_in c.args.given.now)) c.in-diff.is c.requires
 
 pub returns-in-diff : goal.returns-in-diff
 returns-in-diff c = subst (λ name. Answers (name, rows_in c.args.given.now) c.diff.result)
-    (sym c.in-diff.is) c.diff.ensures
+    (sym c.in-diff.is) (always_fitting (codes "diff") (rows_in c.args.given.now) c.diff.result refl refl
+    refl refl refl refl refl c.diff.ensures)
 
 pub prove-requires : goal.prove-requires
 prove-requires c = subst (λ name. IsAccepted (name, rows_in c.args.given.now)) c.in-prove.is c.requires

@@ -35,4 +35,5 @@ returns-clause-refused c =
     c.command_of.ensures).1
 
 pub returns-clause-limits : goal.returns-clause-limits
-returns-clause-limits c = limits_kept _ c.command_of.result c.command_of.ensures
+returns-clause-limits c =
+    limits_kept (map string_bytes c.args.words.now) c.command_of.result (returns-clause-given c)
