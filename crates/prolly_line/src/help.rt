@@ -160,10 +160,10 @@ shows its progress there. With --quiet it does not.",
 
 pub(crate) const APPLY: Help<'static> = Help {
     about: "Make the next chunk file from the last one and its changes",
-    details: "Makes OUT, the chunk file of the tree of ROOT with the changes of up to 15 record
-files laid over it: the file that `build` makes of the old pairs and CHANGES.
-Where several files have a key the last of them wins: its pair replaces the
-value, its removal takes the key away.
+    details: "Makes OUT, the chunk file of the tree of ROOT with the changes of up to 15
+record files laid over it: the file that `build` makes of the old pairs and
+CHANGES. Where several files have a key the last of them wins: its pair replaces
+the value, its removal takes the key away.
 
 OLD has the tree of ROOT. It may be of any size and is not checked first:
 nothing of it is believed but what ROOT vouches for, and each chunk is compared
@@ -181,7 +181,7 @@ OUT is written as by `build`: it is emptied once there is something to write,
 and after a later fault it holds no more than the first part of a chunk file.
 With --atomic it is as it was then.",
     example: "Example: the tree of the day before, and the records of a day
-  prolly apply --root nu05v9k058pmjdu7s5312ho13geggue6 days.prl next.prl wednesday.rec",
+  prolly apply --root nu05v9k058pmjdu7s5312ho13geggue6 old.prl new.prl day.rec",
 };
 
 pub(crate) const EXPLAIN: Help<'static> = Help {
@@ -416,8 +416,8 @@ compared byte by byte. The proof is the chunks that have such keys, and those
 above them, each once.
 
 With --keys there is no KEY either, and the proof is one of what FILE has at
-each of the keys of a file, as `get` reads them: a key in each line, greater than
-the one before it. Each chunk is in it once, however many keys meet it.
+each of the keys of a file, as `get` reads them: a key in each line, greater
+than the one before it. Each chunk is in it once, however many keys meet it.
 
 With --text keys are taken as text, with the escapes of `pack --text`.
 
@@ -457,11 +457,11 @@ reference above it. So what is printed is right for ROOT; that it is all only
 the exit status tells, once the proof was read to its end.
 
 With --keys there is no KEY either, and the proof is one of the keys of a file,
-which is the one that `prove` was given. A line is printed for each key, as `get`
-prints it: HEXKEY HEXVALUE, or HEXKEY alone where there is no value. The line of
-a key with a value is printed once its chunk was compared; that of one without,
-with the next one that has a value, or at the end. So what is printed is right
-for ROOT, and the exit status tells whether it is all.
+which is the one that `prove` was given. A line is printed for each key, as
+`get` prints it: HEXKEY HEXVALUE, or HEXKEY alone where there is no value. The
+line of a key with a value is printed once its chunk was compared; that of one
+without, with the next one that has a value, or at the end. So what is printed
+is right for ROOT, and the exit status tells whether it is all.
 
 The proof is read from PROOF, or from standard input where PROOF is not given.
 A proof of a range, or of many keys, may be of any size.
@@ -477,7 +477,8 @@ The exit status is
   2  where a word is not understood, as where ROOT is not the text of a root
   3  where a line of the file of keys is refused
   4  where the proof is refused; a line names the first fault of it
-  5  where the proof cannot be read, or the answer cannot be printed",
+  5  where the proof cannot be read, or the answer cannot be printed
+  6  where memory was refused, or a chunk of the proof has more than 1 GiB",
     example: "Examples: what the tree of a root has at the key of one byte, 61, and all that
 it has from there on before the key 63
   prolly verify \

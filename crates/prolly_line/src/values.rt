@@ -16,12 +16,9 @@ ghost use Rattle.prolly_line.specs.declared.command.ParseFault.TheVariants.{BadR
 
 use crate::command::{ParseFault, RootPair, Sought, WriteMode};
 use clap::ArgMatches;
-use prolly_entry::Ref;
+use prolly_entry::{KEY_LIMIT, Ref};
 use prolly_text::{Notation, TextFault};
 use std::alloc::{AllocError, Global};
-
-/// The greatest number of bytes in a key.
-const KEY_LIMIT: usize = 1024;
 
 /// A number of 8 bits.
 pub(crate) fn byte_of(given: &ArgMatches<'_>, name: &str) -> u8
