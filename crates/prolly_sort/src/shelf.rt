@@ -91,6 +91,7 @@ impl<W: Sink + Drop, S: Source + Drop> Shelf<W, S> {
     }
 
     /// Merges all runs into one file. Where no run had to be stored, it is the one that was written.
+    /// Else that is merged with all others, and with no group of them before.
     pub(crate) fn finish<T: RunStore<W, S>, R: Wait>(
         self,
         rt: &R,
@@ -110,7 +111,7 @@ impl<W: Sink + Drop, S: Source + Drop> Shelf<W, S> {
             if stored.is_empty() {
                 return Ok(run.into_sorted());
             }
-            stored.push(rt, alloc, rule, store, run.into_sorted())?;
+            stored.push_unmerged(store, run.into_sorted())?;
         }
         stored.merge_all(rt, alloc, rule, store)
     }

@@ -92,11 +92,27 @@ impl<S: Source + Drop> StoredRuns<S> {
             AllByRecursion IsRecord (came ++ part) → IsRunFile W.seen rule sorted part →
             AreTold (came ++ part) a b)) }
     {
+        self.push_unmerged(store, sorted)?;
+        self.merge_groups(rt, alloc, rule, store)
+    }
+
+    /// Stores a run that was written behind the others, and merges none. So as many as are merged at a
+    /// time may then have been merged equally often.
+    pub(crate) fn push_unmerged<T: RunStore<W, S>, W: Sink + Drop>(
+        &mut self,
+        store: &mut T,
+        sorted: SortedFile<W>,
+    ) -> Result<(), StoreFault>
+        ensures keeps { T.keeps store.old ≡ true → T.keeps store.new ≡ true }
+        ensures stored { (rule : Rule) (came part : List RecordValue) → T.keeps store.old ≡ true →
+            AreStored S.seen rule self.old.runs.items came → IsRunFile W.seen rule sorted part →
+            OnOk result (AreStored S.seen rule self.new.runs.items (came ++ part)) }
+    {
         let run = StoredRun::new(store, sorted, 0)?;
         if let Err(_) = self.runs.push(run) {
-            return Err(StoreFault::Memory.into());
+            return Err(StoreFault::Memory);
         }
-        self.merge_groups(rt, alloc, rule, store)
+        Ok(())
     }
 
     /// Merges the last runs as long as these are as many as are merged at a time, and were merged

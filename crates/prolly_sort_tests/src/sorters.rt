@@ -82,7 +82,9 @@ fn expect_merged(
 fn runs_are_merged_sixteen_at_a_time(rt: HostRuntime) -> Result<(), Fail> {
     expect_merged(&rt, rt.alloc(), 1, 1)?;
     expect_merged(&rt, rt.alloc(), 2, 3)?;
+    expect_merged(&rt, rt.alloc(), 16, 17)?;
     expect_merged(&rt, rt.alloc(), 17, 19)?;
+    expect_merged(&rt, rt.alloc(), 256, 273)?;
     expect_merged(&rt, rt.alloc(), 300, 320)
 }
 
