@@ -1,8 +1,9 @@
 //! Records that gather in memory, and in files where there are too many.
 ghost use Rattle.std.specs.Prelude.{◌≡◌, ◌++◌, ◌∷◌, ◌<◌, ◌≤◌, [], List, IfErr, IfOk, OnOk, length, true};
 ghost use Rattle.prolly_entry.specs.Record.{Record as RecordValue};
+ghost use Rattle.prolly_sort.specs.Overlaid.{overlaid};
 ghost use Rattle.prolly_sort.specs.Shelf.{CameToPile, IsRunFile};
-ghost use Rattle.prolly_sort.specs.Told.{AreNumbered, AreTold, IsToldOf, number_record};
+ghost use Rattle.prolly_sort.specs.Told.{AreNumbered, AreTold, IsToldOf, Obeys, number_record};
 
 use crate::fault::{PushFault, SorterFault};
 use crate::key_rule::KeyRule;
@@ -10,6 +11,7 @@ use crate::number::number_record;
 use crate::run::Run;
 use crate::shelf::Shelf;
 use crate::sorted_file::SortedFile;
+use crate::sorted_run::SortedRun;
 use crate::store::{RunStore, StoreFault};
 use prolly_entry::Record;
 use prolly_file::{Sink, Source};
@@ -116,10 +118,24 @@ impl<W: Sink + Drop, S: Source + Drop> Pile<W, S> {
             T.keeps store.old ≡ true → CameToPile W.seen S.seen self.old came →
             AreNumbered came → AreTold came a b)) }
     {
+        let sorted = self.take_sorted()?;
+        self.shelf.add(rt, self.alloc, self.rule, store, &sorted)
+    }
+
+    /// Takes the records that are in memory, in order.
+    fn take_sorted(&mut self) -> Result<SortedRun, SorterFault>
+        ensures rule { self.new.rule ≡ self.old.rule }
+        ensures shelf { self.new.shelf ≡ self.old.shelf }
+        ensures count { self.new.count ≡ self.old.count }
+        ensures empty { self.new.run.records ≡ [] }
+        ensures records { IfOk result (λ sorted. sorted ≡ overlaid self.old.run.records) }
+        ensures obeys { IfOk result (λ _. Obeys self.old.rule self.old.run.records) }
+        ensures told { IfErr result (IsToldOf self.old.rule (λ a b. (came : List RecordValue) →
+            CameToPile W.seen S.seen self.old came → AreNumbered came → AreTold came a b)) }
+    {
         let run = mem::replace(&mut self.run, Run::new(self.alloc, self.budget));
         let before = self.count.saturating_sub(run.len() as u64);
-        let sorted = self.rule.sort(self.alloc, run, before)?;
-        self.shelf.add(rt, self.alloc, self.rule, store, &sorted)
+        self.rule.sort(self.alloc, run, before)
     }
 
     /// The record file of all records that came, in order: of those with one key the last one.
@@ -138,5 +154,27 @@ impl<W: Sink + Drop, S: Source + Drop> Pile<W, S> {
     {
         self.put_aside(rt, store)?;
         self.shelf.finish(rt, self.alloc, self.rule, store)
+    }
+
+    /// Looks for a key that came twice, where each is to come once. Where all records are in memory, no
+    /// file is made.
+    pub(crate) fn check_keys<T: RunStore<W, S>, R: Wait>(
+        mut self,
+        rt: &R,
+        store: &mut T,
+    ) -> Result<(), SorterFault>
+        ensures keeps { T.keeps store.old ≡ true → T.keeps store.new ≡ true }
+        ensures obeys { (came : List RecordValue) → T.keeps store.old ≡ true →
+            CameToPile W.seen S.seen self came → IfOk result (λ _. Obeys self.rule came) }
+        ensures told { IfErr result (IsToldOf self.rule (λ a b. (came : List RecordValue) →
+            T.keeps store.old ≡ true → CameToPile W.seen S.seen self came →
+            AreNumbered came → AreTold came a b)) }
+    {
+        if self.shelf.is_empty() {
+            self.take_sorted()?;
+            return Ok(());
+        }
+        self.finish(rt, store)?;
+        Ok(())
     }
 }

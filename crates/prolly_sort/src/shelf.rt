@@ -37,6 +37,14 @@ impl<W: Sink + Drop, S: Source + Drop> Shelf<W, S> {
         }
     }
 
+    /// Whether no run was put there yet.
+    pub(crate) fn is_empty(&self) -> bool
+        ensures { (rule : Rule) (came : List RecordValue) → result ≡ true →
+            HoldsAll W.seen S.seen rule self.now came → came ≡ [] }
+    {
+        self.open.is_none() && self.stored.is_empty()
+    }
+
     /// Puts a sorted run behind those that are there: into the file that is written, where its keys
     /// are greater than those in it, and else into a new one.
     pub(crate) fn add<T: RunStore<W, S>, R: Wait>(

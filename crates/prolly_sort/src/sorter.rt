@@ -53,8 +53,9 @@ impl<W: Sink + Drop, S: Source + Drop> Sorter<W, S> {
 
     /// No record came yet, and each key is to come once. A half of the budget goes to the records,
     /// as by [`Sorter::new`], and the other one to their numbers, which are put in order by their
-    /// keys in files of their own. So a key that came twice is told by the numbers of its records.
-    /// That is so at the latest at the end, and of which of several keys is not promised.
+    /// keys: in memory where all of them fit, and else in files of their own. So a key that came
+    /// twice is told by the numbers of its records. That is so at the latest at the end, and of which
+    /// of several keys is not promised.
     pub fn unique(alloc: Global, budget: u32) -> Sorter<W, S>
         ensures came { CameTo W.seen S.seen result [] }
         ensures unique { is_unique result ≡ true }
@@ -111,7 +112,7 @@ impl<W: Sink + Drop, S: Source + Drop> Sorter<W, S> {
     {
         let Sorter { records, numbers } = self;
         if let Some(numbers) = numbers {
-            numbers.finish(rt, store)?;
+            numbers.check_keys(rt, store)?;
         }
         records.finish(rt, store)
     }

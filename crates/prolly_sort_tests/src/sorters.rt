@@ -143,6 +143,37 @@ fn keys_that_came_once_are_put_in_order_by_a_sorter(rt: HostRuntime) -> Result<(
     Ok(())
 }
 
+/// Puts records at these keys in order, each key once, and compares how many files were made and
+/// opened.
+fn expect_files(
+    rt: &(impl Abort + Wait),
+    alloc: Global,
+    keys: &[u16],
+    made: u64,
+    opened: u64,
+) -> Result<(), Fail> {
+    let mut files = Files::new(alloc, Failing::Nothing);
+    let records = records_at(alloc, keys)?;
+    let sorted = sorted(rt, &mut files, Sorter::unique(alloc, TWO_A_HALF), &records)?;
+    expect_eq(rt, &sorted.len, &(keys.len() as u64));
+    expect_eq(rt, &files.made, &made);
+    expect_eq(rt, &files.opened, &opened);
+    Ok(())
+}
+
+#[test]
+fn numbers_that_fit_make_no_file(rt: HostRuntime) -> Result<(), Fail> {
+    let alloc = rt.alloc();
+    expect_files(&rt, alloc, &[], 1, 0)?;
+    expect_files(&rt, alloc, &[8, 7], 1, 0)?;
+
+    // A run of two records goes on in its file, and so does one of two numbers.
+    expect_files(&rt, alloc, &[7, 8, 9], 2, 0)?;
+
+    // Two runs and the merged one, of records and of numbers.
+    expect_files(&rt, alloc, &[9, 8, 7], 6, 4)
+}
+
 /// Fails unless the fault is told where this call fails, of a sorter of 17 runs.
 fn expect_failing(
     rt: &(impl Abort + Wait),

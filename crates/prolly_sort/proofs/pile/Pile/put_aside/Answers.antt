@@ -5,37 +5,35 @@ use Rattle.prolly_entry.specs.Record.{IsRecord}
 use Rattle.prolly_entry.specs.lemmas.Lists.{all_back}
 use Rattle.prolly_sort.specs.Shelf.{HoldsAll}
 use Rattle.prolly_sort.specs.Told.{AreTold}
-use Rattle.prolly_sort.proofs.Telling.{told_before, told_of_all, told_on, told_through}
+use Rattle.prolly_sort.proofs.Telling.{told_before, told_on, told_same, told_through}
 use Rattle.prolly_sort.proofs.pile.Pile.put_aside.Goals as goal
 
 pub returns-in_err-sorted-clause-told : goal.returns-in_err-sorted-clause-told
 returns-in_err-sorted-clause-told g c = told_on c.args.self.now.rule _ _ _ _ c.from_residual.ensures.1
-    (λ a b told came keeps h numbered.
-    told_of_all h.first c.replace-run.result.records came c.args.self.now.count
-    c.saturating_sub-before.result a b
-    (h.all ∙ ap (λ run. h.first ++ run.records) (sym c.replace-run.ensures.value)) numbered
-    h.count_is (rw c.len.ensures at c.saturating_sub-before.ensures) told)
-    c.in_err-sorted.ensures.told
+    (λ a b told came keeps h numbered. told came h numbered) c.in_err-sorted.ensures.told
 
 pub returns-clause-came : goal.returns-clause-came
 returns-clause-came g c = λ came keeps h.
+    let taken = c.in_ok-sorted.ensures in
     let more = c.args.self.now.run.records in
     on_ok_weaker c.add.result (λ holds. record {
       first = came;
-      all = sym (ap (λ run. came ++ run.records) (c.replace-run.ensures.after ∙ c.new.ensures) ∙
-          append-nil came);
+      all = sym (ap (λ rs. came ++ rs) taken.empty ∙ append-nil came);
       lawful = h.lawful;
-      shelf = subst (HoldsAll g.W.Sink.seen g.S.Source.seen c.args.self.now.rule c.add.new.self)
+      shelf = subst (HoldsAll g.W.Sink.seen g.S.Source.seen c.take_sorted.new.self.rule c.add.new.self)
           (sym h.all) holds;
-      count_is = h.count_is;
-    }) (c.add.ensures.holds h.first more keeps h.shelf
-    (rw c.replace-run.ensures.value at c.in_ok-sorted.ensures.records)
+      count_is = taken.count ∙ h.count_is;
+    }) (c.add.ensures.holds h.first more keeps (rw (taken.rule, taken.shelf) h.shelf) taken.records
     (all_back IsRecord h.first more (subst (AllByRecursion IsRecord) h.all h.lawful))
-    (rw c.replace-run.ensures.value at c.in_ok-sorted.ensures.obeys))
+    (rw taken.rule taken.obeys))
 
 pub returns-clause-told : goal.returns-clause-told
-returns-clause-told g c = told_through c.args.self.now.rule _ _ c.add.result
-    (λ a b told came keeps h numbered.
+returns-clause-told g c =
+    let taken = c.in_ok-sorted.ensures in
+    let rule = c.take_sorted.new.self.rule in
+    told_same rule c.args.self.now.rule _ c.add.result taken.rule
+    (told_through rule _ _ c.add.result (λ a b told came keeps h numbered.
     let more = c.args.self.now.run.records in
     subst (λ rs. AreTold rs a b) (sym h.all)
-    (told_before h.first more a b (told h.first keeps h.shelf))) c.add.ensures.told
+    (told_before h.first more a b (told h.first keeps (rw (taken.rule, taken.shelf) h.shelf))))
+    c.add.ensures.told)
