@@ -288,8 +288,8 @@ With --text keys are taken and values shown as text, with the escapes of
 With --raw the value's bytes are printed and nothing else, no newline either.
 Then --text says only how KEY is written. --keys is refused beside it.
 
-Without --root the whole file is checked first, as by `check`: that takes time
-linear in it, no file over 1 GiB is read, and --format is ignored. With --root
+Without --root the whole file is checked first, as by `check`: a longer file
+takes longer, none over 1 GiB is read, and --format is ignored. With --root
 only what is needed is read: the lengths and levels of the frames, and one chunk
 a level, each compared with the reference above it, from ROOT down. So what is
 printed is right for ROOT, whatever else the file holds; a chunk that does not
@@ -310,8 +310,8 @@ a key comes before the longer ones that it begins.
 Each pair is a line, HEXKEY HEXVALUE. With --text KEY is taken and the pairs are
 shown as text, a key, a tab and a value, with the escapes of `pack --text`.
 
-Without --root the whole file is checked first, as by `check`: that takes time
-linear in it, no file over 1 GiB is read, and --format is ignored. With --root
+Without --root the whole file is checked first, as by `check`: a longer file
+takes longer, none over 1 GiB is read, and --format is ignored. With --root
 only what is needed is read: the lengths and levels of the frames, and for each
 leaf that has some of these pairs the chunks on the way to it, each compared
 with the reference above it, from ROOT down. So what is printed is right for
@@ -329,8 +329,8 @@ The pair is a line, HEXKEY HEXVALUE. Where there is none, nothing is printed and
 the exit status is 1. With --text the pair is shown as text, a key, a tab and a
 value, with the escapes of `pack --text`.
 
-Without --root the whole file is checked first, as by `check`: that takes time
-linear in it, no file over 1 GiB is read, and --format is ignored. With --root
+Without --root the whole file is checked first, as by `check`: a longer file
+takes longer, none over 1 GiB is read, and --format is ignored. With --root
 --format 2 has to be given, and only what is needed is read: the lengths and
 levels of the frames, and one chunk a level, each compared with the reference
 above it, from ROOT down. So what is printed is right for ROOT, whatever else
@@ -352,8 +352,8 @@ record file, and with --hex alone HEXKEY HEXVALUE, of which `pack` makes it.
 What is written goes to OUT, or to standard output where OUT is not given; then
 --atomic, --sync and --force are ignored. Nothing else is printed.
 
-Without --root the whole file is checked first, as by `check`: that takes time
-linear in it, no file over 1 GiB is read, and --format is ignored. With --root
+Without --root the whole file is checked first, as by `check`: a longer file
+takes longer, none over 1 GiB is read, and --format is ignored. With --root
 the file is of any size, and each chunk is compared with the reference above it,
 from ROOT down, before a pair below it is written. So what is written is right
 for ROOT; at a chunk that does not fit it ends.
@@ -384,8 +384,8 @@ is another one, R that of keys that NEW lacks. N is the number of chunks of NEW
 that OLD does not have, and B that of their bytes: what a holder of OLD lacks of
 NEW.
 
-Without roots both files are checked first, as by `check`: that takes time
-linear in them, no file over 1 GiB is read, and --format is ignored. With
+Without roots both files are checked first, as by `check`: longer files take
+longer, none over 1 GiB is read, and --format is ignored. With
 --old-root and --new-root, which go together, files may be of any size. Of their
 chunks only those are read that the other tree does not have, and a few beside
 them, each compared with the reference above it, from its root down. So what is
@@ -421,8 +421,8 @@ than the one before it. Each chunk is in it once, however many keys meet it.
 
 With --text keys are taken as text, with the escapes of `pack --text`.
 
-Without --root the whole file is checked first, as by `check`: that takes time
-linear in it, no file over 1 GiB is read, and --format is ignored. With --root
+Without --root the whole file is checked first, as by `check`: a longer file
+takes longer, none over 1 GiB is read, and --format is ignored. With --root
 only what is needed is read: the lengths and levels of the frames, and the
 chunks of the proof, each compared with the reference above it, from ROOT down.
 So what is written is a proof for ROOT, whatever else the file holds; a chunk
