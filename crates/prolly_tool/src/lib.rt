@@ -1,5 +1,6 @@
-//! All that the commands of the program are made of, by one name: the command line, what the
-//! commands answer, lines of text, and builds.
+//! What the commands of the program are made of, by one name: the command line, what the commands
+//! answer, lines of text, and builds. Files and their chunks are those of `prolly_file` and
+//! `prolly_root`.
 #![tactic(auto)]
 
 pub use prolly_answer::{
@@ -13,7 +14,10 @@ pub use prolly_answer::{
     answer_scan, answer_scan_by_root, answer_scan_in, answer_scratch, answer_stat, answer_verify,
     answer_verify_set, bits_note, laws, read_keys,
 };
-pub use prolly_build::{AllStart, Config, ConfigFault, Permit, Report, build, build_with};
+pub use prolly_build::{
+    AllStart, ApplyFault, CHANGES_LIMIT, Config, ConfigFault, FILES_LIMIT, Permit, Report,
+    apply_changes, apply_changes_with, build, build_with,
+};
 pub use prolly_line::{Command, ParseFault, RootPair, Sought, WriteMode, parse};
 pub use prolly_text::{
     KeysFault, LineForm, LinesFault, Notation, PackFault, RecordForm, keys_of_lines, pack_lines,
