@@ -1,5 +1,5 @@
 -- What is asked of a build.
-use Rattle.std.specs.Prelude.{ℕ, ◌≤◌}
+use Rattle.std.specs.Prelude.{◌≤◌}
 use Rattle.prolly.specs.declared.commands.build.BuildRequest.{BuildRequest}
 
 -- Each number of a build is within its range.

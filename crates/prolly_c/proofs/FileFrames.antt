@@ -1,13 +1,10 @@
 -- The frames of a file of a map, one after another.
-use Rattle.std.proofs.Common.{◌≡◌, ℕ, zero, suc, ◌+◌, ◌<◌, ◌≤◌, ◌^◌, Bool, true, false, List, [], ◌∷◌, ◌++◌}
-use Rattle.std.proofs.Common.{length, drop, get_or, map, if◌then◌else◌, Option, Some, None, Result, Ok, Err}
+use Rattle.std.proofs.Common.{◌≡◌, ℕ, zero, suc, ◌+◌, ◌<◌, ◌≤◌, ◌^◌, true, List, [], ◌∷◌, ◌++◌}
+use Rattle.std.proofs.Common.{length, drop, get_or, map, Option, Some, None, Result, Ok, Err}
 use Rattle.std.proofs.Common.{refl, sym, ap, ◌∙◌, subst, arith, append_assoc, append-nil}
 use Rattle.std.proofs.lemmas.Bool.{false≢true}
 use Rattle.std.proofs.lemmas.List.{length-append}
 use Rattle.std.specs.List.{flat_map, AllByRecursion}
-use Rattle.std.specs.Str.{bytes_eq}
-use Rattle.std.proofs.lemmas.Slice.Eq.{bytes_eq-Decides}
-use Rattle.prolly_entry.specs.Overlay.{or_else}
 use Rattle.prolly_entry.specs.Pair.{Pair}
 use Rattle.prolly_entry.specs.declared.version.Version.{Version}
 use Rattle.prolly_file.specs.Frame.{IsSmall, framed, has_no_frame}
@@ -24,9 +21,8 @@ use Rattle.prolly_check.specs.HeldPairs.{pairs_held}
 use Rattle.prolly_check.specs.Verdict.{EndVerdict, HeaderVerdict}
 use Rattle.prolly_check.specs.Verdict.{AcceptsFiles, IsFileOf, ReadVerdict}
 use Rattle.prolly_check.specs.declared.verdict.fault.CheckFault.{CheckFault}
-use Rattle.prolly_check.specs.declared.verdict.fault.CheckFault.TheVariants.{NotCanonical}
-use Rattle.prolly_c.proofs.Entries.{end_behind}
 use Rattle.prolly_check.specs.lemmas.Held.{difference_ok, held_is, or_none}
+use Rattle.prolly_c.proofs.Entries.{end_behind}
 use Rattle.prolly_c.specs.Runs.{IsEnd, run_count, runs_in}
 use Rattle.prolly_c.specs.Writing.{Spells, Wrote, WroteChunk}
 use Rattle.prolly_c.specs.declared.run.Run.{Run}
