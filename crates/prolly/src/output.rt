@@ -111,7 +111,8 @@ impl<'a> Output<'a> {
             }
         }
         let folder = self.told(rt, self.on_disk(rt, replacement.beside.as_str()))?;
-        self.target.refuse_newcomer(rt, replacement.target.as_str())?;
+        self.target
+            .refuse_newcomer(rt, replacement.target.as_str())?;
         if fs::rename(rt, &replacement.beside, &replacement.target).is_err() {
             return Err(self.target.refused(rt, NameFault::CannotReplace));
         }
