@@ -9,8 +9,8 @@ JSON lines give them, else a list. COLUMN is a name, or a number counted from 1.
 
 Rows are read one after another and go through a pipe to `prolly pack --sort`. Its record file lies in a folder beside OUT
 until `prolly build` has made OUT, and prints its line: the root, and the numbers of chunks, rows and levels. After a fault
-OUT is as it was, and nothing lies beside it. A fault of the table has status 3, one of a file 5, and one of the program's
-its own.
+OUT is as it was, and nothing lies beside it. So it is after a signal, but that a build which one ends leaves OUT.N.tmp. A
+fault of the table has status 3, one of a file 5, and one of the program's its own.
 """
 
 import argparse
@@ -22,6 +22,7 @@ import subprocess
 import sys
 import tempfile
 from contextlib import suppress
+from decimal import Decimal
 from itertools import chain, islice
 from pathlib import Path
 
@@ -33,6 +34,9 @@ LONGEST_KEY, LONGEST_VALUE = 1_024, 65_536
 PIPE_BYTES = 65_536
 
 BYTE_ORDER_MARK = b"\xef\xbb\xbf"
+
+CHUNK_FILE = b"PRLY"
+"""What a chunk file begins with (docs/format.md)."""
 
 TAB_SEPARATED = {"delimiter": "\t", "quoting": csv.QUOTE_NONE, "quotechar": None}
 """Tab-separated values have no quotes, so no tab and no newline in them."""
@@ -56,7 +60,9 @@ class Fault(Exception):
 
 def main():
     """Loads a table, or gives one back, and gives the status."""
-    signal.signal(signal.SIGTERM, lambda *_: sys.exit(128 + signal.SIGTERM))
+    for number in (signal.SIGTERM, signal.SIGHUP):
+        if signal.getsignal(number) is not signal.SIG_IGN:
+            signal.signal(number, lambda number, _: sys.exit(128 + number))
     asked = arguments()
     try:
         if asked.back:
@@ -119,6 +125,7 @@ def number_of(column):
 def load(asked):
     """Packs the rows, sorted by their keys, and builds the tree of them."""
     out = Path(asked.out)
+    refuse_other(out, asked.table)
     with open(asked.table, "rb") as file, folder_beside(out) as folder:
         files = []
         for part in parts_of(lines_of(asked, file)):
@@ -128,6 +135,20 @@ def load(asked):
             pack(asked, part, files[-1])
         cut = [*given("--bits", asked.bits), *given("--chunk-bytes", asked.chunk_bytes)]
         ends_well(subprocess.run([asked.prolly, "build", "--atomic", *cut, asked.out, *files], check=False).returncode)
+
+
+def refuse_other(out, table):
+    """Refuses what the program would not write over, before anything is read."""
+    if not out.exists():
+        return
+    if Path(table).exists() and out.samefile(table):
+        raise OSError(0, "OUT is also TABLE", str(out))
+    if not out.is_file():
+        raise OSError(0, "OUT is no file", str(out))
+    with open(out, "rb") as file:
+        start = file.read(len(CHUNK_FILE))
+    if start and start != CHUNK_FILE:
+        raise OSError(0, "OUT is not a chunk file", str(out))
 
 
 def folder_beside(out):
@@ -230,7 +251,7 @@ def json_rows(asked, table):
     """The key and the other columns of each object, one a line. A whole number is a key by its digits."""
     for line in table:
         try:
-            row = json.loads(line)
+            row = read_json(line)
         except json.JSONDecodeError as error:
             raise ValueError(f"it is no JSON: {error.msg} at column {error.colno}") from error
         if not isinstance(row, dict) or asked.key not in row:
@@ -239,6 +260,36 @@ def json_rows(asked, table):
         if isinstance(key, bool) or not isinstance(key, (str, int)):
             raise ValueError("the key is neither a text nor a whole number")
         yield str(key), row
+
+
+def read_json(text):
+    """What a JSON text says. Refused is what would not come back as it is written."""
+    try:
+        return json.loads(text, parse_float=exact, parse_constant=refuse_constant, object_pairs_hook=once_each)
+    except RecursionError as error:
+        raise ValueError("it is nested too deep") from error
+
+
+def exact(digits):
+    """A number that is no whole one, where a float has just its value."""
+    number = float(digits)
+    written = repr(number)
+    if written != digits and Decimal(written) != Decimal(digits):
+        raise ValueError(f"the number {digits} would become {written}: make it a text")
+    return number
+
+
+def refuse_constant(name):
+    """Refuses NaN and the infinities, which Python reads, and which are no JSON."""
+    raise ValueError(f"it is no JSON: {name}")
+
+
+def once_each(members):
+    """An object, where no two of its members have one name."""
+    found = dict(members)
+    if len(found) < len(members):
+        raise ValueError("two columns have one name")
+    return found
 
 
 def line_of(key, others):
@@ -309,7 +360,7 @@ def rows_back(asked, lines):
     for number, line in enumerate(lines, 1):
         key, _, value = line.rstrip(b"\n").partition(b"\t")
         try:
-            key, others = unescaped(key).decode(), json.loads(unescaped(value).decode())
+            key, others = unescaped(key).decode(), read_json(unescaped(value).decode())
         except (KeyError, ValueError) as error:
             raise Fault(f"line {number}: it has no value as load.py makes them") from error
         if not isinstance(others, kind):

@@ -125,10 +125,11 @@ def loads(program):
 # ---- faults, after which OUT is as it was, and nothing stands beside it
 
 
-def refused(program, name, words, table, line, status=3, out="out.prl", **more):
+def refused(program, name, words, table, line, status=3, out="out.prl", more=None):
     """A table, or words, that are refused."""
     words = ["--prolly", program, *words, "table", out]
-    return Case(f"load.py: {name}", words, status=status, err=line.encode() + b"\n", before={"table": table, "out.prl": BEFORE}, **more)
+    before = {"table": table, "out.prl": BEFORE, **(more or {})}
+    return Case(f"load.py: {name}", words, status=status, err=line.encode() + b"\n", before=before)
 
 
 def faults(program):
@@ -152,7 +153,14 @@ def faults(program):
         refused(program, "a key that is too long", ["--key", "1"], b"1,2\n" + b"k" * 1_025 + b",2\n", "load.py: table: line 2: the key is too long"),
         refused(program, "columns that are too long", ["--key", "1"], b"1," + b"v" * 65_533 + b"\n", "load.py: table: line 1: the other columns are too long"),
         refused(program, "a key of two rows", ["--key", "1", "--unique"], b"7,a\n8,b\n7,c\n", "prolly: line 2: has the key of line 0"),
-        refused(program, "OUT is the table", ["--key", "1"], b"1,2\n", "prolly: OUT is not a chunk file: table", status=5, out="table"),
+        refused(program, "a number that a float does not hold", objects, b'{"id": "1", "x": [1.50, 1e2, -0.0]}\n{"id": "2", "x": 12345678901234567890.5}\n', "load.py: table: line 2: the number 12345678901234567890.5 would become 1.2345678901234567e+19: make it a text"),
+        refused(program, "a number that is too large", objects, b'{"id": "1", "x": 1e400}\n', "load.py: table: line 1: the number 1e400 would become inf: make it a text"),
+        *(refused(program, f"the number {name}", objects, b'{"id": "1", "x": %s}\n' % name.encode(), f"load.py: table: line 1: it is no JSON: {name}") for name in ("NaN", "-Infinity")),
+        refused(program, "a name that stands twice", objects, b'{"id": "1", "x": {"a": 1, "a": 2}}\n', "load.py: table: line 1: two columns have one name"),
+        refused(program, "a row that is nested too deep", objects, b'{"id": "1", "x": ' + 5_000 * b"[" + 5_000 * b"]" + b"}\n", "load.py: table: line 1: it is nested too deep"),
+        refused(program, "OUT is the table", ["--key", "1"], b"1,2\n", "load.py: table: OUT is also TABLE", status=5, out="table"),
+        refused(program, "OUT is of another kind", ["--key", "1"], b"1,2\n", "load.py: notes: OUT is not a chunk file", status=5, out="notes", more={"notes": b"of mine"}),
+        refused(program, "OUT is a folder", ["--key", "1"], b"1,2\n", "load.py: .: OUT is no file", status=5, out="."),
         refused(program, "OUT in a folder that is not there", ["--key", "1"], b"1,2\n", "load.py: none/out.prl: No such file or directory", status=5, out="none/out.prl"),
         refused(program, "bits that are too many", ["--key", "1", "--bits", "25"], b"1,2\n", "error: invalid value '25' for '--bits <Q>': 25 is not in 0..=24\n\nFor more information, try '--help'.", status=2),
         refused(missing, "no program", ["--key", "1"], b"1,2\n", f"load.py: {missing}: No such file or directory", status=5),
@@ -264,12 +272,13 @@ def in_parts(program):
 def ended(program):
     """What is left of a run that a signal ends while it waits for more rows."""
     found = []
-    for number in (signal.SIGTERM, signal.SIGINT):
+    for number in (signal.SIGTERM, signal.SIGHUP, signal.SIGINT):
         with tempfile.TemporaryDirectory() as name:
             folder = Path(name)
             (folder / "out.prl").write_bytes(BEFORE)
             words = [LOAD, "--prolly", program, "--key", "1", "/dev/stdin", "out.prl"]
-            process = subprocess.Popen(words, cwd=folder, stdin=subprocess.PIPE, stdout=subprocess.PIPE, stderr=subprocess.PIPE)
+            pipes = {"stdin": subprocess.PIPE, "stdout": subprocess.PIPE, "stderr": subprocess.PIPE}
+            process = subprocess.Popen(words, cwd=folder, preexec_fn=heeded(number), **pipes)
             process.stdin.write(b"1,2\n" * 100_000)
             process.stdin.flush()
             for _ in range(100):
@@ -282,6 +291,11 @@ def ended(program):
             found += differs("files", [path.name for path in folder.iterdir()], ["out.prl"])
             found += differs("OUT", (folder / "out.prl").read_bytes(), BEFORE)
     return found
+
+
+def heeded(number):
+    """Lets a process heed a signal that who runs these tests may ignore."""
+    return lambda: signal.signal(number, signal.SIG_DFL)
 
 
 def streamed(program):
