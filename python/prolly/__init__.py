@@ -9,35 +9,54 @@
 
 import builtins
 import mmap
-import os
 
-from prolly._files import replace as _replace
-from prolly._prolly import Tree
+from prolly._files import Place as _Place
+from prolly._files import hold as _hold
+from prolly._prolly import ProllyError, Tree
 from prolly._prolly import chunk_file as _chunk_file
 from prolly._prolly import diff as _diff
 from prolly._prolly import prove as _prove
 from prolly._prolly import prove_range as _prove_range
 from prolly._prolly import verify as _verify
 from prolly._prolly import verify_range as _verify_range
-from prolly.faults import ProllyError
 
 __all__ = ["ProllyError", "RootTree", "Tree", "build", "check", "diff", "open", "verify", "verify_range"]
 
 
-def open(path, check=True, root=None, version=2):
+MOST_BITS = 24
+"""By how many bits entries are cut at most."""
+
+
+def open(path, check=True, root=None, version=None):
     """The tree of a chunk file, which is mapped and checked once. A file that is none raises ProllyError.
 
     With check=False nothing is read yet, and each look-up verifies what it finds by the root: see RootTree. The root, and the
-    version of the tree, have to come from who is trusted.
+    version of the tree, which is 2 where none is given, have to come from who is trusted.
 
-    The file may not change while the tree is open. A with statement closes it.
+    The file may not change while the tree is open: where it is cut short, a look-up may end the process by SIGBUS. The
+    program does not write over it meanwhile, where the file system has locks. A with statement closes the tree. A path that
+    is no regular file, or that the program is writing, raises OSError.
     """
+    if check and version is not None:
+        raise ValueError("a version is given where a file is not checked")
     if check == (root is not None):
         raise ValueError("a root is given where a file is not checked")
     with builtins.open(path, "rb") as file:
-        is_empty = os.fstat(file.fileno()).st_size == 0
+        is_empty = _hold(file) == 0
+        # The map keeps the lock until it goes.
         data = b"" if is_empty else mmap.mmap(file.fileno(), 0, access=mmap.ACCESS_READ)
-    return Tree(data) if check else RootTree(data, root, version)
+    return Tree(data) if check else RootTree(data, root, 2 if version is None else version)
+
+
+ROOT_SIZE = 20
+"""How many bytes a root has."""
+
+
+def _lawful(version):
+    """The version, where there is such a one."""
+    if version not in (1, 2):
+        raise ValueError("the version is 1 or 2")
+    return version
 
 
 class RootTree:
@@ -48,7 +67,9 @@ class RootTree:
     """
 
     def __init__(self, data, root, version=2):
-        self._data, self.root, self.version = data, bytes(root), version
+        self._data, self.root, self.version = data, bytes(memoryview(root)), _lawful(version)
+        if len(self.root) != ROOT_SIZE:
+            raise ValueError(f"a root has {ROOT_SIZE} bytes")
 
     def prove(self, key):
         """The proof of what the tree has at a key, for who knows the root alone."""
@@ -97,16 +118,20 @@ def check(data):
     return Tree(data)
 
 
-def build(path, pairs, bits=6, version=2):
+def build(path, pairs, bits=6, version=2, force=False):
     """Writes the chunk file of pairs whose keys rise, and returns its root.
 
     `bits` says how large chunks are: they have some 2^bits pairs. The file is written beside the path first, under a name
     of its own, and then renamed. So what was there stays until the new file is whole. A symbolic link stays, too: the file
-    that it names is replaced. The new file keeps the mode of the old one, and its owner and its group, as far as the user
-    may give them. A path that can't be written, or that is no regular file, raises OSError.
+    that it names is replaced. The new file keeps the mode of the old one, its access list, and its owner and its group, as
+    far as the user may give them. A path that can't be written, or that is no regular file, raises OSError before a pair is
+    taken. So does a file that has bytes and is no chunk file, unless `force` is true.
     """
-    content, root = _chunk_file(pairs, bits, version)
-    _replace(path, content)
+    if bits not in range(MOST_BITS + 1):
+        raise ValueError(f"the bits are 0 to {MOST_BITS}")
+    place = _Place(path, force)
+    content, root = _chunk_file(pairs, bits, _lawful(version))
+    place.put(content)
     return root
 
 

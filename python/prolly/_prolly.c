@@ -673,16 +673,27 @@ static uint32_t index_shown(Tree *shown, uint8_t version, const uint8_t *root, c
   return status;
 }
 
+/* Bytes that nobody changes: those of an object, or a copy of what it lends. */
+static PyObject *own_bytes(PyObject *object) {
+  if (PyBytes_CheckExact(object)) return Py_NewRef(object);
+  Py_buffer view;
+  if (PyObject_GetBuffer(object, &view, PyBUF_SIMPLE) < 0) return NULL;
+  PyObject *copy = PyBytes_FromStringAndSize(view.buf, view.len);
+  PyBuffer_Release(&view);
+  return copy;
+}
+
 /* verify_range(root, start, stop, proof, version) -> Pairs */
 static PyObject *verify_range(PyObject *module, PyObject *args) {
   (void)module;
   Py_buffer root;
-  PyObject *start, *stop, *proof, *answer = NULL;
+  PyObject *start, *stop, *given, *answer = NULL;
   unsigned char version;
   Range range;
-  if (!PyArg_ParseTuple(args, "y*OOOb", &root, &start, &stop, &proof, &version)) return NULL;
+  if (!PyArg_ParseTuple(args, "y*OOOb", &root, &start, &stop, &given, &version)) return NULL;
   /* The pairs are gone over as those of a tree, whose bytes are the proof. */
-  Tree *shown = is_root(&root) ? (Tree *)TreeType.tp_alloc(&TreeType, 0) : NULL;
+  PyObject *proof = is_root(&root) ? own_bytes(given) : NULL;
+  Tree *shown = proof != NULL ? (Tree *)TreeType.tp_alloc(&TreeType, 0) : NULL;
   if (shown != NULL && PyObject_GetBuffer(proof, &shown->view, PyBUF_SIMPLE) == 0) {
     shown->is_open = 1;
     shown->bytes = lent(&shown->view);
@@ -697,6 +708,7 @@ static PyObject *verify_range(PyObject *module, PyObject *args) {
     }
   }
   Py_XDECREF(shown);
+  Py_XDECREF(proof);
   PyBuffer_Release(&root);
   return answer;
 }
@@ -720,5 +732,7 @@ PyMODINIT_FUNC PyInit__prolly(void) {
   Py_DECREF(faults);
   PyObject *self = ProllyError == NULL ? NULL : PyModule_Create(&module);
   if (self != NULL && PyModule_AddObjectRef(self, "Tree", (PyObject *)&TreeType) < 0) Py_CLEAR(self);
+  /* The package takes the class from here, so that it is the one that is raised, also where the package is imported anew. */
+  if (self != NULL && PyModule_AddObjectRef(self, "ProllyError", ProllyError) < 0) Py_CLEAR(self);
   return self;
 }

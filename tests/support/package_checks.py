@@ -1,9 +1,11 @@
 """Compares the package for Python with the second builder: what it builds, and what it finds. Run beside both of them."""
 
+import fcntl
 import gc
 import os
 import random
 import stat
+import struct
 import sys
 import tempfile
 import threading
@@ -27,6 +29,16 @@ MOST_GROWTHS = 60
 NOBODY = 65_534
 """A user, and a group, without rights of their own."""
 
+ACCESS_LIST = "system.posix_acl_access"
+"""The attribute of a file in which Linux keeps its access list."""
+
+NO_ONE = 0xFFFF_FFFF
+"""Whom an entry of an access list names that names nobody."""
+
+OF_NOBODY = struct.pack("<I" + 5 * "HHI", 2, 1, 6, NO_ONE, 2, 6, NOBODY, 4, 0, NO_ONE, 16, 6, NO_ONE, 32, 0, NO_ONE)
+"""The access list of a file that its owner and NOBODY may use, and its group may not: of each entry whom it is for, what it
+gives, and the number. The mode is 0o660, since the group's part of it says what the list gives at most."""
+
 
 def main():
     """All comparisons."""
@@ -38,6 +50,8 @@ def main():
             compare(pairs, bits, version, numbers)
     long_proofs()
     refusals()
+    wrong_words()
+    mutable_proofs()
     keys_let_go()
     memory_refused()
     by_threads()
@@ -47,6 +61,12 @@ def main():
         kept_links(Path(folder))
     with tempfile.TemporaryDirectory() as folder:
         kept_access(Path(folder))
+    with tempfile.TemporaryDirectory() as folder:
+        kept_lists(Path(folder))
+    with tempfile.TemporaryDirectory() as folder:
+        other_kinds(Path(folder))
+    with tempfile.TemporaryDirectory() as folder:
+        held(Path(folder))
 
 
 def compare(pairs, bits, version, numbers):
@@ -156,6 +176,37 @@ def refusals():
     raised(prolly.ProllyError, prolly.open("kept.prl", check=False, root=bytes(20)).get, b"a")
     places()
     gc.collect()
+
+
+def never():
+    """Pairs that may not be asked for."""
+    raise AssertionError("a pair was taken")
+    yield
+
+
+def wrong_words():
+    """Words that are refused before anything is read, or a pair is taken."""
+    for bits in (-1, 25, 256):
+        raised(ValueError, prolly.build, "some.prl", never(), bits=bits)
+    for version in (0, 3, 256):
+        raised(ValueError, prolly.build, "some.prl", never(), version=version)
+        raised(ValueError, prolly.open, "kept.prl", check=False, root=bytes(20), version=version)
+    raised(FileNotFoundError, prolly.build, "none/some.prl", never())
+    raised(ValueError, prolly.open, "kept.prl", version=2)
+    raised(ValueError, prolly.open, "kept.prl", check=False, root=b"short")
+    for root in (20, "a" * 20, [0] * 20):
+        raised(TypeError, prolly.open, "kept.prl", check=False, root=root)
+
+
+def mutable_proofs():
+    """Of a proof that may change behind the call those pairs are given that were verified."""
+    content, root = _prolly.chunk_file([(b"key", b"value")], 6, 2)
+    proof = bytearray(prolly.check(content).prove_range())
+    shown = prolly.verify_range(root, None, None, proof)
+    proof[-1] ^= 1
+    proof.append(0)
+    assert list(shown) == [(b"key", b"value")]
+    raised(prolly.ProllyError, prolly.verify_range, root, None, None, proof)
 
 
 def places():
@@ -380,6 +431,62 @@ def kept_access(folder):
     as_nobody(raised, PermissionError, prolly.build, path, [(b"e", b"")])
     assert pairs_at(path) == [(b"d", b"")]
     assert names(folder) == ["some.prl"]
+
+
+def kept_lists(folder):
+    """Access lists, which a new file has as the old one has them. Where the file system has none, there is nothing to see."""
+    path = folder / "some.prl"
+    prolly.build(path, [])
+    try:
+        os.setxattr(path, ACCESS_LIST, OF_NOBODY)
+    except OSError:
+        return
+    prolly.build(path, [(b"a", b"1")])
+    assert os.getxattr(path, ACCESS_LIST) == OF_NOBODY
+    assert access(path)[2] == 0o660
+    # Where the list can't be given, the group gets no right that the list kept from it.
+    with mock.patch("os.setxattr", side_effect=PermissionError):
+        prolly.build(path, [(b"a", b"2")])
+    assert access(path)[2] == 0o600
+    # The list that a folder gives to new files is not for one that had none.
+    os.removexattr(path, ACCESS_LIST)
+    path.chmod(0o640)
+    os.setxattr(folder, "system.posix_acl_default", OF_NOBODY)
+    prolly.build(path, [(b"a", b"3")])
+    raised(OSError, os.getxattr, path, ACCESS_LIST)
+    assert access(path)[2] == 0o640
+
+
+def other_kinds(folder):
+    """Files that are no chunk files, which stay where it is not said that they may go."""
+    path = folder / "notes"
+    path.write_bytes(b"of mine")
+    raised(FileExistsError, prolly.build, path, never())
+    assert path.read_bytes() == b"of mine"
+    prolly.build(path, [(b"a", b"1")], force=True)
+    prolly.build(path, [(b"a", b"2")])
+    path.write_bytes(b"")
+    prolly.build(path, [(b"a", b"3")])
+    assert pairs_at(path) == [(b"a", b"3")]
+    for no_file in ("/dev/null", folder):
+        raised(OSError, prolly.open, no_file)
+        raised(OSError, prolly.open, no_file, check=False, root=bytes(20))
+
+
+def held(folder):
+    """A file that is open as a tree is not written in its place meanwhile, where the file system has locks."""
+    path = folder / "some.prl"
+    prolly.build(path, [(b"a", b"1")])
+    with open(path, "r+b") as other:
+        with prolly.open(path):
+            raised(BlockingIOError, fcntl.flock, other, fcntl.LOCK_EX | fcntl.LOCK_NB)
+            # A build puts another file in its place.
+            prolly.build(path, [(b"a", b"2")])
+        fcntl.flock(other, fcntl.LOCK_EX | fcntl.LOCK_NB)
+        prolly.open(path).close()
+    with open(path, "r+b") as other:
+        fcntl.flock(other, fcntl.LOCK_EX | fcntl.LOCK_NB)
+        raised(BlockingIOError, prolly.open, path)
 
 
 def access(path):
