@@ -10,7 +10,7 @@ use borrow.Rule.Slice.PartMut.{put_mid}
 module _ (a k n : ℕ) (xs ys : List ℕ) (within : a ≤ length xs) (room : length ys ≡ k)
     (few : n ≤ k) where
   -- the first ones, and the first n of what was put behind them
-  front_is : take (a + n) (put_mid a k xs ys) ≡ take a xs ++ take n ys
+  pub front_is : take (a + n) (put_mid a k xs ys) ≡ take a xs ++ take n ys
   front_is =
       sym (take-take (a + n) (a + length ys) (put_mid a k xs ys) (omega arith)) ∙
       ap (take (a + n)) (take-put_mid a k xs ys (a + length ys) refl within) ∙

@@ -10,10 +10,12 @@ pub mod Rises
 pub mod TreeChunks
 -- Bytes that are read behind the first ones of a buffer.
 pub mod Fronts
+-- Parts of bytes, from one place to another.
+pub mod Spans
+-- Bytes that are read behind a part of others.
+pub mod ReadBehind
 -- Reads that are served from a block of a device.
 pub mod BlockReads
--- A buffer that is filled part by part.
-pub mod Filled
 -- The header, place by place.
 pub mod HeaderBytes
 -- The bytes of a frame.

@@ -3,8 +3,14 @@ use Rattle.std.specs.Prelude.{ℕ, List, ◌++◌, codes}
 use Rattle.std.specs.Fmt.{decimal}
 use Rattle.prolly_file.specs.declared.scratch_build.file.ScratchFault.{ScratchFault}
 use Rattle.prolly_file.specs.declared.scratch_build.file.ScratchFault.TheVariants as scratches
+use Rattle.prolly_file.specs.declared.device.part_reader.ReadFault.{ReadFault}
+use Rattle.prolly_file.specs.declared.device.part_reader.ReadFault.TheVariants as reads
 use Rattle.prolly_file.specs.declared.device.whole.WholeFault.{WholeFault}
 use Rattle.prolly_file.specs.declared.device.whole.WholeFault.TheVariants as wholes
+
+abbrev pub read_fault_text : ReadFault → List ℕ
+read_fault_text reads.Memory = codes "out of memory"
+read_fault_text reads.Read = codes "read failed"
 
 abbrev pub whole_fault_text : WholeFault → List ℕ
 whole_fault_text wholes.Memory = codes "out of memory"

@@ -12,8 +12,6 @@ pub mod Source
 pub mod Device
 -- What a clause reads of a `FromRead`.
 pub mod FromRead
--- Readers of std that seek.
-pub mod ReadSeek
 -- What a contract sees of a sink, and what a write does to the bytes that it took.
 pub mod Sink
 -- What comes of writing bytes to a sink.
@@ -22,6 +20,12 @@ pub mod Writes
 pub mod ToWrite
 -- What a clause reads of a `Buffered`.
 pub mod Buffered
+-- What a buffer of read bytes holds, and what a read adds to it.
+pub mod ReadBuffer
+-- What follows from a read into a buffer.
+pub mod ReadBufferLaws
+-- Places of bytes.
+pub mod Span
 -- The devices in memory that follow a script.
 pub mod Script
 -- The header of a chunk file, its first six bytes.

@@ -6,9 +6,9 @@ mod format;
 mod scratch_build;
 
 pub use device::{
-    Blocks, Buffered, Device, FromRead, FromSeek, PartReader, ReadFault, ReadSeek, Rejoined,
-    ScriptDevice, ScriptSink, ScriptSource, Sink, SinkFault, Source, SourceFault, ToWrite,
-    WholeFault, read_whole, take_front,
+    Blocks, Buffered, Device, FromFile, FromRead, InMemory, PartReader, ReadBuffer, ReadFault,
+    Rejoined, ScriptDevice, ScriptSink, ScriptSource, Sink, SinkFault, Source, SourceFault,
+    ToWrite, WholeFault, read_whole, take_front,
 };
 pub use format::{
     END_LETTER, END_SIZE, FRAME_FRONT, FRAME_LETTER, FRAME_START, FileWriter, FrameFault,

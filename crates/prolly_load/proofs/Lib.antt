@@ -1,7 +1,3 @@
--- Parts of parts of bytes.
-pub mod PartLemmas
--- What a read behind some bytes puts there.
-pub mod FillLemmas
 -- A loading under way: the records that were sent, the unparsed bytes and those that the source has
 -- left.
 pub mod UnderWay

@@ -14,7 +14,7 @@ use Rattle.prolly_link.specs.declared.message.End.{End}
 use Rattle.prolly_link.specs.declared.message.End.TheVariants.{Clean, Fault}
 use Rattle.prolly_link.specs.declared.fault.RunFault.{RunFault}
 use Rattle.prolly_link.specs.declared.fault.RunFault.TheVariants as faults
-use Rattle.prolly_load.specs.Buffer.{Buffered}
+use Rattle.prolly_file.specs.ReadBuffer.{Held}
 use Rattle.prolly_load.specs.Fault.{end_in, fault_of}
 use Rattle.prolly_load.specs.Loaded.{IsReadTo, AreFirstGood, FailsAs, IsLoaded}
 use Rattle.prolly_load.specs.Loading.{IsUnderWay}
@@ -31,7 +31,7 @@ first_good bytes limit records rest h = record {
 
 -- ---- the ends
 
-module _ (file limit : ℕ) (honest : Bool) (count : ℕ) (buffered : Buffered) (bytes left : List ℕ)
+module _ (file limit : ℕ) (honest : Bool) (count : ℕ) (buffered : Held) (bytes left : List ℕ)
     (before after : List Record) where
   -- Where memory is refused, some first good records were sent.
   pub memory_ends : IsUnderWay honest limit count buffered bytes left before after →
@@ -64,7 +64,7 @@ module _ (file limit : ℕ) (honest : Bool) (count : ℕ) (buffered : Buffered) 
 
   pub flaw_ends : (flaw : Flaw) (told : RunFault) →
       IsUnderWay honest limit count buffered bytes left before after →
-      IsFlawed limit count buffered.last_key buffered.unparsed flaw →
+      IsFlawed limit count buffered.kept buffered.unparsed flaw →
       told ≡ fault_of file count flaw →
       IsLoaded file limit honest bytes left before after (Fault told)
   flaw_ends flaw told h k e = told_as told (fault_of file count flaw) e (record {
@@ -109,13 +109,13 @@ module _ (file limit : ℕ) (honest : Bool) (count : ℕ) (buffered : Buffered) 
 
   -- Where nothing is decided and some bytes are in unparsed, they are cut.
   cut_reading : (h : IsUnderWay honest limit count buffered bytes left before after) →
-      IsUndecided limit count buffered.last_key buffered.unparsed → 0 < length buffered.unparsed →
+      IsUndecided limit count buffered.kept buffered.unparsed → 0 < length buffered.unparsed →
       IsReading h.handed limit h.records (Some flaws.Truncated)
   cut_reading h k some = ends_cut h.handed limit h.records buffered.unparsed h.begins some
       (rw (← h.count_is, ← h.position_is) k)
 
   cut_ends : IsUnderWay honest limit count buffered bytes left before after →
-      IsUndecided limit count buffered.last_key buffered.unparsed → 0 < length buffered.unparsed →
+      IsUndecided limit count buffered.kept buffered.unparsed → 0 < length buffered.unparsed →
       (honest ≡ true → left ≡ []) →
       IsLoaded file limit honest bytes left before after (Fault (fault_of file count
       flaws.Truncated))
@@ -132,7 +132,7 @@ module _ (file limit : ℕ) (honest : Bool) (count : ℕ) (buffered : Buffered) 
 
   -- Where no more bytes come, the end is clean, or tells that the file is cut.
   pub over_ends : (told : End) → IsUnderWay honest limit count buffered bytes left before after →
-      IsUndecided limit count buffered.last_key buffered.unparsed → (honest ≡ true → left ≡ []) →
+      IsUndecided limit count buffered.kept buffered.unparsed → (honest ≡ true → left ≡ []) →
       told ≡ end_in file buffered.unparsed count →
       IsLoaded file limit honest bytes left before after told
   over_ends told h k over e = go buffered.unparsed refl
@@ -150,7 +150,7 @@ module _ (file limit : ℕ) (honest : Bool) (count : ℕ) (buffered : Buffered) 
           (e ∙ ap (λ u. end_in file u count) i) (cut_ends h k (omega (arith, ap length i)) over)
 
   pub read_ends : IsUnderWay honest limit count buffered bytes left before after →
-      IsUndecided limit count buffered.last_key buffered.unparsed →
+      IsUndecided limit count buffered.kept buffered.unparsed →
       IsLoaded file limit honest bytes left before after (Fault (faults.Read file))
   read_ends h k = record {
     handed = h.handed;

@@ -15,8 +15,7 @@ use Rattle.prolly_laws.specs.Readings.{begins_all, ends_clean, ends_flawed, ends
 use Rattle.prolly_load.specs.declared.tally.FlawedRecord.{FlawedRecord}
 use Rattle.prolly_load.specs.declared.tally.Survey.{Survey}
 use Rattle.prolly_load.specs.declared.tally.Tally.{Tally}
-use Rattle.prolly_load.specs.Buffer.{Buffered}
-use Rattle.prolly_load.specs.Fill.{Gains}
+use Rattle.prolly_file.specs.ReadBuffer.{Held, Gains}
 use Rattle.prolly_load.specs.Skipped.{PassesRecord}
 use Rattle.prolly_load.specs.Survey.{IsSurvey, key_bytes, told_key}
 use Rattle.prolly_load.specs.Tally.{HasToldKey, Tells, cut_in}
@@ -27,7 +26,7 @@ use Rattle.prolly_load.specs.Loading.{IsUnderWay}
 use Rattle.prolly_load.proofs.UnderWay.{none_sent, one_sent, more_read}
 
 -- Some records are passed as if they were sent, and the tally is theirs.
-pub record IsSurveying (honest : Bool) (limit : ℕ) (tally : Tally) (buffered : Buffered)
+pub record IsSurveying (honest : Bool) (limit : ℕ) (tally : Tally) (buffered : Held)
     (bytes left : List ℕ) : Type 0 where
   pub good : List Record
   pub under_way : IsUnderWay honest limit tally.records buffered bytes left [] good
@@ -37,8 +36,8 @@ pub record IsSurveying (honest : Bool) (limit : ℕ) (tally : Tally) (buffered :
 abbrev pub empty_tally : Tally
 empty_tally = record { records = 0; removals = 0; bytes = 0; first_key = None }
 
-pub none_passed : (honest : Bool) (limit : ℕ) (buffered : Buffered) (bytes : List ℕ) →
-    buffered.last_key ≡ None → buffered.unparsed ≡ [] →
+pub none_passed : (honest : Bool) (limit : ℕ) (buffered : Held) (bytes : List ℕ) →
+    buffered.kept ≡ None → buffered.unparsed ≡ [] →
     IsSurveying honest limit empty_tally buffered bytes bytes
 none_passed honest limit buffered bytes e f = record {
   good = [];
@@ -52,10 +51,10 @@ none_passed honest limit buffered bytes e f = record {
 }
 
 pub one_passed : (honest : Bool) (limit len : ℕ) (removes : Bool) (tally tally' : Tally)
-    (old new : Buffered) (bytes left : List ℕ) →
+    (old new : Held) (bytes left : List ℕ) →
     IsSurveying honest limit tally old bytes left →
     PassesRecord limit tally.records old new removes len →
-    Counts removes len new.last_key tally tally' →
+    Counts removes len new.kept tally tally' →
     IsSurveying honest limit tally' new bytes left
 one_passed honest limit len removes tally tally' old new bytes left h k c = record {
   good = h.good ++ k.passed ∷ [];
@@ -63,14 +62,14 @@ one_passed honest limit len removes tally tally' old new bytes left h k c = reco
       (sym c.records)
       (one_sent honest limit tally.records old new bytes left [] h.good (h.good ++ k.passed ∷ [])
       k.passed h.under_way k.taken refl);
-  tally_is = one_counted h.good k.passed removes len new.last_key tally tally' h.tally_is c
+  tally_is = one_counted h.good k.passed removes len new.kept tally tally' h.tally_is c
       k.removes_is k.len_is k.taken.last_key;
 }
 
 pub more_came : (honest honest' : Bool) (limit n : ℕ) (tally : Tally)
-    (buffered old new : Buffered) (bytes left left' : List ℕ) →
+    (buffered old new : Held) (bytes left left' : List ℕ) →
     IsSurveying honest limit tally buffered bytes left → old ≡ buffered →
-    Gains honest' left left' old.unparsed new.unparsed n → new.last_key ≡ old.last_key →
+    Gains honest' left left' old.unparsed new.unparsed n → new.kept ≡ old.kept →
     (honest ≡ true → honest' ≡ true) → IsSurveying honest limit tally new bytes left'
 more_came honest honest' limit n tally buffered old new bytes left left' h same k e still =
     record {
@@ -91,7 +90,7 @@ cut_has_key : (unparsed : List ℕ) → IfSome (cut_in unparsed) (λ f. HasToldK
 cut_has_key [] = tt
 cut_has_key (b ∷ unparsed) = tt
 
-module _ (honest : Bool) (limit : ℕ) (tally : Tally) (buffered : Buffered) (bytes left : List ℕ)
+module _ (honest : Bool) (limit : ℕ) (tally : Tally) (buffered : Held) (bytes left : List ℕ)
   where
     -- The records that were passed begin the bytes that were handed out.
     begun : (h : IsSurveying honest limit tally buffered bytes left) →
@@ -106,10 +105,10 @@ module _ (honest : Bool) (limit : ℕ) (tally : Tally) (buffered : Buffered) (by
         (begun h) (h.under_way.kept o)
 
     position_is : (h : IsSurveying honest limit tally buffered bytes left) →
-        buffered.last_key ≡ last_position h.good
+        buffered.kept ≡ last_position h.good
     position_is h = h.under_way.position_is ∙ ap last_position (sym h.under_way.sent)
 
-    pub has_room : (new : Buffered) (removes : Bool) (len : ℕ) →
+    pub has_room : (new : Held) (removes : Bool) (len : ℕ) →
         IsSurveying honest limit tally buffered bytes left →
         PassesRecord limit tally.records buffered new removes len → HasRoom limit len tally
     has_room new removes len h k =
@@ -170,13 +169,13 @@ module _ (honest : Bool) (limit : ℕ) (tally : Tally) (buffered : Buffered) (by
 
     pub flaw_told : (flaw : Flaw) (survey : Survey) →
         IsSurveying honest limit tally buffered bytes left →
-        IsFlawed limit tally.records buffered.last_key buffered.unparsed flaw →
+        IsFlawed limit tally.records buffered.kept buffered.unparsed flaw →
         Tells tally buffered (Some flaw) survey → honest ≡ true → IsSurvey bytes limit survey
     flaw_told flaw survey h k tells o =
         told_right (Some flaw) survey h o
         (ends_flawed bytes limit h.good (buffered.unparsed ++ left) buffered.unparsed left flaw
         (all_begun h o) refl (rw (← h.tally_is.records_are, ← position_is h) k))
-        (has_told_key limit tally.records buffered.last_key buffered.unparsed flaw k) tells
+        (has_told_key limit tally.records buffered.kept buffered.unparsed flaw k) tells
 
     -- Where no more bytes come and nothing is decided, the flaw is that the bytes are cut.
     cut_reading : (good : List Record) (unparsed : List ℕ) → Begins bytes limit good unparsed →
@@ -186,7 +185,7 @@ module _ (honest : Bool) (limit : ℕ) (tally : Tally) (buffered : Buffered) (by
     cut_reading good (b ∷ unparsed) h k = ends_cut bytes limit good (b ∷ unparsed) h (omega arith) k
 
     pub end_told : (survey : Survey) → IsSurveying honest limit tally buffered bytes left →
-        IsUndecided limit tally.records buffered.last_key buffered.unparsed →
+        IsUndecided limit tally.records buffered.kept buffered.unparsed →
         (honest ≡ true → left ≡ []) → Tells tally buffered (cut_in buffered.unparsed) survey →
         honest ≡ true → IsSurvey bytes limit survey
     end_told survey h k over tells o =

@@ -2,7 +2,7 @@
 -- left.
 use Rattle.std.proofs.Common.{◌≡◌, ℕ, ◌+◌, ◌≤◌, Bool, true, List, [], ◌∷◌, ◌++◌, length, drop, None}
 use Rattle.std.proofs.Common.{refl, sym, ap, ◌∙◌, subst, arith, append_assoc, length-append}
-use Rattle.std.proofs.lemmas.List.{append-nil, nil_from_length}
+use Rattle.std.proofs.lemmas.List.{append-nil}
 use Rattle.std.specs.List.{flat_map}
 use Rattle.prolly_entry.specs.declared.next.Flaw.{Flaw}
 use Rattle.prolly_entry.specs.Position.{last_position}
@@ -11,15 +11,14 @@ use Rattle.prolly_entry.specs.Reading.{Begins}
 use Rattle.prolly_entry.specs.Spelling.{record_spelling}
 use Rattle.prolly_entry.specs.NextRecord.{IsNext, IsUndecided, IsFlawed}
 use Rattle.prolly_laws.specs.Readings.{begins_more, begins_none, last_more}
-use Rattle.prolly_load.specs.Buffer.{Buffered}
-use Rattle.prolly_load.specs.Fill.{Gains, GainsNothing}
+use Rattle.prolly_file.specs.ReadBuffer.{Held, Gains, GainsNothing}
 use Rattle.prolly_load.specs.Loading.{IsUnderWay}
 use Rattle.prolly_load.specs.declared.loader.Taken.{Taken}
 use Rattle.prolly_load.specs.declared.loader.Taken.TheVariants as takes
 use Rattle.prolly_load.specs.Taken.{TakesRecord, TakesNext}
 
-pub none_sent : (honest : Bool) (limit : ℕ) (buffered : Buffered) (bytes : List ℕ)
-    (before : List Record) → buffered.last_key ≡ None → buffered.unparsed ≡ [] →
+pub none_sent : (honest : Bool) (limit : ℕ) (buffered : Held) (bytes : List ℕ)
+    (before : List Record) → buffered.kept ≡ None → buffered.unparsed ≡ [] →
     IsUnderWay honest limit 0 buffered bytes bytes before before
 none_sent honest limit buffered bytes before e f = record {
   handed = [];
@@ -31,7 +30,7 @@ none_sent honest limit buffered bytes before e f = record {
   position_is = e;
 }
 
-pub one_sent : (honest : Bool) (limit count : ℕ) (old new : Buffered) (bytes left : List ℕ)
+pub one_sent : (honest : Bool) (limit count : ℕ) (old new : Held) (bytes left : List ℕ)
     (before after after' : List Record) (r : Record) →
     IsUnderWay honest limit count old bytes left before after → TakesRecord limit count old new r →
     after' ≡ after ++ r ∷ [] →
@@ -57,10 +56,10 @@ one_sent honest limit count old new bytes left before after after' r h k e = rec
       rises = rw (← h.position_is) k.next.rises;
     }
 
-pub more_read : (honest honest' : Bool) (limit count n : ℕ) (buffered old new : Buffered)
+pub more_read : (honest honest' : Bool) (limit count n : ℕ) (buffered old new : Held)
     (bytes left left' : List ℕ) (before after : List Record) →
     IsUnderWay honest limit count buffered bytes left before after → old ≡ buffered →
-    Gains honest' left left' old.unparsed new.unparsed n → new.last_key ≡ old.last_key →
+    Gains honest' left left' old.unparsed new.unparsed n → new.kept ≡ old.kept →
     (honest ≡ true → honest' ≡ true) → IsUnderWay honest limit count new bytes left' before after
 more_read honest honest' limit count n buffered old new bytes left left' before after h same k e
     still = record {
@@ -73,19 +72,19 @@ more_read honest honest' limit count n buffered old new bytes left left' before 
         spelled = ap (λ (x : List ℕ). x ++ k.given) h.begins.spelled
             ∙ (append_assoc (flat_map record_spelling h.records) buffered.unparsed k.given
             ∙ ap (λ (x : List ℕ). flat_map record_spelling h.records ++ x)
-            (sym (k.behind ∙ ap (λ (x : Buffered). x.unparsed ++ k.given) same)));
+            (sym (k.behind ∙ ap (λ (x : Held). x.unparsed ++ k.given) same)));
         lawful = h.begins.lawful;
         rising = h.begins.rising;
         few = h.begins.few;
       };
       count_is = h.count_is;
-      position_is = e ∙ (ap (λ (x : Buffered). x.last_key) same ∙ h.position_is);
+      position_is = e ∙ (ap (λ (x : Held). x.kept) same ∙ h.position_is);
     }
 
-pub nothing_read : (honest honest' : Bool) (limit count : ℕ) (buffered old new : Buffered)
+pub nothing_read : (honest honest' : Bool) (limit count : ℕ) (buffered old new : Held)
     (bytes left left' : List ℕ) (before after : List Record) →
     IsUnderWay honest limit count buffered bytes left before after → old ≡ buffered →
-    GainsNothing honest' left left' old.unparsed new.unparsed → new.last_key ≡ old.last_key →
+    GainsNothing honest' left left' old.unparsed new.unparsed → new.kept ≡ old.kept →
     (honest ≡ true → honest' ≡ true) → IsUnderWay honest limit count new bytes left' before after
 nothing_read honest honest' limit count buffered old new bytes left left' before after h same k e
     still = record {
@@ -94,13 +93,13 @@ nothing_read honest honest' limit count buffered old new bytes left left' before
       kept = λ o. h.kept o ∙ ap (λ (x : List ℕ). h.handed ++ x) (sym (k.kept (still o)));
       sent = h.sent;
       begins = subst (λ (x : List ℕ). Begins h.handed limit h.records x)
-          (sym (k.same ∙ ap (λ (x : Buffered). x.unparsed) same)) h.begins;
+          (sym (k.same ∙ ap (λ (x : Held). x.unparsed) same)) h.begins;
       count_is = h.count_is;
-      position_is = e ∙ (ap (λ (x : Buffered). x.last_key) same ∙ h.position_is);
+      position_is = e ∙ (ap (λ (x : Held). x.kept) same ∙ h.position_is);
     }
 
 -- The records that were sent are within the limit.
-pub within : (honest : Bool) (limit count : ℕ) (buffered : Buffered) (bytes left : List ℕ)
+pub within : (honest : Bool) (limit count : ℕ) (buffered : Held) (bytes left : List ℕ)
     (before after : List Record) →
     IsUnderWay honest limit count buffered bytes left before after → count ≤ limit
 within honest limit count buffered bytes left before after h = omega (
@@ -111,40 +110,33 @@ within honest limit count buffered bytes left before after h = omega (
 
 -- ---- what was taken
 
-pub record_taken : (limit count : ℕ) (old new : Buffered) (taken : Taken) (r : Record) →
+pub record_taken : (limit count : ℕ) (old new : Held) (taken : Taken) (r : Record) →
     TakesNext limit count old new taken → taken ≡ takes.Record r →
     TakesRecord limit count old new r
 record_taken limit count old new taken r h e = subst (TakesNext limit count old new) e h
 
-pub flaw_taken : (limit count : ℕ) (old new : Buffered) (taken : Taken) (flaw : Flaw) →
+pub flaw_taken : (limit count : ℕ) (old new : Held) (taken : Taken) (flaw : Flaw) →
     TakesNext limit count old new taken → taken ≡ takes.Flawed flaw →
-    IsFlawed limit count old.last_key old.unparsed flaw
+    IsFlawed limit count old.kept old.unparsed flaw
 flaw_taken limit count old new taken flaw h e = let is = subst (TakesNext limit count old new) e h in
     is.0
 
 -- Nothing was taken, so nothing is decided, and the buffer is as it was.
-pub record TakesNothing (limit count : ℕ) (old new : Buffered) : Type 0 where
-  pub undecided : IsUndecided limit count old.last_key old.unparsed
+pub record TakesNothing (limit count : ℕ) (old new : Held) : Type 0 where
+  pub undecided : IsUndecided limit count old.kept old.unparsed
   pub same : new ≡ old
 
-pub nothing_taken : (limit count : ℕ) (old new : Buffered) (taken : Taken) →
+pub nothing_taken : (limit count : ℕ) (old new : Held) (taken : Taken) →
     TakesNext limit count old new taken → taken ≡ takes.Nothing →
     TakesNothing limit count old new
 nothing_taken limit count old new taken h e = let is = subst (TakesNext limit count old new) e h in
     record { undecided = is.0; same = is.1 }
 
--- ---- a read that brings nothing
-
-pub gains_none : (n : ℕ) (honest : Bool) (left left' unparsed unparsed' : List ℕ) →
-    Gains honest left left' unparsed unparsed' n → n ≡ 0 → unparsed' ≡ unparsed
-gains_none n honest left left' unparsed unparsed' h e =
-    h.behind ∙ (ap (λ (x : List ℕ). unparsed ++ x) (nil_from_length h.given (h.size ∙ e)) ∙
-    append-nil unparsed)
-
-pub still_undecided : (limit count : ℕ) (buffered old new : Buffered) →
+-- Where a read brings nothing, nothing is decided still.
+pub still_undecided : (limit count : ℕ) (buffered old new : Held) →
     TakesNothing limit count buffered old →
-    new.last_key ≡ old.last_key → new.unparsed ≡ old.unparsed →
-    IsUndecided limit count new.last_key new.unparsed
+    new.kept ≡ old.kept → new.unparsed ≡ old.unparsed →
+    IsUndecided limit count new.kept new.unparsed
 still_undecided limit count buffered old new h e f =
-    rw (e, f) (subst (λ (x : Buffered). IsUndecided limit count x.last_key x.unparsed) (sym h.same)
+    rw (e, f) (subst (λ (x : Held). IsUndecided limit count x.kept x.unparsed) (sym h.same)
     h.undecided)

@@ -1,9 +1,3 @@
--- Places of bytes.
-pub mod Span
--- What a buffer holds.
-pub mod Buffer
--- What a read adds to the unparsed bytes.
-pub mod Fill
 -- What is taken out of the unparsed bytes.
 pub mod Taken
 -- How a flaw of a record file is told on a link.

@@ -15,7 +15,7 @@ use Rattle.prolly_link.specs.declared.message.End.TheVariants.{Clean, Fault}
 use Rattle.prolly_link.specs.declared.fault.RunFault.TheVariants.{Read, Memory}
 use Rattle.prolly_link.specs.declared.message.Progress.{Progress}
 use Rattle.prolly_link.specs.declared.message.Progress.TheVariants.{Open, Ended, Lost}
-use Rattle.prolly_load.specs.Buffer.{Buffered}
+use Rattle.prolly_file.specs.ReadBuffer.{Held}
 use Rattle.prolly_load.specs.Loaded.{IsLoaded}
 use Rattle.prolly_load.specs.Loading.{IsUnderWay}
 
@@ -65,14 +65,14 @@ pub record ComesTo (file limit : ℕ) (begun source : SourceView) (records : Lis
   pub stays : StaysAsItWas begun source
 
 -- What a reader holds while it is open: the loading is under way, and no read failed.
-pub record IsOpen (limit count : ℕ) (begun source : SourceView) (buffered : Buffered)
+pub record IsOpen (limit count : ℕ) (begun source : SourceView) (buffered : Held)
     (records : List Record) : Type 0 where
   pub under_way : IsUnderWay begun.is_honest limit count buffered begun.left source.left [] records
   pub unfailed : source.failures ≡ begun.failures
   pub stays : StaysAsItWas begun source
 
 -- What a reader holds: a loading under way, or one that came to its end.
-abbrev pub IsReading : ℕ → ℕ → ℕ → SourceView → SourceView → Buffered → List Record → Option End →
+abbrev pub IsReading : ℕ → ℕ → ℕ → SourceView → SourceView → Held → List Record → Option End →
     Type 0
 IsReading file limit count begun source buffered records None =
     IsOpen limit count begun source buffered records

@@ -8,7 +8,7 @@ use Rattle.prolly_entry.specs.Reading.{key_length}
 use Rattle.prolly_load.specs.declared.tally.FlawedRecord.{FlawedRecord}
 use Rattle.prolly_load.specs.declared.tally.Survey.{Survey}
 use Rattle.prolly_load.specs.declared.tally.Tally.{Tally}
-use Rattle.prolly_load.specs.Buffer.{Buffered}
+use Rattle.prolly_file.specs.ReadBuffer.{Held}
 use Rattle.prolly_load.specs.Survey.{IsSurvey, key_bytes, told_key}
 
 -- The key of a record with this flaw is whole, where the flaw lies behind it.
@@ -29,26 +29,26 @@ abbrev pub cut_in : List ℕ → Option Flaw
 cut_in [] = None
 cut_in (b ∷ unparsed) = Some Truncated
 
--- What was counted is told, with the last key and the flaw of the unparsed bytes.
-pub record Tells (tally : Tally) (buffered : Buffered) (flaw : Option Flaw) (survey : Survey) : Type
+-- What was counted is told, with the last key, which is kept, and the flaw of the unparsed bytes.
+pub record Tells (tally : Tally) (buffered : Held) (flaw : Option Flaw) (survey : Survey) : Type
     0 where
   pub records : survey.records ≡ tally.records
   pub removals : survey.removals ≡ tally.removals
   pub bytes : survey.bytes ≡ tally.bytes
   pub first_key : survey.first_key ≡ tally.first_key
-  pub last_key : key_bytes survey.last_key ≡ buffered.last_key
+  pub last_key : key_bytes survey.last_key ≡ buffered.kept
   pub flaw_is : option_map (λ flawed. flawed.flaw) survey.flawed ≡ flaw
   pub key_is : IfSome survey.flawed
       (λ flawed. key_bytes flawed.key ≡ told_key flawed.flaw buffered.unparsed)
 
 -- No record was passed yet.
-pub record NonePassed (tally : Tally) (buffered : Buffered) : Type 0 where
+pub record NonePassed (tally : Tally) (buffered : Held) : Type 0 where
   pub tally_is : tally ≡ record { records = 0; removals = 0; bytes = 0; first_key = None }
-  pub last_key : buffered.last_key ≡ None
+  pub last_key : buffered.kept ≡ None
   pub unparsed : buffered.unparsed ≡ []
 
 -- What was counted of the bytes, and the flaw behind it: whatever tells them is a survey of the
 -- bytes.
-abbrev pub IsCounted : List ℕ → ℕ → Tally → Buffered → Option Flaw → Type 0
+abbrev pub IsCounted : List ℕ → ℕ → Tally → Held → Option Flaw → Type 0
 IsCounted bytes limit tally buffered flaw = (survey : Survey) → Tells tally buffered flaw survey →
     IsSurvey bytes limit survey

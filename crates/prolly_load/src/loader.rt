@@ -10,7 +10,7 @@ ghost use Rattle.prolly_load.specs.Taken.{TakesNext};
 ghost use Rattle.prolly_load.specs.Fault.{end_in, fault_of};
 
 use crate::buffer::Buffer;
-use prolly_entry::{Flaw, NextRecord, Pair, Record, RecordAt, next_record};
+use prolly_entry::{Flaw, KEY_START, NextRecord, Pair, Record, RecordAt, next_record};
 use prolly_file::Source;
 use prolly_link::{End, Out, RunFault};
 use std::alloc::{AllocError, Global};
@@ -182,10 +182,10 @@ pub(crate) fn take_record(
 ) -> Result<Taken, AllocError>
     ensures { IfOk result (λ taken. TakesNext limit count buffer.old buffer.new taken) }
 {
-    match next_record(limit, count, buffer.last_key(), buffer.unparsed()) {
+    match next_record(limit, count, buffer.kept(), buffer.unparsed()) {
         NextRecord::Record(at) => {
             let record = copy_of(alloc, buffer.unparsed(), at)?;
-            buffer.consume(at.key_end, at.len);
+            buffer.consume_keeping(at.len, KEY_START..at.key_end);
             Ok(Taken::Record(record))
         }
         NextRecord::More => Ok(Taken::Nothing),

@@ -6,7 +6,7 @@ ghost use Rattle.prolly_load.specs.Skipped.{Skips};
 
 use crate::buffer::Buffer;
 use crate::tally::{Survey, Tally, copied, flawed_record};
-use prolly_entry::{Flaw, NextRecord, next_record};
+use prolly_entry::{Flaw, KEY_START, NextRecord, next_record};
 use prolly_file::{Source, SourceFault};
 use std::alloc::{AllocError, Global};
 
@@ -81,7 +81,7 @@ fn skip_records<S: Source>(
     loop {
         match skip_record(buffer, limit, tally.records) {
             Skipped::Record { removes, len } => {
-                tally.count(alloc, removes, len, buffer.last_key())?;
+                tally.count(alloc, removes, len, buffer.kept())?;
             }
             Skipped::Nothing => match buffer.fill(source) {
                 Ok(0) => return Ok(Ok(cut_in(buffer))),
@@ -123,7 +123,7 @@ fn told(
         removals: tally.removals,
         bytes: tally.bytes,
         first_key: tally.first_key,
-        last_key: copied(alloc, buffer.last_key())?,
+        last_key: copied(alloc, buffer.kept())?,
         flawed,
     })
 }
@@ -145,9 +145,9 @@ pub(crate) enum Skipped {
 pub(crate) fn skip_record(buffer: &mut Buffer, limit: u32, count: u32) -> Skipped
     ensures { Skips limit count buffer.old buffer.new result }
 {
-    match next_record(limit, count, buffer.last_key(), buffer.unparsed()) {
+    match next_record(limit, count, buffer.kept(), buffer.unparsed()) {
         NextRecord::Record(at) => {
-            buffer.consume(at.key_end, at.len);
+            buffer.consume_keeping(at.len, KEY_START..at.key_end);
             Skipped::Record {
                 removes: at.value_start.is_none(),
                 len: at.len,

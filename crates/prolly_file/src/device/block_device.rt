@@ -3,7 +3,7 @@ ghost use Rattle.std.specs.Prelude.{◌≡◌, ◌+◌, ◌-◌, ◌≤◌, true
 ghost use Rattle.std.specs.Prelude.{OnOk, OnErr};
 ghost use Rattle.prolly_file.specs.Failures.{CountsFailure};
 
-use crate::device::seek::Device;
+use crate::device::read_at::Device;
 use crate::device::source::SourceFault;
 use std::alloc::{AllocError, Global};
 
@@ -14,12 +14,16 @@ const BLOCK: usize = 65_536;
 /// serves eight such reads or more, which is what makes it cheaper than these reads.
 const NEAR: u64 = 8_192;
 
+/// How many bytes of the last read one that stands near it may read again. Who goes over frames
+/// reads the first byte of a chunk with its frame, and then the chunk.
+const AGAIN: u64 = 1;
+
 /// A device that keeps one block of 64 KiB of the device below it, and serves reads from it.
 ///
 /// A read goes to the device below where its bytes are not all in the block. A whole block is read
-/// there only where this read and the one before it each begin near behind the end of the one
-/// before them, and has room in a block. So of reads that each begin at most 8 KiB behind the last
-/// one, one for each 64 KiB goes to the device below; and where they stand far from each other, or
+/// there only where this read and the one before it each begin near the end of the one before them,
+/// and has room in a block. Near is up to 8 KiB behind that end, or at its last byte. So of reads
+/// that each begin near the last one, one for each 64 KiB goes to the device below; and where they stand far from each other, or
 /// are longer than a block, each reads what it was asked for and no more.
 ///
 /// To contracts it is the device below it, as long as what it keeps are that device's bytes.
@@ -39,7 +43,7 @@ pub struct Blocks<D> {
 struct LastRead {
     /// Where it ended.
     end: u64,
-    /// Whether it began near behind the end of the one before it.
+    /// Whether it began near the end of the one before it.
     was_near: bool,
 }
 
@@ -50,11 +54,12 @@ impl LastRead {
         was_near: false,
     };
 
-    /// Notes the next read, and answers whether it and the one before it each begin near behind the
-    /// end of the one before them.
+    /// Notes the next read, and answers whether it and the one before it each begin near the end of
+    /// the one before them.
     fn goes_on(&mut self, place: u64, len: usize) -> bool {
         let was_near = self.was_near;
-        self.was_near = place >= self.end && place - self.end <= NEAR;
+        self.was_near = place.saturating_add(AGAIN) >= self.end
+            && place.saturating_sub(self.end) <= NEAR;
         self.end = place.saturating_add(len as u64);
         was_near && self.was_near
     }

@@ -85,7 +85,7 @@ impl<R: Read> Source for FromRead<R> {
 }
 
 /// How often a call is made. No one interrupts as many in a row.
-const MOST_TRIES: u32 = 1_000_000;
+pub(crate) const MOST_TRIES: u32 = 1_000_000;
 
 /// Reads into the buffer, as often as the read is interrupted.
 pub(crate) fn read_again<R: Read>(reader: &mut R, buf: &mut [u8]) -> io::Result<usize>

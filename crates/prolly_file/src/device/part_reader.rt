@@ -4,6 +4,9 @@ ghost use Rattle.std.specs.Prelude.{IfOk, IsErrOf, OnOk};
 
 use crate::device::source::{Source, SourceFault};
 use std::alloc::{AllocError, Global};
+use std::error::Error;
+use std::fmt;
+use std::fmt::{Display, Formatter};
 use std::marker::Model;
 
 /// How many bytes are asked for at a time.
@@ -17,6 +20,22 @@ pub enum ReadFault {
     /// The source failed.
     Read,
 }
+
+impl Display for ReadFault {
+    ghost use Rattle.std.specs.Prelude.{Some};
+    ghost use Rattle.prolly_file.specs.FaultTexts.{read_fault_text};
+
+    ghost output = { λ fault. Some (read_fault_text fault) };
+
+    fn fmt<W: fmt::Write>(&self, f: &mut Formatter<W>) -> fmt::Result {
+        match self {
+            ReadFault::Memory => f.write_str("out of memory"),
+            ReadFault::Read => f.write_str("read failed"),
+        }
+    }
+}
+
+impl Error for ReadFault {}
 
 impl From<AllocError> for ReadFault {
     ghost use Rattle.prolly_file.specs.declared.device.part_reader.ReadFault.TheVariants.{Memory};

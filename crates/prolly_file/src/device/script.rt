@@ -8,7 +8,8 @@ ghost use Rattle.prolly_file.specs.Source.{HandsOut};
 ghost use Rattle.prolly_file.specs.Sink.{Takes, CountsWriteFailure};
 ghost use Rattle.prolly_file.specs.Device.{GivesFrom};
 
-use crate::device::seek::Device;
+use crate::device::in_memory::copy_from;
+use crate::device::read_at::Device;
 use crate::device::sink::{Sink, SinkFault};
 use crate::device::source::{Source, SourceFault};
 use std::alloc::Global;
@@ -274,11 +275,7 @@ impl Device for ScriptDevice {
         ensures counted { self.new.until_failure ≡ after_call self.old.until_failure }
     {
         self.call()?;
-        let start = usize::try_from(place)
-            .unwrap_or(usize::MAX)
-            .min(self.bytes.len());
-        let room = buf.len();
-        Ok(copy_some(&self.bytes[start..], room, buf))
+        Ok(copy_from(&self.bytes, place, buf))
     }
 }
 

@@ -56,6 +56,19 @@ fn of_near_reads_one_a_block_goes_to_the_device(rt: HostRuntime) -> Result<(), F
     Ok(())
 }
 
+// A walk reads the first ten bytes of a frame, and then its chunk, whose first byte is the tenth.
+#[test]
+fn a_walk_over_frames_is_served_from_a_block(rt: HostRuntime) -> Result<(), Fail> {
+    // The first two reads are calls, the third one is that of a block, and the fourth call fails.
+    let mut device = blocks(rt.alloc(), 4)?;
+    for frame in 0..100 {
+        let start = frame * 609;
+        reads(&rt, rt.alloc(), &mut device, start, 10, Ok(10))?;
+        reads(&rt, rt.alloc(), &mut device, start + 9, 600, Ok(600))?;
+    }
+    Ok(())
+}
+
 #[test]
 fn far_reads_go_to_the_device(rt: HostRuntime) -> Result<(), Fail> {
     for places in [[0, 8_203, 16_413], [50_000, 10, 20], [0, 0, 70_000]] {

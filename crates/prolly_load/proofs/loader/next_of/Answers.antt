@@ -1,6 +1,7 @@
 use Rattle.std.proofs.Common.{rules, ◌≡◌, ◌∙◌, refl}
+use Rattle.prolly_file.specs.ReadBufferLaws.{gains_none}
 use Rattle.prolly_load.proofs.UnderWay.{one_sent, more_read, nothing_read, record_taken}
-use Rattle.prolly_load.proofs.UnderWay.{flaw_taken, nothing_taken, gains_none, still_undecided}
+use Rattle.prolly_load.proofs.UnderWay.{flaw_taken, nothing_taken, still_undecided}
 use Rattle.prolly_load.proofs.LoadEnds.{memory_ends, flaw_ends, over_ends, read_ends}
 use Rattle.prolly_load.proofs.loader.next_of.Goals as goal
 
@@ -38,7 +39,7 @@ loop-record-preserved g c =
     c.in-Ok-Nothing.field-0 c.in-Ok-Nothing.ensures c.in-Ok-Nothing.field-0-is in record {
       under_way = λ asked bytes before after still h. more_read _ _ _ _ _ _ _ _ _ _ _ _ _
           (l.invariant.under_way asked bytes before after still h) taken.same
-          c.in-Ok.ensures.fills c.fill.ensures.last_key (λ o. l.invariant.honest (still o));
+          c.in-Ok.ensures.fills c.fill.ensures.kept (λ o. l.invariant.honest (still o));
       honest = λ o. c.fill.ensures.honest (l.invariant.honest o);
       steady = λ o. c.fill.ensures.steady (l.invariant.steady o);
       failures = c.in-Ok.ensures.failures ∙ l.invariant.failures;
@@ -50,15 +51,13 @@ returns-in-Ok-eq0-clause-goes_on g c asked bytes before after still h =
     let taken = nothing_taken c.args.limit c.args.count l.buffer c.take_record.new.buffer
     c.in-Ok-Nothing.field-0 c.in-Ok-Nothing.ensures c.in-Ok-Nothing.field-0-is in
     let none : c.in-Ok-eq0.field-0 ≡ 0 = search rules in
-    let same = gains_none c.in-Ok-eq0.field-0 (g.S.Source.seen l.source).is_honest
-    (g.S.Source.seen l.source).left (g.S.Source.seen c.fill.new.source).left
-    c.take_record.new.buffer.unparsed c.fill.new.self.unparsed c.in-Ok-eq0.ensures.fills none in
+    let same = gains_none _ _ _ _ _ c.in-Ok-eq0.field-0 c.in-Ok-eq0.ensures.fills none in
     over_ends c.args.file _ _ _ _ _ _ _ _ c.end_in.result
     (more_read _ _ _ _ _ _ _ c.fill.new.self _ _ _ _ _
     (l.invariant.under_way asked bytes before after still h) taken.same
-    c.in-Ok-eq0.ensures.fills c.fill.ensures.last_key (λ o. l.invariant.honest (still o)))
+    c.in-Ok-eq0.ensures.fills c.fill.ensures.kept (λ o. l.invariant.honest (still o)))
     (still_undecided c.args.limit c.args.count l.buffer c.take_record.new.buffer c.fill.new.self
-    taken c.fill.ensures.last_key same)
+    taken c.fill.ensures.kept same)
     (λ o. c.in-Ok-eq0.ensures.fills.over (l.invariant.honest (still o)) none)
     c.end_in.ensures
 
@@ -71,6 +70,6 @@ returns-in-Err-fill-clause-goes_on g c asked bytes before after still h =
     read_ends c.args.file _ _ _ _ _ _ _ _
     (nothing_read _ _ _ _ _ _ c.fill.new.self _ _ _ _ _
     (l.invariant.under_way asked bytes before after still h) taken.same fills
-    c.fill.ensures.last_key (λ o. l.invariant.honest (still o)))
+    c.fill.ensures.kept (λ o. l.invariant.honest (still o)))
     (still_undecided c.args.limit c.args.count l.buffer c.take_record.new.buffer c.fill.new.self
-    taken c.fill.ensures.last_key fills.same)
+    taken c.fill.ensures.kept fills.same)

@@ -1,7 +1,7 @@
 use Rattle.std.proofs.Common.{refl, sym, subst, None, [], arith}
 use Rattle.prolly_link.specs.declared.message.End.TheVariants.{Fault}
 use Rattle.prolly_link.specs.declared.fault.RunFault.TheVariants.{Memory}
-use Rattle.prolly_load.specs.Buffer.{Buffered}
+use Rattle.prolly_file.specs.ReadBuffer.{Held}
 use Rattle.prolly_load.specs.Loaded.{IsLoaded}
 use Rattle.prolly_load.proofs.UnderWay.{none_sent, within}
 use Rattle.prolly_load.proofs.LoadEnds.{memory_ends}
@@ -11,7 +11,7 @@ use Rattle.prolly_load.proofs.loader.send_records.Goals as goal
 
 pub returns-in_default-clause-loaded : goal.returns-in_default-clause-loaded
 returns-in_default-clause-loaded g c =
-    let nothing : Buffered = record { last_key = None; unparsed = []; room = 0 } in
+    let nothing : Held = record { kept = None; unparsed = []; room = 0 } in
     let honest = (g.S.Source.seen c.args.source.now).is_honest in
     let bytes = (g.S.Source.seen c.args.source.now).left in
     let before = g.O.Out.sent c.args.out.now in
@@ -22,7 +22,7 @@ pub loop-record-init : goal.loop-record-init
 loop-record-init g c = record {
   under_way = none_sent (g.S.Source.seen c.args.source.now).is_honest c.args.limit c.in-Ok.buffer
       (g.S.Source.seen c.args.source.now).left (g.O.Out.sent c.args.out.now)
-      c.in-Ok.ensures.last_key c.in-Ok.ensures.unparsed;
+      c.in-Ok.ensures.kept c.in-Ok.ensures.unparsed;
   link = refl;
   honest = λ o. o;
   steady = λ o. o;

@@ -1,13 +1,14 @@
 use Rattle.std.proofs.Common.{rules, ◌≡◌, ◌∙◌, Some, refl, sym, ap, subst, arith}
 use Rattle.std.specs.Option.{option_or}
-use Rattle.prolly_load.specs.Buffer.{Buffered}
+use Rattle.prolly_file.specs.ReadBuffer.{Held}
+use Rattle.prolly_file.specs.ReadBufferLaws.{gains_none}
 use Rattle.prolly_load.specs.Survey.{key_bytes}
 use Rattle.prolly_load.specs.Tally.{HasToldKey, Tells}
 use Rattle.prolly_load.proofs.Surveys.{IsSurveying, none_passed, one_passed, more_came, has_room}
 use Rattle.prolly_load.proofs.Surveys.{flaw_told}
 use Rattle.prolly_load.proofs.Surveys.{end_told}
 use Rattle.prolly_load.proofs.ToldKeys.{has_told_key}
-use Rattle.prolly_load.proofs.UnderWay.{gains_none, still_undecided}
+use Rattle.prolly_load.proofs.UnderWay.{still_undecided}
 use Rattle.prolly_load.proofs.surveyor.skip_records.Goals as goal
 
 pub loop-removes-init : goal.loop-removes-init
@@ -46,7 +47,7 @@ loop-removes-preserved-in-Continue-1 g c =
             removals = counted.removals;
             bytes = counted.bytes;
             first_key = counted.first_key ∙
-                ap (option_or (key_bytes l.tally.first_key)) c.last_key.ensures;
+                ap (option_or (key_bytes l.tally.first_key)) c.kept.ensures;
           });
       honest = l.invariant.honest;
       steady = l.invariant.steady;
@@ -59,7 +60,7 @@ pub loop-removes-preserved : goal.loop-removes-preserved
 loop-removes-preserved g c =
     let l = c.loop-removes in record {
       surveying = more_came _ _ _ _ _ _ _ _ _ _ _ l.invariant.surveying c.in-Nothing.ensures.1
-          c.in-Ok.ensures.fills c.fill.ensures.last_key l.invariant.honest;
+          c.in-Ok.ensures.fills c.fill.ensures.kept l.invariant.honest;
       honest = λ o. c.fill.ensures.honest (l.invariant.honest o);
       steady = λ o. c.fill.ensures.steady (l.invariant.steady o);
       failures = c.in-Ok.ensures.failures ∙ l.invariant.failures;
@@ -69,15 +70,13 @@ pub returns-in-Ok-eq0-clause-ok : goal.returns-in-Ok-eq0-clause-ok
 returns-in-Ok-eq0-clause-ok g c =
     let l = c.loop-removes in
     let none : c.in-Ok-eq0.field-0 ≡ 0 = search rules in
-    let same = gains_none c.in-Ok-eq0.field-0 (g.S.Source.seen l.source).is_honest
-    (g.S.Source.seen l.source).left (g.S.Source.seen c.fill.new.source).left
-    c.skip_record.new.buffer.unparsed c.fill.new.self.unparsed c.in-Ok-eq0.ensures.fills none in
+    let same = gains_none _ _ _ _ _ c.in-Ok-eq0.field-0 c.in-Ok-eq0.ensures.fills none in
     λ o survey tells. end_told _ _ _ _ _ _ survey
     (more_came _ _ _ _ _ _ _ _ _ _ _ l.invariant.surveying c.in-Nothing.ensures.1
-    c.in-Ok-eq0.ensures.fills c.fill.ensures.last_key l.invariant.honest)
+    c.in-Ok-eq0.ensures.fills c.fill.ensures.kept l.invariant.honest)
     (still_undecided c.args.limit l.tally.records l.buffer c.skip_record.new.buffer c.fill.new.self
     (record { undecided = c.in-Nothing.ensures.0; same = c.in-Nothing.ensures.1 })
-    c.fill.ensures.last_key same)
+    c.fill.ensures.kept same)
     (λ o. c.in-Ok-eq0.ensures.fills.over (l.invariant.honest o) none)
     (subst (λ flaw. Tells l.tally c.fill.new.self flaw survey) c.cut_in.ensures tells) o
 
@@ -86,8 +85,8 @@ returns-in-Ok-eq0-clause-ok g c =
 pub returns-in-Flawed-clause-keys : goal.returns-in-Flawed-clause-keys
 returns-in-Flawed-clause-keys g c =
     let l = c.loop-removes in
-    subst (λ (b : Buffered). HasToldKey c.in-Flawed.flaw b.unparsed) (sym c.in-Flawed.ensures.1)
-    (has_told_key c.args.limit l.tally.records l.buffer.last_key l.buffer.unparsed c.in-Flawed.flaw
+    subst (λ (b : Held). HasToldKey c.in-Flawed.flaw b.unparsed) (sym c.in-Flawed.ensures.1)
+    (has_told_key c.args.limit l.tally.records l.buffer.kept l.buffer.unparsed c.in-Flawed.flaw
     c.in-Flawed.ensures.0)
 
 pub returns-in-Flawed-clause-ok : goal.returns-in-Flawed-clause-ok
@@ -95,5 +94,5 @@ returns-in-Flawed-clause-ok g c =
     let l = c.loop-removes in
     λ o survey tells. flaw_told _ _ _ _ _ _ c.in-Flawed.flaw survey l.invariant.surveying
     c.in-Flawed.ensures.0
-    (subst (λ (b : Buffered). Tells l.tally b (Some c.in-Flawed.flaw) survey)
+    (subst (λ (b : Held). Tells l.tally b (Some c.in-Flawed.flaw) survey)
     c.in-Flawed.ensures.1 tells) o

@@ -1,5 +1,12 @@
--- What a read adds to the unparsed bytes.
-use Rattle.std.specs.Prelude.{◌≡◌, ℕ, Bool, true, List, [], ◌++◌, length, Result, MatchResult}
+-- What a buffer of read bytes holds, and what a read adds to it.
+use Rattle.std.specs.Prelude.{◌≡◌, ℕ, Bool, true, List, [], ◌++◌, length, Option, Result, MatchResult}
+
+-- The bytes that are kept, if any are; those behind them that are not consumed yet; and how many
+-- bytes have room behind these.
+pub record Held : Type 0 where
+  pub kept : Option (List ℕ)
+  pub unparsed : List ℕ
+  pub room : ℕ
 
 -- Some bytes came behind the unparsed ones: the first that an honest source had left, and none only
 -- where it had none.

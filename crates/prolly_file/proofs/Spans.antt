@@ -1,10 +1,9 @@
--- Parts of parts of bytes.
+-- Parts of bytes, from one place to another.
 use Rattle.std.proofs.Common.{◌≡◌, ℕ, ◌+◌, ◌-◌, ◌≤◌, List, length, take, drop, ◌++◌, Option, Some}
 use Rattle.std.proofs.Common.{None, refl, sym, ap, ◌∙◌, subst, arith}
 use Rattle.std.specs.Option.{option_map}
-use Rattle.prolly_entry.specs.Position.{Position}
-use Rattle.prolly_load.specs.declared.buffer.Span.{Span}
-use Rattle.prolly_load.specs.Span.{part, IsKeyBefore}
+use Rattle.prolly_file.specs.declared.device.read_buffer.Span.{Span}
+use Rattle.prolly_file.specs.Span.{part, IsKeptBefore}
 use Rattle.std.proofs.lemmas.List.{append-nil, drop_all, drop-take, drop-drop, length-take}
 use Rattle.std.proofs.lemmas.List.{take_all, take-take}
 
@@ -62,26 +61,26 @@ same_before bytes bytes' place span o h e = sym (cut bytes') ∙ ap (λ xs. part
         drop-take span.start (place - span.start) xs)
         ∙ take-take (span.end - span.start) (place - span.start) (drop span.start xs) (omega arith)
 
--- So is a key before the place, if there is one.
-pub same_key : (bytes bytes' : List ℕ) (place end : ℕ) (key : Option Span) → IsKeyBefore place key →
-    place ≤ end → take end bytes' ≡ take end bytes →
-    option_map (part bytes') key ≡ option_map (part bytes) key
-same_key bytes bytes' place end None h k e = refl
-same_key bytes bytes' place end (Some key) h k e =
-    ap Some (same_before bytes bytes' end key h.0 (omega arith) e)
+-- So are kept ones before the place, if there are any.
+pub same_kept : (bytes bytes' : List ℕ) (most place end : ℕ) (kept : Option Span) →
+    IsKeptBefore most place kept → place ≤ end → take end bytes' ≡ take end bytes →
+    option_map (part bytes') kept ≡ option_map (part bytes) kept
+same_kept bytes bytes' most place end None h k e = refl
+same_kept bytes bytes' most place end (Some kept) h k e =
+    ap Some (same_before bytes bytes' end kept h.0 (omega arith) e)
 
--- A key is the same where its bytes were lent and given back with the first ones kept.
-pub key_given_back : (items lent given : List ℕ) (len : ℕ) (key : Option Span) (unparsed : Span)
-    (position : Position) →
-    lent ≡ items → length lent ≡ len → length given ≡ length lent → IsKeyBefore unparsed.start key →
-    unparsed.start ≤ unparsed.end →
-    take unparsed.end given ≡ take unparsed.end lent → option_map (part items) key ≡ position →
-    option_map (part (take len (given ++ drop (length given) items))) key ≡ position
-key_given_back items lent given len key unparsed position value size same before order kept is =
+-- Kept ones are the same where the bytes were lent and given back with the first ones as they were.
+pub kept_given_back : (items lent given : List ℕ) (most len : ℕ) (kept : Option Span)
+    (unparsed : Span) (are : Option (List ℕ)) →
+    lent ≡ items → length lent ≡ len → length given ≡ length lent →
+    IsKeptBefore most unparsed.start kept → unparsed.start ≤ unparsed.end →
+    take unparsed.end given ≡ take unparsed.end lent → option_map (part items) kept ≡ are →
+    option_map (part (take len (given ++ drop (length given) items))) kept ≡ are
+kept_given_back items lent given most len kept unparsed are value size same before order first is =
     let all : length items ≤ length given = omega (arith, ap length value) in
     let back : take len (given ++ drop (length given) items) ≡ given =
     ap (take len) (ap (λ xs. given ++ xs) (drop_all (length given) items all) ∙ append-nil given) ∙
     take_all len given (omega arith) in
-    ap (λ xs. option_map (part xs) key) back
-    ∙ (same_key lent given unparsed.start unparsed.end key before order kept ∙
-    (ap (λ xs. option_map (part xs) key) value ∙ is))
+    ap (λ xs. option_map (part xs) kept) back
+    ∙ (same_kept lent given most unparsed.start unparsed.end kept before order first
+    ∙ (ap (λ xs. option_map (part xs) kept) value ∙ is))
