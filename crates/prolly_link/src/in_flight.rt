@@ -48,6 +48,12 @@ impl InFlight {
         held == 0 || held.saturating_add(bytes) <= self.most.load(Ordering::SeqCst)
     }
 
+    /// Whether the large batches that are in flight have half of the bytes that they may have.
+    pub(crate) fn is_half_full(&self) -> bool {
+        let held = self.bytes.load(Ordering::SeqCst);
+        held >= self.most.load(Ordering::SeqCst) / 2
+    }
+
     /// Counts a batch of so many bytes no more, if it is large, and wakes the sender where it
     /// sleeps. For the receiver.
     pub(crate) fn remove(&self, patience: &Patience, bytes: usize) {

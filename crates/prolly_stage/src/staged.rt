@@ -36,6 +36,9 @@ pub(crate) fn give_up<T: Drop, I: In<T>, O: Out<ChunkEvent>, R: Wait>(
 }
 
 /// Sends an event. An `Err` has sent nothing.
+///
+/// Where the receiver is far behind, this takes the hash of the chunk, which the receiver would
+/// take else.
 pub fn send_event<O: Out<ChunkEvent>, R: Wait>(
     rt: &R,
     out: &mut O,
@@ -46,9 +49,20 @@ pub fn send_event<O: Out<ChunkEvent>, R: Wait>(
     ensures err { OnErr result (O.sent out.new ≡ O.sent out.old) }
 {
     let size = event.bytes().len();
-    match out.send_sized(rt, event, size) {
+    match out.send_sized(rt, prepared(event, out.is_ahead()), size) {
         Ok(()) => Ok(()),
         Err(_) => Err(AllocError),
+    }
+}
+
+/// The event as it is sent: with its reference where the sender has the time to take it.
+fn prepared(event: ChunkEvent, is_ahead: bool) -> ChunkEvent
+    ensures { result ≡ event }
+{
+    if is_ahead {
+        event.with_reference()
+    } else {
+        event
     }
 }
 

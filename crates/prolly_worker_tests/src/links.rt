@@ -218,6 +218,22 @@ fn a_link_has_the_room_that_was_asked_for(rt: HostRuntime) -> Result<(), Fail> {
     Ok(())
 }
 
+// A batch of 64 KiB is sent at once, and of four messages' bytes that is half.
+#[test]
+fn a_link_of_large_batches_is_half_full_by_their_bytes(rt: HostRuntime) -> Result<(), Fail> {
+    let (mut sender, mut receiver) = batch_link(rt.alloc(), 4, 2)?;
+    for (bytes, is_ahead) in [(65_535, false), (1, true)] {
+        if let Err(_) = sender.send_sized(&rt, 7_u32, bytes) {
+            rt.abort();
+        }
+        expect_eq(&rt, &sender.is_ahead(), &is_ahead);
+    }
+    receiver.recv(&rt);
+    expect_eq(&rt, &sender.is_ahead(), &false);
+    drop(receiver);
+    Ok(())
+}
+
 // The receiver comes to its longest naps before the sender begins.
 #[test]
 fn a_long_wait_ends(rt: HostRuntime) -> Result<(), Fail> {

@@ -201,8 +201,9 @@ impl<T: Drop> Out<T> for BatchSender<T> {
         BatchSender::send_sized(self, rt, item, bytes)
     }
 
+    // Of large batches half of the bytes are reached before half of the messages.
     fn is_ahead(&self) -> bool {
-        self.sender.is_ahead()
+        self.sender.is_ahead() || self.in_flight.is_half_full()
     }
 
     fn close<R: Wait>(self, rt: &R, end: End) -> ClosedBatch<T> {
