@@ -1,18 +1,17 @@
 -- The chunks of a file, followed from the first to the last.
-use Rattle.std.proofs.Common.{◌≡◌, ℕ, suc, ◌<◌, ◌^◌, List, [], ◌∷◌, ◌++◌, length, take, drop, Some, None}
+use Rattle.std.proofs.Common.{◌≡◌, ℕ, zero, suc, ◌<◌, ◌^◌, List, [], ◌∷◌, ◌++◌, length, take, drop, Some, None}
 use Rattle.std.proofs.Common.{◌+◌, ◌≤◌, Result, Ok, Err, get_or, map, refl, sym, ap, ◌∙◌, subst, arith, append-nil, inl, inr}
 use Rattle.std.proofs.Math.Logic.{⊎_map}
 use Rattle.std.proofs.Math.Seq.{drop-cons}
 use Rattle.std.specs.List.{AllByRecursion}
-use Rattle.std.specs.Prelude.{IfErr, MatchResult, OnOk}
+use Rattle.std.specs.Prelude.{IfErr, IfOk, MatchResult}
 use Rattle.std.proofs.lemmas.List.{length-append, take-append-drop, take_all, take_more}
 use Rattle.std.proofs.lemmas.List.Concat.{flat_map-append}
 use Rattle.prolly_entry.specs.Pair.{IsPair}
 use Rattle.prolly_entry.specs.declared.version.Version.{Version}
-use Rattle.prolly_entry.specs.lemmas.Lists.{all_append}
 use Rattle.prolly_entry.specs.Reference.{reference_of}
 use Rattle.prolly_check.specs.Chunks.{AreReferences}
-use Rattle.prolly_check.specs.Digests.{AreDigests}
+use Rattle.prolly_check.specs.Digests.{AreDigests, IsDigest}
 use Rattle.prolly_check.specs.Entries.{AreWhole}
 use Rattle.prolly_check.specs.FirstFault.{CompareAs, difference}
 use Rattle.prolly_check.specs.Follower.{EndsWith, Follows, IsOutOfPlace, PartsAt, PartsFrom, all_of}
@@ -24,7 +23,7 @@ use Rattle.prolly_check.specs.declared.verdict.follower.Follower.{Follower}
 use Rattle.prolly_check.specs.Verdict.{UnlessMemory}
 use Rattle.prolly_check.specs.declared.verdict.fault.CheckFault.TheVariants.{Memory, NotCanonical}
 use Rattle.prolly_check.proofs.ChunkSteps.{ends_as_difference, none_differs}
-use Rattle.prolly_check.proofs.FollowerSteps.{front_none, get_before, held_in, held_lawful}
+use Rattle.prolly_check.proofs.FollowerSteps.{front_none, get_before, held_in, whole_lawful}
 use Rattle.prolly_check.proofs.FollowerSteps.{parts_difference, take_before}
 use Rattle.prolly_check.proofs.OpenLevels.{all_sent}
 
@@ -38,13 +37,6 @@ parts_longer wanted read rest n p =
       are = p.are ∙ ap (λ cs. cs ++ p.tail) (sym (take_before read rest n within));
       other = λ more e. p.other more (e ∙ ap (λ c. c ∷ more) (get_before read rest n within));
     }
-
--- the pairs of whole chunks are lawful
-whole_lawful : (version : Version) (chunks : List (List ℕ)) → AreWhole version chunks →
-    AllByRecursion IsPair (held_in chunks)
-whole_lawful version [] w = tt
-whole_lawful version (c ∷ chunks) w = all_append IsPair (pairs_held c) (held_in chunks)
-    (held_lawful version c w.0) (whole_lawful version chunks w.1)
 
 -- where a chunk has pairs, so have it and the chunks behind it together
 pub held_from : (chunks : List (List ℕ)) (n : ℕ) → n < length chunks →
@@ -125,6 +117,14 @@ module _ (bits : ℕ) (version : Version) (chunks : List (List ℕ))
         rw (take_more chunks number [] within, there)
         (rw (cut, same, is) at (takes (take number chunks) count h))
 
+    -- the next chunk was taken
+    pub taken_next : (new : Follower) (chunk : List ℕ) → number < length chunks →
+        chunk ≡ get_or chunks number [] → number ≡ length (take number chunks) →
+        ((read : List (List ℕ)) → number ≡ length read → Follows read f →
+        Follows (read ++ chunk ∷ []) new) → Follows (take (number + 1) chunks) new
+    taken_next new chunk within there count takes =
+        rw (take_more chunks number [] within, sym there) (takes (take number chunks) count h)
+
     -- there is no next chunk
     pub ends_all : (count : ℕ) (result : Result (Unit {0}) CheckFault) → count ≡ length chunks →
         length chunks ≤ number → EndsWith f count result →
@@ -135,6 +135,26 @@ module _ (bits : ℕ) (version : Version) (chunks : List (List ℕ))
     ends_all count (Err fault) n past ends =
         ⊎_map (λ memory. memory) (ends_as_difference bits version chunks fault few)
         (rw (cut, same) at (ends chunks n (subst (λ cs. Follows cs f) (take_all number chunks past) h)))
+
+-- one digest more
+pub digest_more : (bits : ℕ) (chunks : List (List ℕ)) (digests : List ChunkDigest)
+    (digest : ChunkDigest) → ((k : ℕ) (other : ChunkDigest) → k < length digests →
+    IsDigest bits (get_or chunks k []) (get_or digests k other)) →
+    IsDigest bits (get_or chunks (length digests) []) digest → (k : ℕ) (other : ChunkDigest) →
+    k < length digests + 1 →
+    IsDigest bits (get_or chunks k []) (get_or (digests ++ digest ∷ []) k other)
+digest_more bits chunks digests digest = at_end (λ k. IsDigest bits (get_or chunks k [])) digests
+  where
+    at_end : (P : ℕ → ChunkDigest → Type 0) (ds : List ChunkDigest) →
+        ((k : ℕ) (other : ChunkDigest) → k < length ds → P k (get_or ds k other)) →
+        P (length ds) digest → (k : ℕ) (other : ChunkDigest) → k < length ds + 1 →
+        P k (get_or (ds ++ digest ∷ []) k other)
+    at_end P [] each here zero other h = here
+    at_end P [] each here (suc k) other h = absurd (omega arith)
+    at_end P (d ∷ ds) each here zero other h = each 0 other (omega arith)
+    at_end P (d ∷ ds) each here (suc k) other h =
+        at_end (λ n. P (suc n)) ds (λ n other h. each (suc n) other (omega arith)) here k other
+        (omega arith)
 
 -- the references of chunks are those of their digests
 pub digests_refer : (bits : ℕ) (chunks : List (List ℕ)) (digests : List ChunkDigest) →
@@ -152,12 +172,12 @@ digests_refer bits (c ∷ chunks) (d ∷ digests) are =
     }))
 
 -- a result with a clause of each kind
-pub ok_of : (P : Type 0) (Q : CheckFault → Type 0) (result : Result (Unit {0}) CheckFault) →
-    MatchResult result (λ done. P) Q → OnOk result P
+pub ok_of : {T E : Type 0} (P : T → Type 0) (Q : E → Type 0) (result : Result T E) →
+    MatchResult result P Q → IfOk result P
 ok_of P Q (Ok done) h = h
 ok_of P Q (Err fault) h = tt
 
-pub err_of : (P : Type 0) (Q : CheckFault → Type 0) (result : Result (Unit {0}) CheckFault) →
-    MatchResult result (λ done. P) Q → IfErr result Q
+pub err_of : {T E : Type 0} (P : T → Type 0) (Q : E → Type 0) (result : Result T E) →
+    MatchResult result P Q → IfErr result Q
 err_of P Q (Ok done) h = tt
 err_of P Q (Err fault) h = h

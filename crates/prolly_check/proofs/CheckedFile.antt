@@ -122,11 +122,11 @@ few_in_one version (suc level ∷ entries) w = omega arith
 
 -- the bytes of a chunk with pairs are those of the leaf of them
 pub leaf_bytes : (version : Version) (chunk : List ℕ) → IsWhole version chunk →
-    0 < length (pairs_held chunk) → chunk ≡ 0 ∷ flat_map pair_spelling (pairs_held chunk)
+    (pairs_held chunk ≡ [] → ⊥) → chunk ≡ 0 ∷ flat_map pair_spelling (pairs_held chunk)
 leaf_bytes version [] w some = absurd w.holds
 leaf_bytes version (zero ∷ entries) w some =
     ap (λ bytes. 0 ∷ bytes) (leaf_spelled entries (record { pairs = w.pairs; is = w.holds }))
-leaf_bytes version (suc level ∷ entries) w some = absurd (omega (arith, some))
+leaf_bytes version (suc level ∷ entries) w some = absurd (some refl)
 
 -- so it is the chunk of that leaf
 pub leaf_event_is : (version : Version) (chunk : List ℕ) (pairs : List Pair) (key : List ℕ)
@@ -148,7 +148,7 @@ leaf_event_is version chunk pairs key count w some are k n =
       key = last_key (pairs_held chunk);
       count = length (pairs_held chunk);
       bytes = bytes;
-    }) (leaf_bytes version chunk w some)
+    }) (leaf_bytes version chunk w (λ none. absurd (omega (arith, some, ap length none))))
 
 pub few_in_frames : (version : Version) (cs : List (List ℕ)) → AreWhole version cs →
     length (flat_map pairs_held cs) ≤ length (flat_map framed cs)

@@ -25,7 +25,7 @@ use Rattle.prolly_tree.specs.Chunk.{chunks as tree_chunks}
 use Rattle.prolly_tree.specs.File.{root_reference}
 use Rattle.prolly_tree.specs.lemmas.Splits.{flat}
 use Rattle.prolly_file.specs.Frame.{framed, has_no_frame, IsSmall}
-use Rattle.prolly_check.specs.ChunksRead.{AreRead, EndsAs, EndsChunks, HasFlaw, IsDecided}
+use Rattle.prolly_check.specs.ChunksRead.{AreRead, BodyRead, EndsAs, EndsChunks, HasFlaw, IsDecided}
 use Rattle.prolly_check.specs.Entries.{AreWhole, IsBad, IsWhole}
 use Rattle.prolly_check.specs.FirstFault.{chunk_bytes, difference, ending_for, last_behind}
 use Rattle.prolly_check.specs.FirstFault.{order_fault, rises_behind}
@@ -332,6 +332,19 @@ few_of version cs ds whole few =
     let sum = ap length (flat_map-append framed cs ds) ∙
     length-append (flat_map framed cs) (flat_map framed ds) in omega arith
 
+-- fewer chunks have fewer bytes
+pub few_part : (chunks taken : List (List ℕ)) (n : ℕ) →
+    length (flat_map framed (chunks ++ taken)) < 2 ^ 64 →
+    length (flat_map framed (chunks ++ take n taken)) < 2 ^ 64
+few_part chunks taken n few =
+    let e : chunks ++ taken ≡ (chunks ++ take n taken) ++ drop n taken =
+    ap (λ cs. chunks ++ cs) (sym (take-append-drop n taken)) ∙
+    sym (append_assoc chunks (take n taken) (drop n taken)) in
+    let sum = ap (λ cs. length (flat_map framed cs)) e ∙
+    ap length (flat_map-append framed (chunks ++ take n taken) (drop n taken)) ∙
+    length-append (flat_map framed (chunks ++ take n taken)) (flat_map framed (drop n taken)) in
+    omega arith
+
 -- ---- the chunks before a bad one
 
 chunks_front : (bytes : List ℕ) (spans : List (Range ℕ)) (n : ℕ) →
@@ -367,13 +380,7 @@ pub few_front : (chunks : List (List ℕ)) (bytes : List ℕ) (spans : List (Ran
     length (flat_map framed (chunks ++ chunks_in bytes spans)) < 2 ^ 64 →
     length (flat_map framed (chunks ++ chunks_in bytes (take n spans))) < 2 ^ 64
 few_front chunks bytes spans n few =
-    let front = chunks_in bytes (take n spans) in
-    let rest = drop n (chunks_in bytes spans) in
-    let e : chunks ++ chunks_in bytes spans ≡ (chunks ++ front) ++ rest =
-    ap (λ cs. chunks ++ cs) (sym (split_chunks bytes spans n)) ∙ sym (append_assoc chunks front rest) in
-    let sum = ap (λ cs. length (flat_map framed cs)) e ∙
-    ap length (flat_map-append framed (chunks ++ front) rest) ∙
-    length-append (flat_map framed (chunks ++ front)) (flat_map framed rest) in omega arith
+    rw (chunks_front bytes spans n) (few_part chunks (chunks_in bytes spans) n few)
 
 pub flaw_within : (read : ChunksRead) (chunks : List (List ℕ)) (bytes : List ℕ)
     (spans : List (Range ℕ)) (n : ℕ) (fault : CheckFault) →
@@ -423,19 +430,6 @@ take_next cs n h = ap (λ k. take k cs) (let e : n + 1 ≡ suc n = omega arith i
     go [] n h = absurd (omega arith)
     go (c ∷ cs) zero h = refl
     go (c ∷ cs) (suc n) h = ap (λ ds. c ∷ ds) (go cs n (omega arith))
-
--- so have fewer of them
-pub few_part : (chunks taken : List (List ℕ)) (n : ℕ) →
-    length (flat_map framed (chunks ++ taken)) < 2 ^ 64 →
-    length (flat_map framed (chunks ++ take n taken)) < 2 ^ 64
-few_part chunks taken n few =
-    let e : chunks ++ taken ≡ (chunks ++ take n taken) ++ drop n taken =
-    ap (λ cs. chunks ++ cs) (sym (take-append-drop n taken)) ∙
-    sym (append_assoc chunks (take n taken) (drop n taken)) in
-    let sum = ap (λ cs. length (flat_map framed cs)) e ∙
-    ap length (flat_map-append framed (chunks ++ take n taken) (drop n taken)) ∙
-    length-append (flat_map framed (chunks ++ take n taken)) (flat_map framed (drop n taken)) in
-    omega arith
 
 module _ (chunks taken : List (List ℕ)) (n : ℕ) (within : n < length taken) where
   abbrev so_far : List (List ℕ)
@@ -491,19 +485,6 @@ record_decided bytes rest more e (inr filled) =
 
 -- ---- the bytes behind a header
 
--- of the bytes these chunks were read, and these bytes are still to be looked at
-pub record BodyRead (body bytes left : List ℕ) (read : ChunksRead) (size : ℕ) : Type 0 where
-  pub chunks : List (List ℕ)
-  pub spelled : body ≡ flat_map framed chunks ++ (bytes ++ left)
-  pub small : AllByRecursion IsSmall chunks
-  pub are : AreRead chunks read
-  pub many : length (flat_map framed chunks) ≡ size
-
-pub body_begins : (bytes left : List ℕ) (read : ChunksRead) → AreRead [] read →
-    BodyRead (bytes ++ left) bytes left read 0
-body_begins bytes left read r =
-    record { chunks = []; spelled = refl; small = tt; are = r; many = refl }
-
 -- each frame has bytes
 pub few_spans : (bytes : List ℕ) (spans : List (Range ℕ)) (place : ℕ) →
     FramesTo bytes 0 spans place → length spans ≤ place
@@ -525,6 +506,24 @@ few_spans bytes spans place f =
         let one : length (framed c) ≡ 9 + length c =
         length-append (0x43 ∷ to_be_bytes w64 (length c)) c in omega arith
 
+pub no_frame_there : (bytes : List ℕ) (place : ℕ) → FramesTo bytes 0 [] place →
+    has_no_frame (drop place bytes) ≡ true → has_no_frame bytes ≡ true
+no_frame_there bytes place f none = ap has_no_frame f.spelled ∙ none
+
+-- so many bytes the frames have with those at hand
+body_many : (body bytes left : List ℕ) (old : ChunksRead) (size : ℕ) (spans : List (Range ℕ))
+    (place : ℕ) (b : BodyRead body bytes left old size) → FramesTo bytes 0 spans place →
+    length (flat_map framed (b.chunks ++ chunks_in bytes spans)) ≡ size + place
+body_many body bytes left old size spans place b f =
+    let taken = chunks_in bytes spans in
+    let sum = ap length f.spelled ∙ length-append (flat_map framed taken) (drop place bytes) in
+    let reached = f.reached in
+    let rest : length (drop place bytes) ≡ length bytes - place = length-drop place bytes in
+    let here : length (flat_map framed taken) ≡ place = omega arith in
+    ap length (flat_map-append framed b.chunks taken) ∙
+    length-append (flat_map framed b.chunks) (flat_map framed taken) ∙
+    ap (λ n. n + length (flat_map framed taken)) b.many ∙ ap (λ n. size + n) here
+
 -- the frames at hand were taken
 pub body_goes_on : (body bytes left : List ℕ) (old new : ChunksRead) (size : ℕ)
     (spans : List (Range ℕ)) (place : ℕ) → BodyRead body bytes left old size →
@@ -535,14 +534,7 @@ pub body_goes_on : (body bytes left : List ℕ) (old new : ChunksRead) (size : �
     BodyRead body (drop place bytes) left new (size + place)
 body_goes_on body bytes left old new size spans place b f over fits =
     let taken = chunks_in bytes spans in
-    let sum = ap length f.spelled ∙ length-append (flat_map framed taken) (drop place bytes) in
-    let reached = f.reached in
-    let rest : length (drop place bytes) ≡ length bytes - place = length-drop place bytes in
-    let here : length (flat_map framed taken) ≡ place = omega arith in
-    let many : length (flat_map framed (b.chunks ++ taken)) ≡ size + place =
-    ap length (flat_map-append framed b.chunks taken) ∙
-    length-append (flat_map framed b.chunks) (flat_map framed taken) ∙
-    ap (λ n. n + length (flat_map framed taken)) b.many ∙ ap (λ n. size + n) here in
+    let many = body_many body bytes left old size spans place b f in
     record {
       chunks = b.chunks ++ taken;
       spelled = b.spelled ∙ ap (λ bs. flat_map framed b.chunks ++ (bs ++ left)) f.spelled ∙
@@ -579,20 +571,8 @@ pub body_flaw : (body bytes left : List ℕ) (old : ChunksRead) (size : ℕ) (sp
 body_flaw body bytes left old size spans place fault b f fits over =
     go (over b.chunks b.are (omega (arith, many)))
   where
-    taken : List (List ℕ)
-    taken = chunks_in bytes spans
-
     many : length (flat_map framed (b.chunks ++ chunks_in bytes spans)) ≡ size + place
-    many =
-        let sum = ap length f.spelled ∙
-        length-append (flat_map framed (chunks_in bytes spans)) (drop place bytes) in
-        let reached = f.reached in
-        let rest : length (drop place bytes) ≡ length bytes - place = length-drop place bytes in
-        let here : length (flat_map framed (chunks_in bytes spans)) ≡ place = omega arith in
-        ap length (flat_map-append framed b.chunks (chunks_in bytes spans)) ∙
-        length-append (flat_map framed b.chunks) (flat_map framed (chunks_in bytes spans)) ∙
-        ap (λ n. n + length (flat_map framed (chunks_in bytes spans))) b.many ∙
-        ap (λ n. size + n) here
+    many = body_many body bytes left old size spans place b f
 
     go : UnlessMemory (HasFlaw old b.chunks (chunks_in bytes spans)) fault →
         IsBodyFault old.follower.version old.follower.cut body fault
@@ -646,20 +626,18 @@ no_frame_more (b ∷ bytes) left none (inr filled) =
     rw other refl
 
 -- the verdict, where no frame is left
-pub body_ends : (body bytes left : List ℕ) (read : ChunksRead) (size : ℕ) (place : ℕ)
+pub body_ends : (body bytes left : List ℕ) (read : ChunksRead) (size : ℕ)
     (result : Result (ℕ × Ref) CheckFault) → BodyRead body bytes left read size → size < 2 ^ 64 →
-    FramesTo bytes 0 [] place → has_no_frame (drop place bytes) ≡ true → IsDecided bytes left →
-    EndsChunks read bytes result →
+    has_no_frame bytes ≡ true → IsDecided bytes left → EndsChunks read bytes result →
     IsBodyVerdict read.follower.version read.follower.cut body result
-body_ends body bytes left read size place result b fits f none decided ends =
+body_ends body bytes left read size result b fits none decided ends =
     let held : length (held_in b.chunks) < 2 ^ 64 =
     (let fewer = few_in_frames read.follower.version b.chunks b.are.whole in omega (arith, b.many)) in
-    let whole : has_no_frame bytes ≡ true = ap has_no_frame f.spelled ∙ none in
     go result (ends b.chunks left b.are held decided) (record {
       spelled = b.spelled;
       small = b.small;
       may = may_begin read b.chunks b.are held;
-    }) (no_frame_more bytes left whole decided)
+    }) (no_frame_more bytes left none decided)
   where
     go : (result : Result (ℕ × Ref) CheckFault) →
         EndsAs read.follower b.chunks (flaw_at_end read.follower.version read.follower.cut b.chunks

@@ -15,7 +15,8 @@ use Rattle.prolly_laws.specs.Splits.{closed_parts}
 use Rattle.prolly_chunk.specs.LeafLevel.{LeafState, LeafBegins, LeafEnds}
 use Rattle.prolly_tree.specs.Pipeline.{pipeline_events}
 use Rattle.prolly_chunk.specs.NodeLevel.{NodeState, NodeTakes, NodeEnds, node_level}
-use Rattle.prolly_check.specs.Follower.{PassedOn, PassesOn, ClosesAll, ClosesBehind, AllWhole}
+use Rattle.prolly_check.specs.Follower.{PassedOn, PassesOn, ClosedPasses, ClosesAll, ClosesBehind}
+use Rattle.prolly_check.specs.Follower.{AllWhole}
 use Rattle.prolly_check.specs.Follower.{all_of, leaf_chunks, sent_of_leaves}
 use Rattle.prolly_check.specs.HeldPairs.{bytes_in}
 use Rattle.prolly_check.specs.OpenLevels.{AreBehind, AreBelow, node_levels, sent_through}
@@ -25,12 +26,6 @@ use Rattle.prolly_check.proofs.OpenLevels.{behind_on, sent_on, closed_below, end
 use Rattle.prolly_check.proofs.OpenLevels.{sent_first, sent_prefix}
 
 -- ---- an event on its way
-
--- What a level closes, if it closes a node, passes those above.
-abbrev pub ClosedPasses : List (NodeState ℕ) → List (NodeState ℕ) → Option Chunk → List (List ℕ) →
-    List (List ℕ) → Type 0
-ClosedPasses old new None before after = (new ≡ old) × (after ≡ before)
-ClosedPasses old new (Some closed) before after = PassesOn old new closed before after
 
 -- one event more leaves the last level
 one_sent : (gone before : List (List ℕ)) (sent : List Chunk) (event : Chunk) →
@@ -104,9 +99,11 @@ one_above event before after state state' above above' closed takes passes bits 
     (closed_below (sha512_cut bits) version level events event closed sends)
 
 -- what is due stands behind what was due before
-pub passes_behind : (old new : List (NodeState ℕ)) (event : Chunk) (front before after : List (List ℕ)) →
-    PassesOn old new event before after → PassesOn old new event (front ++ before) (front ++ after)
-passes_behind old new event front before after p bits version level events low behind =
+pub passes_behind : (old new : List (NodeState ℕ)) (closed : Option Chunk)
+    (front before after : List (List ℕ)) → ClosedPasses old new closed before after →
+    ClosedPasses old new closed (front ++ before) (front ++ after)
+passes_behind old new None front before after p = (p.0, ap (λ cs. front ++ cs) p.1)
+passes_behind old new (Some event) front before after p = λ bits version level events low behind.
     let q = p bits version level events low behind in record {
       behind = q.behind;
       sent = λ gone e. sym (append_assoc gone front after) ∙
@@ -114,12 +111,6 @@ passes_behind old new event front before after p bits version level events low b
     }
 
 -- ---- closing the levels
-
--- none is left
-pub all_closed : (due : List (List ℕ)) → ClosesAll [] due due
-all_closed due bits version pairs level count behind gone e =
-    let same : level ≡ node_levels = omega (arith, count) in
-    e ∙ ap (λ n. bytes_in (pipeline_events n (sha512_cut bits) version clean pairs)) same
 
 -- the lowest one is closed, what it sends passes the others, and then they are closed
 module _ (state : NodeState ℕ) (rest rest' : List (NodeState ℕ))

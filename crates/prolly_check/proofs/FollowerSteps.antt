@@ -24,7 +24,7 @@ use Rattle.prolly_tree.specs.lemmas.Splits.{flat}
 use Rattle.prolly_laws.specs.Splits.{split_splits}
 use Rattle.prolly_chunk.specs.LeafLevel.{is_whole_leaf}
 use Rattle.prolly_chunk.specs.NodeLevel.{NodeState}
-use Rattle.prolly_check.specs.Entries.{IsWhole}
+use Rattle.prolly_check.specs.Entries.{AreWhole, IsWhole}
 use Rattle.prolly_check.specs.FirstFault.{difference}
 use Rattle.prolly_check.specs.Follower.{AllWhole, leaf_chunks, sent_of_leaves, all_of, IsGoing}
 use Rattle.prolly_check.specs.Follower.{IsEnding, IsOutOfPlace, PassesOn, Follows, FollowsIn}
@@ -36,6 +36,7 @@ use Rattle.prolly_check.specs.Verdict.{UnlessMemory}
 use Rattle.prolly_check.specs.declared.verdict.follower.Follower.{Follower}
 use Rattle.prolly_check.specs.declared.verdict.fault.CheckFault.{CheckFault}
 use Rattle.prolly_check.specs.declared.verdict.fault.CheckFault.TheVariants.{NotCanonical}
+use Rattle.prolly_check.proofs.CheckedFile.{leaf_bytes}
 use Rattle.prolly_check.proofs.EntryLists.{leaf_pairs}
 use Rattle.prolly_check.proofs.HeldPairs.{bytes_append}
 use Rattle.prolly_check.proofs.NextLeaf.{held_all, held_leaves, held_sent, leaf_follows, sent_begins}
@@ -85,14 +86,12 @@ held_lawful version (zero ∷ entries) w =
     subst (AllByRecursion IsPair) (sym (leaf_pairs entries w.pairs w.holds)) w.holds.lawful
 held_lawful version (suc level ∷ entries) w = tt
 
--- a whole chunk with pairs is their leaf
-pub leaf_bytes : (version : Version) (chunk : List ℕ) → IsWhole version chunk →
-    (pairs_held chunk ≡ [] → ⊥) → chunk ≡ 0 ∷ flat_map pair_spelling (pairs_held chunk)
-leaf_bytes version [] w some = absurd w.holds
-leaf_bytes version (zero ∷ entries) w some =
-    ap (λ es. 0 ∷ es) (w.holds.is ∙
-    ap (flat_map pair_spelling) (sym (leaf_pairs entries w.pairs w.holds)))
-leaf_bytes version (suc level ∷ entries) w some = absurd (some refl)
+-- so are those of whole chunks
+pub whole_lawful : (version : Version) (chunks : List (List ℕ)) → AreWhole version chunks →
+    AllByRecursion IsPair (held_in chunks)
+whole_lawful version [] w = tt
+whole_lawful version (c ∷ chunks) w = all_append IsPair (pairs_held c) (held_in chunks)
+    (held_lawful version c w.0) (whole_lawful version chunks w.1)
 
 take_front : (read rest : List (List ℕ)) → take (length read) (read ++ rest) ≡ read
 take_front [] rest = refl

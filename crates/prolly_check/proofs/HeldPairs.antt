@@ -221,11 +221,3 @@ module _ (version : Version) (bytes : List ℕ) (spans : List (Range ℕ)) (n : 
       length-take n spans,
     ));
   }
-
--- a chunk that is there among whole ones is whole
-pub whole_there : (version : Version) (chunks seen : List (List ℕ)) (number : ℕ)
-    (chunk : List ℕ) → AreWhole version chunks → chunks ≡ seen → number < length seen →
-    chunk ≡ get_or seen number [] → IsWhole version chunk
-whole_there version chunks seen number chunk whole are within is =
-    subst (IsWhole version) (ap (λ cs. get_or cs number []) are ∙ sym is)
-    (each_whole version chunks number whole (subst (λ cs. number < length cs) (sym are) within))

@@ -38,5 +38,7 @@ pub mod FollowerSteps
 pub mod Canonical
 -- The chunks of a file that were read so far, one after another.
 pub mod ChunkSteps
+-- What reads leave of a source.
+pub mod Sources
 -- What the bytes behind a header tell of the file of a map.
 pub mod MapFiles

@@ -2,7 +2,7 @@
 use Rattle.std.proofs.Common.{rules, ◌≡◌, ◌⊎◌, ℕ, zero, suc, ◌<◌, ◌≤◌, ◌^◌, Bool, true}
 use Rattle.std.proofs.Common.{false, List, [], ◌∷◌, ◌++◌, length, map, take, drop}
 use Rattle.std.proofs.Common.{Some, None, inl, inr, refl, sym, ap, ◌∙◌, subst, arith, cond, nat_lt}
-use Rattle.std.proofs.Common.{append_assoc, append-nil, not, ◌==◌, ◌&&◌}
+use Rattle.std.proofs.Common.{append_assoc, append-nil, not, ◌==◌, ◌&&◌, ◌-◌, get_or}
 use Rattle.std.specs.List.{flat_map, AllByRecursion}
 use Rattle.std.specs.Prelude.{slice_index}
 use Rattle.std.specs.Str.{bytes_eq}
@@ -11,8 +11,9 @@ use Rattle.std.proofs.lemmas.List.{length-append, length-drop, map-append, take_
 use Rattle.std.proofs.lemmas.List.Concat.{flat_map-append}
 use Rattle.std.proofs.lemmas.Slice.Eq.{bytes_eq-Decides}
 use Rattle.prolly_entry.specs.Cut.{sha512_cut}
-use Rattle.prolly_entry.specs.Pair.{Pair, IsPair}
+use Rattle.prolly_entry.specs.Pair.{Pair}
 use Rattle.prolly_entry.specs.Prefix.{IsPrefix}
+use Rattle.prolly_entry.specs.Reference.{reference_of}
 use Rattle.prolly_entry.specs.declared.version.Version.{Version}
 use Rattle.prolly_entry.specs.declared.version.Version.TheVariants.{One, Two}
 use Rattle.prolly_entry.specs.lemmas.Lists.{all_append, all_back}
@@ -30,11 +31,12 @@ use Rattle.prolly_check.specs.FirstFault.{rises_behind}
 use Rattle.prolly_check.specs.FirstFlaw.{IsBodyFault, IsBodyFlaw, IsFlawBehind, IsGoodBody}
 use Rattle.prolly_check.specs.FirstFlaw.{IsMapFile, IsStreamFault, end_flaw, flaw_at_end}
 use Rattle.prolly_check.specs.HeldPairs.{pairs_held}
+use Rattle.prolly_check.specs.declared.stream.fault.StreamFault.{StreamFault}
 use Rattle.prolly_check.specs.declared.stream.fault.StreamFault.TheVariants as stream
 use Rattle.prolly_check.specs.declared.verdict.fault.CheckFault.{CheckFault}
 use Rattle.prolly_check.specs.declared.verdict.fault.CheckFault.TheVariants as faults
-use Rattle.prolly_check.proofs.CheckedFile.{few_in_frames}
-use Rattle.prolly_check.proofs.FollowerSteps.{held_in, held_lawful}
+use Rattle.prolly_check.proofs.CheckedFile.{chunks_last, few_in_frames}
+use Rattle.prolly_check.proofs.FollowerSteps.{held_in, whole_lawful}
 use Rattle.prolly_check.proofs.HeldPairs.{flat_held, map_holds}
 use Rattle.prolly_check.proofs.OneVerdict.{framed_one}
 use Rattle.prolly_check.proofs.RisingKeys.{rises_append, rising_is}
@@ -88,13 +90,6 @@ right_end version bits chunks (b ∷ rest) e =
 
     eqb_is : (n m : ℕ) → (n == m) ≡ true → n ≡ m
     eqb_is n m e = search rules
-
-whole_lawful : (version : Version) (chunks : List (List ℕ)) → AreWhole version chunks →
-    AllByRecursion IsPair (held_in chunks)
-whole_lawful version [] h = tt
-whole_lawful version (c ∷ chunks) h =
-    all_append IsPair (pairs_held c) (held_in chunks) (held_lawful version c h.0)
-    (whole_lawful version chunks h.1)
 
 -- What is known of a file whose body is good.
 pub record GoodFile (bytes : List ℕ) (version : Version) (bits count : ℕ) (root : List ℕ) : Type 0
@@ -290,17 +285,46 @@ module _ (bytes : List ℕ) (content : Content) (f : IsMapFile bytes content)
       no_frame_at_end (sym ends.read.spelled ∙ body) in
       absurd (cc (sym (right_at_end ends.chunks ends.rest same.chunks same.tail) ∙ ends.is))
 
-  -- its root is that of its chunks
-  pub good_root : (count : ℕ) (root : List ℕ) →
-      IsGoodBody content.version content.bits (drop 6 bytes) count root →
-      root ≡ root_reference (sha512_cut content.bits) content.version content.pairs
-  good_root count root g =
-      let holds = map_holds content.version content.bits content.pairs f.lawful in
-      let end = right_end content.version content.bits g.chunks g.rest g.right in
-      let same = framed_one g.chunks all_chunks g.rest ending g.read.small smalls
-      (ap has_no_frame end.is) no_frame_at_end (sym g.read.spelled ∙ body) in
-      g.root_is ∙ ap (root_reference (sha512_cut content.bits) content.version)
-      (ap held_in same.chunks ∙ holds.are)
+  body_fault : (fault : CheckFault) → IsBodyFault content.version content.bits (drop 6 bytes) fault →
+      (stream.Check fault ≡ stream.Check faults.Memory) ⊎
+      (stream.Check fault ≡ stream.Check faults.Read)
+  body_fault fault (inl memory) = inl (ap stream.Check memory)
+  body_fault fault (inr (inl read)) = inr (ap stream.Check read)
+  body_fault fault (inr (inr (inl long))) =
+      let many = long.1 in
+      let fewer = length-drop 6 bytes in absurd (omega arith)
+  body_fault fault (inr (inr (inr flaw))) = absurd (no_body_flaw fault flaw)
+
+-- a file has one root
+one_root : (bytes : List ℕ) (a b : Content) → IsMapFile bytes a → IsMapFile bytes b →
+    length bytes < 2 ^ 64 → root_reference (sha512_cut a.bits) a.version a.pairs ≡
+    root_reference (sha512_cut b.bits) b.version b.pairs
+one_root bytes a b f g short =
+    let same = framed_one (all_chunks bytes a f short) (all_chunks bytes b g short)
+    (ending bytes a f short) (ending bytes b g short) (smalls bytes a f short) (smalls bytes b g short)
+    refl refl (sym (body bytes a f short) ∙ body bytes b g short) in
+    ap reference_of (sym (chunks_last a.version a.bits a.pairs)) ∙
+    ap (λ cs. reference_of (get_or cs (length cs - 1) [])) same.chunks ∙
+    ap reference_of (chunks_last b.version b.bits b.pairs)
+
+-- so by its root it is not refused
+pub no_stream_fault : (bytes : List ℕ) (content : Content) (f : IsMapFile bytes content)
+    (short : length bytes < 2 ^ 64) (version : Version) (same : content.version ≡ version)
+    (root : List ℕ) → root_reference (sha512_cut content.bits) content.version content.pairs ≡ root →
+    (fault : StreamFault) → IsStreamFault version root bytes fault →
+    (fault ≡ stream.Check faults.Memory) ⊎ (fault ≡ stream.Check faults.Read)
+no_stream_fault bytes content f short version same root is (stream.Check fault) (inl memory) =
+    inl (ap stream.Check memory)
+no_stream_fault bytes content f short version same root is (stream.Check fault) (inr (inl read)) =
+    inr (ap stream.Check read)
+no_stream_fault bytes content f short version same root is (stream.Check fault) (inr (inr flaw)) =
+    let h = rw (no_header_flaw bytes content f short) at flaw in
+    body_fault bytes content f short fault (rw (same, sym (its_bits bytes content f short)) h.1)
+no_stream_fault bytes content f short version same root is stream.Version h =
+    absurd (h.1 (its_version bytes content f short ∙ same))
+no_stream_fault bytes content f short version same root is stream.OtherRoot h =
+    absurd (h.other (ap (λ v. root_reference (sha512_cut h.content.bits) v h.content.pairs)
+    (sym h.same) ∙ one_root bytes h.content content h.file f short ∙ is))
 
 -- ---- of bytes that came in two parts
 
@@ -356,26 +380,3 @@ module _ (all bytes left : List ℕ) (e : all ≡ bytes ++ left) (room : 6 ≤ l
     good_body count root g =
         rw (sym is_version, sym is_bits) (good_file all count root (header_of none)
         (rw (is_version, is_bits, body_of) g))
-
-    module _ (content : Content) (f : IsMapFile all content) (short : length all < 2 ^ 64)
-        (same : content.version ≡ version) where
-      same_bits : content.bits ≡ bits
-      same_bits = sym (its_bits all content f short) ∙ is_bits
-
-      pub lawful_body : (fault : CheckFault) → IsBodyFault version bits (drop 6 bytes ++ left) fault →
-          (stream.Check fault ≡ stream.Check faults.Memory) ⊎
-          (stream.Check fault ≡ stream.Check faults.Read)
-      lawful_body fault (inl memory) = inl (ap stream.Check memory)
-      lawful_body fault (inr (inl read)) = inr (ap stream.Check read)
-      lawful_body fault (inr (inr (inl long))) =
-          let many = long.1 in
-          let size = ap length body_of in
-          let whole = length-drop 6 all in absurd (omega arith)
-      lawful_body fault (inr (inr (inr flaw))) =
-          absurd (no_body_flaw all content f short fault (rw (same, same_bits, body_of) flaw))
-
-      pub lawful_root : (count : ℕ) (root : List ℕ) →
-          IsGoodBody version bits (drop 6 bytes ++ left) count root →
-          root ≡ root_reference (sha512_cut content.bits) content.version content.pairs
-      lawful_root count root g = good_root all content f short count root
-          (rw (same, same_bits, body_of) g)

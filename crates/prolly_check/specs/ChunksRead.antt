@@ -1,5 +1,5 @@
 -- What is kept of the chunks of a file that were read so far.
-use Rattle.std.specs.List.{flat_map}
+use Rattle.std.specs.List.{flat_map, AllByRecursion}
 use Rattle.std.specs.Option.{option_map}
 use Rattle.std.specs.Prelude.{◌≡◌, ◌⊎◌, ℕ, ◌-◌, ◌^◌, ◌<◌, ◌≤◌, List, [], ◌∷◌, ◌++◌, length, map}
 use Rattle.std.specs.Prelude.{get_or, Option, Some, None, Result, MatchResult}
@@ -7,7 +7,7 @@ use Rattle.prolly_entry.specs.Cut.{sha512_cut}
 use Rattle.prolly_entry.specs.Reference.{reference_of}
 use Rattle.prolly_entry.specs.declared.reference.Ref.{Ref}
 use Rattle.prolly_tree.specs.File.{root_reference}
-use Rattle.prolly_file.specs.Frame.{framed}
+use Rattle.prolly_file.specs.Frame.{framed, IsSmall}
 use Rattle.prolly_check.specs.Entries.{AreWhole}
 use Rattle.prolly_check.specs.FirstFault.{last_behind, order_fault}
 use Rattle.prolly_check.specs.FirstFlaw.{IsFlawBehind, MayBegin, flaw_at_end, record_flaw}
@@ -54,6 +54,15 @@ GoesOver old new taken result = (chunks : List (List ℕ)) → AreRead chunks ol
     length (flat_map framed (chunks ++ taken)) < 2 ^ 64 →
     MatchResult result (λ done. AreRead (chunks ++ taken) new)
     (UnlessMemory (HasFlaw old chunks taken))
+
+-- Of the bytes behind a header these chunks were read, whose frames have this size, and these bytes
+-- are still to be looked at; the others are left.
+pub record BodyRead (body bytes left : List ℕ) (read : ChunksRead) (size : ℕ) : Type 0 where
+  pub chunks : List (List ℕ)
+  pub spelled : body ≡ flat_map framed chunks ++ (bytes ++ left)
+  pub small : AllByRecursion IsSmall chunks
+  pub are : AreRead chunks read
+  pub many : length (flat_map framed chunks) ≡ size
 
 -- ---- the end
 

@@ -176,3 +176,8 @@ IsStreamFault version root bytes (stream.Check fault) = (fault ≡ Memory) ⊎ (
 IsStreamFault version root bytes stream.Version = (header_fault header_tests bytes ≡ None) ×
     (version_of (slice_index bytes 4) ≢ version)
 IsStreamFault version root bytes stream.OtherRoot = HasOtherRoot version root bytes
+
+-- Whether bytes are the file of the tree of this version and root.
+abbrev pub IsRootVerdict : Version → List ℕ → List ℕ → Result RootReport StreamFault → Type 0
+IsRootVerdict version root bytes result = MatchResult result (IsFileOfRoot version root bytes)
+    (IsStreamFault version root bytes)

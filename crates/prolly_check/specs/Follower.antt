@@ -159,6 +159,12 @@ PassesOn old new event before after = (bits : ℕ) (version : Version) (level : 
     (events : List Chunk) → event.level < level → AreBehind bits version level old events →
     PassedOn bits version level old new events event before after
 
+-- What a level closes, if it closes a node, passes those above.
+abbrev pub ClosedPasses : List (NodeState ℕ) → List (NodeState ℕ) → Option Chunk → List (List ℕ) →
+    List (List ℕ) → Type 0
+ClosedPasses old new None before after = (new ≡ old) × (after ≡ before)
+ClosedPasses old new (Some closed) before after = PassesOn old new closed before after
+
 -- The levels, from this one on, took all events that there are, and were closed one after another;
 -- what leaves the last one is due.
 abbrev pub ClosesAll : List (NodeState ℕ) → List (List ℕ) → List (List ℕ) → Type 0

@@ -1,20 +1,24 @@
 //! The chunks of a file that were read so far.
-ghost use Rattle.std.specs.Prelude.{◌≡◌, ◌≢◌, ◌<◌, ◌^◌, ◌+◌, [], true, length, get_or, IfErr, IfOk};
-ghost use Rattle.std.specs.Prelude.{OnOk};
+ghost use Rattle.std.specs.Prelude.{◌≡◌, ◌≢◌, ◌<◌, ◌≤◌, ◌^◌, ◌+◌, ℕ, List, [], true, false, length};
+ghost use Rattle.std.specs.Prelude.{get_or, IfErr, IfOk, OnOk, MatchResult};
 ghost use Rattle.std.specs.List.{AllByRecursion};
 ghost use Rattle.std.specs.Option.{option_map};
-ghost use Rattle.prolly_check.specs.ChunksRead.{AreRead, EndsChunks, EndsRecord, GoesOver};
+ghost use Rattle.prolly_file.specs.Frame.{has_no_frame};
+ghost use Rattle.prolly_check.specs.ChunksRead.{AreRead, BodyRead, EndsChunks, EndsRecord, GoesOver};
 ghost use Rattle.prolly_check.specs.ChunksRead.{TakesChunk};
 ghost use Rattle.prolly_check.specs.Digests.{AreDigests, IsDigest};
 ghost use Rattle.prolly_check.specs.Entries.{AreWhole, IsWhole};
 ghost use Rattle.prolly_check.specs.Frames.{IsWithin, chunks_in};
 ghost use Rattle.prolly_check.specs.FirstFault.{last_behind, rises_behind};
+ghost use Rattle.prolly_check.specs.FirstFlaw.{IsBodyFault};
 ghost use Rattle.prolly_check.specs.Follower.{IsAlike};
 ghost use Rattle.prolly_check.specs.HeldPairs.{pairs_held};
 
 use crate::entries::{Pairs, pairs_of};
+use crate::stream::incoming::let_go;
 use crate::verdict::{
-    CheckFault, ChunkDigest, ChunkHasher, ChunksAhead, Follower, chunk_at, last_in, test_chunks,
+    CheckFault, ChunkDigest, ChunkHasher, ChunksAhead, Follower, chunk_at, find_frames, last_in,
+    test_chunks,
 };
 use prolly_entry::{Ref, Sha512Cut, Version};
 use prolly_file::{END_LETTER, END_SIZE, FRAME_LETTER, end_record};
@@ -51,7 +55,7 @@ impl ChunksRead {
 
     /// Takes the next chunk, which was tested and hashed, or tells its flaw. After an `Err` this is
     /// of no use.
-    pub(crate) fn take(
+    fn take(
         &mut self,
         alloc: Global,
         chunk: &[u8],
@@ -76,11 +80,46 @@ impl ChunksRead {
         Ok(())
     }
 
+    /// Takes the chunks whose whole frames begin these bytes, and lets the frames go. Answers whether
+    /// there are some. `size` is the size of all frames that were taken.
+    pub(crate) fn take_frames<H: ChunkHasher>(
+        &mut self,
+        hasher: &H,
+        alloc: Global,
+        bytes: &mut Vec<u8>,
+        size: &mut u64,
+    ) -> Result<bool, CheckFault>
+        requires can { H.can_hash hasher.now }
+        requires few { (self.old.count ≤ size.old) × (size.old < 2 ^ 64) }
+        ensures takes { (body left : List ℕ) →
+            BodyRead body bytes.old.items left self.old size.old → MatchResult result
+            (λ some. BodyRead body bytes.new.items left self.new size.new)
+            (IsBodyFault self.old.follower.version self.old.follower.cut body) }
+        ensures few { OnOk result ((self.new.count ≤ size.new) × (size.new < 2 ^ 64)) }
+        ensures some { IfOk result (λ some. some ≡ true → size.old < size.new) }
+        ensures none { IfOk result (λ some. some ≡ false →
+            (bytes.new.items ≡ bytes.old.items) × (has_no_frame bytes.new.items ≡ true)) }
+        ensures unread { IfErr result (λ fault. fault ≢ CheckFault.Read) }
+        ensures alike { IsAlike self.old.follower self.new.follower }
+    {
+        let frames = find_frames(alloc, bytes, 0)?;
+        if frames.spans.len() == 0 {
+            return Ok(false);
+        }
+        let Some(sum) = size.checked_add(frames.end as u64) else {
+            return Err(CheckFault::TooLong);
+        };
+        *size = sum;
+        self.go_over(hasher, alloc, bytes, &frames.spans)?;
+        let_go(bytes, frames.end);
+        Ok(true)
+    }
+
     /// Takes the chunks that lie there, up to the first that has a flaw.
     ///
     /// Takes a hash of each chunk, and of a leaf one of each pair up to its first boundary, which
     /// `hasher` takes of all of them before the first one is looked at.
-    pub(crate) fn go_over<H: ChunkHasher>(
+    fn go_over<H: ChunkHasher>(
         &mut self,
         hasher: &H,
         alloc: Global,
@@ -124,8 +163,29 @@ impl ChunksRead {
     {
         let (cut, version) = (self.follower.cut, self.follower.version);
         let digests = hasher.digests(alloc, cut, version, bytes, spans)?;
+        self.take_hashed(alloc, bytes, spans, &digests)
+    }
+
+    /// Takes the chunks that lie there, which were tested and hashed.
+    fn take_hashed(
+        &mut self,
+        alloc: Global,
+        bytes: &[u8],
+        spans: &[Range<usize>],
+        digests: &[ChunkDigest],
+    ) -> Result<(), CheckFault>
+        requires within { AllByRecursion (IsWithin bytes.now) spans.now }
+        requires whole { AreWhole self.old.follower.version (chunks_in bytes.now spans.now) }
+        requires digests { AreDigests self.old.follower.cut (chunks_in bytes.now spans.now)
+            digests.now }
+        requires few { self.old.count + length spans.now < 2 ^ 64 }
+        ensures over { GoesOver self.old self.new (chunks_in bytes.now spans.now) result }
+        ensures unread { IfErr result (λ fault. fault ≢ CheckFault.Read) }
+        ensures alike { IsAlike self.old.follower self.new.follower }
+        ensures count { OnOk result (self.new.count ≡ self.old.count + length spans.now) }
+    {
         for number in 0..spans.len() {
-            self.take_one(alloc, bytes, spans, &digests, number)?;
+            self.take_one(alloc, bytes, spans, digests, number)?;
         }
         Ok(())
     }

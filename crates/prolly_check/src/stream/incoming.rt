@@ -1,7 +1,7 @@
 //! The bytes of a source as they come.
-ghost use Rattle.std.specs.Prelude.{◌≡◌, ◌≢◌, ◌↔◌, ◌⊎◌, ◌++◌, [], true, false, IfErr, IfOk, IsErrOf};
+ghost use Rattle.std.specs.Prelude.{◌≡◌, ◌⊎◌, ◌≤◌, ◌++◌, [], true, false, drop, vec_len, IfErr, IfOk};
 ghost use Rattle.std.specs.Prelude.{OnOk};
-ghost use Rattle.prolly_check.specs.Incoming.{IsFilled};
+ghost use Rattle.prolly_check.specs.Incoming.{IsFilled, Reads};
 
 use crate::entries::CHUNK_LIMIT;
 use crate::verdict::CheckFault;
@@ -29,14 +29,8 @@ pub(crate) fn fill<S: Source>(
     ensures over { (S.seen source.old).is_honest ≡ true →
         IfOk result (λ is_over. is_over ≡ true → (S.seen source.new).left ≡ []) }
     ensures filled { IfOk result (λ is_over. is_over ≡ false → IsFilled bytes.new.items) }
-    ensures read { IsErrOf result CheckFault.Read ↔ ((S.seen source.new).failures ≢ (S.seen
-        source.old).failures) }
-    ensures unfailed { OnOk result ((S.seen source.new).failures ≡ (S.seen source.old).failures) }
     ensures only { IfErr result (λ fault. (fault ≡ CheckFault.Memory) ⊎ (fault ≡ CheckFault.Read)) }
-    ensures never { (S.seen source.old).is_steady ≡ true →
-        (S.seen source.new).failures ≡ (S.seen source.old).failures }
-    ensures honest { (S.seen source.old).is_honest ≡ true → (S.seen source.new).is_honest ≡ true }
-    ensures steady { (S.seen source.old).is_steady ≡ true → (S.seen source.new).is_steady ≡ true }
+    ensures source { Reads (S.seen source.old) (S.seen source.new) CheckFault.Read result }
 {
     let mut wanted = WINDOW_BYTES;
     loop {
@@ -54,4 +48,14 @@ pub(crate) fn fill<S: Source>(
         }
         wanted = bytes.len() * 2;
     }
+}
+
+/// Lets the first bytes go, so many.
+pub(crate) fn let_go(bytes: &mut Vec<u8>, count: usize)
+    requires { count ≤ vec_len bytes.old }
+    ensures { bytes.new.items ≡ drop count bytes.old.items }
+{
+    let len = bytes.len();
+    bytes.copy_within(count..len, 0);
+    bytes.truncate(len - count);
 }

@@ -1,16 +1,17 @@
 //! The checker of a file that is read once, by its root.
-ghost use Rattle.std.specs.Prelude.{◌≡◌, ◌≢◌, ◌↔◌, ◌⊎◌, ◌<◌, ◌≤◌, ◌^◌, ◌++◌, [], true, length, vec_len};
-ghost use Rattle.std.specs.Prelude.{drop, IfErr, IfOk, IsErrOf, OnOk};
+ghost use Rattle.std.specs.Prelude.{◌≡◌, ◌≢◌, ◌↔◌, ◌⊎◌, ◌<◌, ◌≤◌, ◌^◌, ◌++◌, [], true, length};
+ghost use Rattle.std.specs.Prelude.{IfErr, IfOk, IsErrOf, OnOk};
 ghost use Rattle.prolly_entry.specs.Cut.{sha512_cut};
 ghost use Rattle.prolly_tree.specs.File.{root_reference};
 ghost use Rattle.prolly_check.specs.Content.{Content};
 ghost use Rattle.prolly_check.specs.FirstFlaw.{IsBodyVerdict, IsFileOfRoot, IsMapFile};
-ghost use Rattle.prolly_check.specs.FirstFlaw.{IsStreamFault};
+ghost use Rattle.prolly_check.specs.FirstFlaw.{IsRootVerdict, IsStreamFault};
+ghost use Rattle.prolly_check.specs.Incoming.{Reads};
 
 use crate::stream::chunks_read::ChunksRead;
 use crate::stream::fault::StreamFault;
-use crate::stream::incoming::fill;
-use crate::verdict::{CheckFault, ChunkHasher, find_frames};
+use crate::stream::incoming::{fill, let_go};
+use crate::verdict::{CheckFault, ChunkHasher};
 use prolly_entry::{Ref, Sha512Cut, Version};
 use prolly_file::{HEADER_SIZE, Header, PartReader, Source, read_header};
 use std::alloc::Global;
@@ -70,31 +71,49 @@ pub fn check_by_root<H: ChunkHasher, S: Source>(
 {
     let mut reader = PartReader::new(alloc)?;
     let mut bytes = Vec::new(alloc);
-    fill(source, &mut reader, &mut bytes)?;
-    let header = match read_header(&bytes) {
+    check_with(
+        hasher,
+        alloc,
+        source,
+        &mut reader,
+        &mut bytes,
+        version,
+        root,
+    )
+}
+
+/// Checks a source by its root, with a reader and room for its bytes.
+fn check_with<H: ChunkHasher, S: Source>(
+    hasher: &H,
+    alloc: Global,
+    source: &mut S,
+    reader: &mut PartReader,
+    bytes: &mut Vec<u8>,
+    version: Version,
+    root: &Ref,
+) -> Result<RootReport, StreamFault>
+    requires can { H.can_hash hasher.now }
+    requires none { bytes.old.items ≡ [] }
+    ensures verdict { (S.seen source.old).is_honest ≡ true →
+        IsRootVerdict version root.now.0 (S.seen source.old).left result }
+    ensures source { Reads (S.seen source.old) (S.seen source.new)
+        (StreamFault.Check CheckFault.Read) result }
+{
+    fill(source, reader, bytes)?;
+    let header = match read_header(bytes) {
         Ok(header) => header,
         Err(fault) => return Err(StreamFault::Check(CheckFault::from(fault))),
     };
     if header.version != version {
         return Err(StreamFault::Version);
     }
-    let_go(&mut bytes, HEADER_SIZE);
-    let (chunks, found) = check_body(hasher, alloc, source, &mut reader, bytes, header)?;
+    let_go(bytes, HEADER_SIZE);
+    let (chunks, found) = check_body(hasher, alloc, source, reader, bytes, header)?;
     if found != *root {
         return Err(StreamFault::OtherRoot);
     }
     let bits = header.bits;
     Ok(RootReport { bits, chunks })
-}
-
-/// Lets the first bytes go, so many.
-fn let_go(bytes: &mut Vec<u8>, count: usize)
-    requires { count ≤ vec_len bytes.old }
-    ensures { bytes.new.items ≡ drop count bytes.old.items }
-{
-    let len = bytes.len();
-    bytes.copy_within(count..len, 0);
-    bytes.truncate(len - count);
 }
 
 /// Checks what stands behind a header, of which these bytes were read already. Answers the number
@@ -104,38 +123,25 @@ fn check_body<H: ChunkHasher, S: Source>(
     alloc: Global,
     source: &mut S,
     reader: &mut PartReader,
-    mut bytes: Vec<u8>,
+    bytes: &mut Vec<u8>,
     header: Header,
 ) -> Result<(u64, Ref), CheckFault>
     requires can { H.can_hash hasher.now }
     requires bits { header.bits ≤ 24 }
     ensures verdict { (S.seen source.old).is_honest ≡ true → IsBodyVerdict header.version header.bits
-        (bytes.items ++ (S.seen source.old).left) result }
-    ensures read { IsErrOf result CheckFault.Read ↔ ((S.seen source.new).failures ≢ (S.seen
-        source.old).failures) }
-    ensures unfailed { OnOk result ((S.seen source.new).failures ≡ (S.seen source.old).failures) }
-    ensures never { (S.seen source.old).is_steady ≡ true →
-        (S.seen source.new).failures ≡ (S.seen source.old).failures }
-    ensures honest { (S.seen source.old).is_honest ≡ true → (S.seen source.new).is_honest ≡ true }
-    ensures steady { (S.seen source.old).is_steady ≡ true → (S.seen source.new).is_steady ≡ true }
+        (bytes.old.items ++ (S.seen source.old).left) result }
+    ensures source { Reads (S.seen source.old) (S.seen source.new) CheckFault.Read result }
 {
     let cut = match Sha512Cut::new(header.bits) {
         Some(cut) => cut,
         None => unreachable!(),
     };
     let mut read = ChunksRead::new(alloc, cut, header.version)?;
-    let mut size: u64 = 0;
+    let mut size = 0;
     loop {
-        fill(source, reader, &mut bytes)?;
-        let frames = find_frames(alloc, &bytes, 0)?;
-        if frames.spans.len() == 0 {
-            return read.finish(alloc, &bytes);
+        fill(source, reader, bytes)?;
+        if !read.take_frames(hasher, alloc, bytes, &mut size)? {
+            return read.finish(alloc, bytes);
         }
-        let Some(sum) = size.checked_add(frames.end as u64) else {
-            return Err(CheckFault::TooLong);
-        };
-        size = sum;
-        read.go_over(hasher, alloc, &bytes, &frames.spans)?;
-        let_go(&mut bytes, frames.end);
     }
 }

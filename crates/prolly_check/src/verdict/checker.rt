@@ -1,6 +1,6 @@
 //! The checker: its steps, in the order in which their faults are named.
 ghost use Rattle.std.specs.Prelude.{◌≡◌, ◌≢◌, ◌↔◌, ◌⊎◌, ◌∷◌, ◌<◌, ◌≤◌, ◌^◌, true, None, Some};
-ghost use Rattle.std.specs.Prelude.{length, Err, IfOk, OnOk, IfErr, IsErrOf};
+ghost use Rattle.std.specs.Prelude.{drop, length, Err, IfOk, OnOk, IfErr, IsErrOf};
 ghost use Rattle.std.specs.List.{flat_map};
 ghost use Rattle.prolly_check.specs.FirstFault.{Says, ending_of_chunks};
 ghost use Rattle.prolly_check.specs.Verdict.{IsRefusal, IsFileOf, IsVerdict, UnlessMemory};
@@ -117,14 +117,7 @@ pub(crate) fn inspect<H: ChunkHasher>(
     ensures err { IfErr result (UnlessMemory (λ fault. IsVerdict bytes.now (Err fault))) }
 {
     let (layout, end) = lay_out(alloc, bytes)?;
-    let cut = match Sha512Cut::new(layout.header.bits) {
-        Some(cut) => cut,
-        None => unreachable!(),
-    };
-    let version = layout.header.version;
-    let digests = hasher.digests(alloc, cut, version, bytes, &layout.spans)?;
-    let chunks = Chunks::new(bytes, &layout);
-    let references = test_canonical(alloc, cut, version, &chunks, digests, &bytes[end..])?;
+    let references = test_laid_out(hasher, alloc, bytes, &layout, end)?;
     let index = Index::new(alloc, &references)?;
     Ok((layout, references, index))
 }
@@ -146,6 +139,34 @@ fn lay_out(alloc: Global, bytes: &[u8]) -> Result<(Layout, usize), CheckFault>
     Ok((layout, frames.end))
 }
 
+/// Tests the keys, the chunks and the end record of a file that is laid out so. Answers the
+/// reference of each chunk.
+fn test_laid_out<H: ChunkHasher>(
+    hasher: &H,
+    alloc: Global,
+    bytes: &[u8],
+    layout: &Layout,
+    end: usize,
+) -> Result<Vec<Ref>, CheckFault>
+    requires can { H.can_hash hasher.now }
+    requires short { length bytes.now < 2 ^ 64 }
+    requires laid { IsLaidOut bytes.now layout.now.header layout.now.spans.items end }
+    ensures ok { OnOk result (Says layout.now.header.version layout.now.header.bits
+        (chunks_in bytes.now layout.now.spans.items) (drop end bytes.now) None) }
+    ensures references { IfOk result (λ references.
+        AreReferences (chunks_in bytes.now layout.now.spans.items) references.items) }
+    ensures err { IfErr result (UnlessMemory (λ fault. IsVerdict bytes.now (Err fault))) }
+{
+    let cut = match Sha512Cut::new(layout.header.bits) {
+        Some(cut) => cut,
+        None => unreachable!(),
+    };
+    let version = layout.header.version;
+    let digests = hasher.digests(alloc, cut, version, bytes, &layout.spans)?;
+    let chunks = Chunks::new(bytes, layout);
+    test_canonical(alloc, cut, version, &chunks, &digests, &bytes[end..])
+}
+
 /// Tests that the keys rise, and that the chunks and the end record are those of the file of the
 /// pairs. Answers the reference of each chunk.
 fn test_canonical(
@@ -153,12 +174,12 @@ fn test_canonical(
     cut: Sha512Cut,
     version: Version,
     chunks: &Chunks,
-    digests: Vec<ChunkDigest>,
+    digests: &[ChunkDigest],
     end: &[u8],
 ) -> Result<Vec<Ref>, CheckFault>
     requires whole { AreWhole version chunks.now }
     requires few { length (flat_map pairs_held chunks.now) < 2 ^ 64 }
-    requires digests { AreDigests cut chunks.now digests.items }
+    requires digests { AreDigests cut chunks.now digests.now }
     ensures ok { OnOk result (Says version cut chunks.now end.now None) }
     ensures references { IfOk result (λ references.
         AreReferences chunks.now references.items) }
@@ -166,8 +187,8 @@ fn test_canonical(
         Says version cut chunks.now end.now (Some fault))) }
 {
     test_order(chunks)?;
-    test_followed(alloc, cut, version, chunks, &digests)?;
-    let references = references_of(alloc, &digests)?;
+    test_followed(alloc, cut, version, chunks, digests)?;
+    let references = references_of(alloc, digests)?;
     test_end(end, chunks, &references)?;
     Ok(references)
 }

@@ -209,10 +209,13 @@ impl Follower {
         ensures alike { IsAlike self.old self.new × (self.new.nodes ≡ self.old.nodes) ×
             (self.new.ending ≡ self.old.ending) }
     {
-        match self.due.pop_front() {
-            Some(event) if event.bytes() == chunk => Ok(()),
-            _ => Err(CheckFault::NotCanonical { chunk: number }),
+        let Some(event) = self.due.pop_front() else {
+            return Err(CheckFault::NotCanonical { chunk: number });
+        };
+        if event.bytes() != chunk {
+            return Err(CheckFault::NotCanonical { chunk: number });
         }
+        Ok(())
     }
 }
 

@@ -1,9 +1,11 @@
 //! The levels of nodes of a tree that is followed: events that pass them, and their ends.
-ghost use Rattle.std.specs.Prelude.{◌≡◌, [], ◌∷◌, IfOk, OnOk, length};
+ghost use Rattle.std.specs.Prelude.{◌≡◌, [], ◌∷◌, ◌++◌, IfOk, OnOk, length};
+ghost use Rattle.prolly_entry.specs.Cut.{sha512_cut};
 ghost use Rattle.prolly_entry.specs.Reference.{reference_of};
 ghost use Rattle.prolly_entry.specs.declared.version.Version.TheVariants.{One};
 ghost use Rattle.prolly_tree.specs.Chunk.{chunk_of};
-ghost use Rattle.prolly_check.specs.Follower.{ClosesAll, ClosesBehind, PassesOn};
+ghost use Rattle.prolly_chunk.specs.NodeLevel.{NodeTakes};
+ghost use Rattle.prolly_check.specs.Follower.{ClosedPasses, ClosesAll, ClosesBehind, PassesOn};
 ghost use Rattle.prolly_check.specs.HeldPairs.{bytes_in};
 ghost use Rattle.prolly_check.specs.OpenLevels.{AreUnused, node_levels};
 
@@ -32,34 +34,45 @@ pub(crate) fn new_nodes(
     Ok(nodes)
 }
 
-/// Lets an event pass the levels. It is due, and so are then the nodes that it closes, one level
-/// after another.
+/// Lets what a level closed, if it closed a node, pass the levels above. It is due, and so are then
+/// the nodes that it closes, one level after another.
 fn pass_on(
     alloc: Global,
     levels: &mut [NodeLevel<Sha512Cut>],
-    event: ChunkEvent,
+    node: Option<ChunkEvent>,
     next: &ChunksAhead,
     due: &mut VecDeque<ChunkEvent>,
 ) -> Result<(), AllocError>
-    ensures passes { OnOk result (PassesOn levels.old levels.new event
+    ensures passes { OnOk result (ClosedPasses levels.old levels.new node
         (bytes_in due.old.items) (bytes_in due.new.items)) }
     ensures size { length levels.new ≡ length levels.old }
 {
-    match levels.split_first_mut() {
-        None => {
-            due.push_back(event)?;
-            Ok(())
-        }
-        Some((level, above)) => {
-            let reference = next.reference_of(due.len(), event.bytes());
-            let closed = level.push_known(alloc, &event.as_borrowed(), &reference)?;
-            due.push_back(event)?;
-            match closed {
-                None => Ok(()),
-                Some(closed) => pass_on(alloc, above, closed, next, due),
-            }
-        }
-    }
+    let Some(event) = node else {
+        return Ok(());
+    };
+    let Some((level, above)) = levels.split_first_mut() else {
+        due.push_back(event)?;
+        return Ok(());
+    };
+    let closed = pass_one(alloc, level, event, next, due)?;
+    pass_on(alloc, above, closed, next, due)
+}
+
+/// Lets an event pass one level. It is due. Answers the node that it closes.
+fn pass_one(
+    alloc: Global,
+    level: &mut NodeLevel<Sha512Cut>,
+    event: ChunkEvent,
+    next: &ChunksAhead,
+    due: &mut VecDeque<ChunkEvent>,
+) -> Result<Option<ChunkEvent>, AllocError>
+    ensures takes { IfOk result (λ closed. NodeTakes sha512_cut level.old level.new event closed) }
+    ensures due { OnOk result (bytes_in due.new.items ≡ bytes_in due.old.items ++ event.bytes ∷ []) }
+{
+    let reference = next.reference_of(due.len(), event.bytes());
+    let closed = level.push_known(alloc, &event.as_borrowed(), &reference)?;
+    due.push_back(event)?;
+    Ok(closed)
 }
 
 /// Lets the event of a leaf that was read pass the levels. The nodes that it closes are due.
@@ -80,10 +93,8 @@ pub(crate) fn pass_leaf(
     let Some((level, above)) = levels.split_first_mut() else {
         return Ok(());
     };
-    match level.push_known(alloc, leaf, reference)? {
-        None => Ok(()),
-        Some(closed) => pass_on(alloc, above, closed, next, due),
-    }
+    let closed = level.push_known(alloc, leaf, reference)?;
+    pass_on(alloc, above, closed, next, due)
 }
 
 /// Lets the leaf of the empty map pass the levels.
@@ -98,10 +109,8 @@ fn pass_empty(
         (bytes_in due.old.items) (bytes_in due.new.items)) }
     ensures size { length levels.new ≡ length levels.old }
 {
-    match LeafLevel::new(alloc, cut)?.finish() {
-        None => Ok(()),
-        Some(leaf) => pass_on(alloc, levels, leaf, next, due),
-    }
+    let leaf = LeafLevel::new(alloc, cut)?.finish();
+    pass_on(alloc, levels, leaf, next, due)
 }
 
 /// Closes the levels behind whole leaves, of which so many chunks were read. What they close is due,
@@ -135,9 +144,8 @@ pub(crate) fn close_all(
         (bytes_in due.new.items)) }
 {
     while nodes.len() > 0 {
-        if let Some(last) = nodes.remove(0).finish() {
-            pass_on(alloc, nodes, last, next, due)?;
-        }
+        let last = nodes.remove(0).finish();
+        pass_on(alloc, nodes, last, next, due)?;
     }
     Ok(())
 }

@@ -28,10 +28,9 @@ pub returns-clause-ok : goal.returns-clause-ok
 returns-clause-ok c = grind (arith, all_say)
 
 pub test_end-requires-clause-references : goal.test_end-requires-clause-references
-test_end-requires-clause-references c =
-    rw (c.deref-3.ensures.value, c.in_ok-references.ensures, c.deref-2.ensures.value)
-    (digests_refer c.args.cut c.args.chunks.now c.args.digests.items c.requires.digests)
+test_end-requires-clause-references c = rw (c.deref.ensures.value, c.in_ok-references.ensures)
+    (digests_refer c.args.cut c.args.chunks.now c.args.digests.now c.requires.digests)
 
 pub returns-clause-references : goal.returns-clause-references
-returns-clause-references c = rw (c.in_ok-references.ensures, c.deref-2.ensures.value)
-    (digests_refer c.args.cut c.args.chunks.now c.args.digests.items c.requires.digests)
+returns-clause-references c = rw c.in_ok-references.ensures
+    (digests_refer c.args.cut c.args.chunks.now c.args.digests.now c.requires.digests)

@@ -6,12 +6,12 @@ use Rattle.prolly_check.specs.ChunksRead.{AreRead}
 use Rattle.prolly_check.specs.Frames.{chunk_in, chunks_in}
 use Rattle.prolly_check.proofs.ChunkSteps.{few_before, few_next, few_part, flaw_next, next_is}
 use Rattle.prolly_check.proofs.HeldPairs.{each_whole}
-use Rattle.prolly_check.proofs.stream.chunks_read.ChunksRead.take_all.Goals as goal
+use Rattle.prolly_check.proofs.stream.chunks_read.ChunksRead.take_hashed.Goals as goal
 
 pub returns-in_err-take_one-clause-over : goal.returns-in_err-take_one-clause-over
-returns-in_err-take_one-clause-over g c = λ chunks r few.
-    let p = err_from_is_err_and c.from_residual-in_err-take_one.result
-    c.from_residual-in_err-take_one.ensures.1 in
+returns-in_err-take_one-clause-over c = λ chunks r few.
+    let p = err_from_is_err_and c.from_residual.result
+    c.from_residual.ensures.1 in
     let taken = chunks_in c.args.bytes.now c.args.spans.now in
     let n = c.loop-number.number in
     let within : n < length taken =
@@ -28,7 +28,7 @@ returns-in_err-take_one-clause-over g c = λ chunks r few.
     (rw alike.1 (each_whole c.args.self.now.follower.version taken n c.requires.whole within)))))
 
 pub loop-number-preserved : goal.loop-number-preserved
-loop-number-preserved g c =
+loop-number-preserved c =
     let taken = chunks_in c.args.bytes.now c.args.spans.now in
     let n = c.loop-number.number in
     let within : n < length taken =
