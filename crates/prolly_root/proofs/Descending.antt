@@ -1,11 +1,13 @@
 -- Going down from the root, from each chunk to the one that it refers to.
 use Rattle.std.proofs.Common.{◌≡◌, ℕ, zero, suc, List, [], ◌∷◌, ◌++◌, Option, Some, None, IfSome, ◌<◌, ◌-◌}
 use Rattle.std.proofs.Common.{length, get_or, arith, rules, refl, sym, ap, ◌∙◌, subst, Result, Ok}
-use Rattle.std.proofs.Common.{Err}
+use Rattle.std.proofs.Common.{Err, inl, ◌+◌, take}
 use Rattle.std.specs.List.{AllByRecursion}
 use Rattle.std.specs.Option.{option_to_list}
 use Rattle.std.proofs.lemmas.List.{get_or_push, length-append, length-map, map-append}
-use Rattle.std.specs.Prelude.{All, IsErr, IsErrAnd}
+use Rattle.std.proofs.lemmas.List.{take_more}
+use Rattle.std.proofs.Math.ListN.{get_or-map}
+use Rattle.std.specs.Prelude.{All, IfOk, IsErr, IsErrAnd, OnErr}
 use Rattle.prolly_entry.specs.Byte.{IsByte}
 use Rattle.prolly_check.specs.Content.{Content}
 use Rattle.prolly_check.specs.HeldPairs.{pairs_held}
@@ -17,11 +19,15 @@ use Rattle.prolly_check.specs.lemmas.Ways.{lead_more}
 use Rattle.prolly_entry.specs.declared.version.Version.{Version}
 use Rattle.prolly_tree.specs.Difference.{IsMap}
 use Rattle.prolly_tree.specs.Tree.{Tree}
-use Rattle.prolly_root.specs.Descent.{IsTested, LastTested, StandsBelow, StandsInPlace, chunks_on_way}
+use Rattle.prolly_root.specs.Descent.{IsWayDown, StandsBelow}
+use Rattle.prolly_root.specs.Descent.{StandsInPlace, chunks_on_way}
 use Rattle.prolly_root.specs.ProofFault.{last_level}
 use Rattle.prolly_root.specs.declared.look_up.chunk_on_way.ChunkOnWay.{ChunkOnWay}
 use Rattle.prolly_root.specs.declared.root_fault.RootFault.{RootFault}
-use Rattle.prolly_root.specs.Reader.{IsReaderOf, ReaderView}
+use Rattle.prolly_root.specs.declared.root_fault.RootFault.TheVariants.{Memory}
+use Rattle.prolly_root.specs.ChunkSource.{HasAsked}
+use Rattle.prolly_root.specs.Reader.{IsEmptied, IsReaderOf, LooksUp, ReaderView, way_of}
+use Rattle.prolly_root.specs.RootFault.{MayFail}
 
 -- ---- the levels
 
@@ -45,13 +51,27 @@ pub one_more : {T : Type 0} (levels new : List (ChunkOnWay T)) (level : ChunkOnW
 one_more levels new level kept = ap chunks_on_way kept ∙
     map-append (λ level. level.chunk.items) levels (level ∷ [])
 
+-- so many and one more
+pub one_taken : {T : Type 0} (levels : List (ChunkOnWay T)) (n : ℕ) (level : ChunkOnWay T) →
+    n < length levels → level ≡ get_or levels n level →
+    chunks_on_way (take (n + 1) levels) ≡ chunks_on_way (take n levels) ++ level.chunk.items ∷ []
+one_taken levels n level below is = one_more (take n levels) (take (n + 1) levels) level
+    (take_more levels n level below ∙ ap (λ l. take n levels ++ l ∷ []) (sym is))
+
 -- the last one
-pub read_last : {A : Type 0} (levels above : List A) (last read : A) (n : ℕ) →
-    levels ≡ above ++ last ∷ [] → n ≡ length levels → read ≡ get_or levels (n - 1) read →
-    read ≡ last
-read_last levels above last read n are long is = is ∙ ap (λ xs. get_or xs (n - 1) read) are ∙
-    get_or_push above last read (n - 1)
-    (omega (arith, long, ap length are, length-append above (last ∷ [])))
+pub read_last : {T : Type 0} (levels : List (ChunkOnWay T)) (above : List (List ℕ))
+    (last : List ℕ) (read : ChunkOnWay T) → chunks_on_way levels ≡ above ++ last ∷ [] →
+    read ≡ get_or levels (length levels - 1) read → read.chunk.items ≡ last
+read_last levels above last read are is = let n = length levels - 1 in
+    ap (λ level. level.chunk.items) is ∙
+    sym (get_or-map (λ level. level.chunk.items) levels n read) ∙
+    ap (λ chunks. get_or chunks n read.chunk.items) are ∙
+    get_or_push above last read.chunk.items n (omega (
+      arith,
+      length-map levels (λ level. level.chunk.items),
+      ap length are,
+      length-append above (last ∷ []),
+    ))
 
 -- ---- where a look-up stands
 
@@ -147,25 +167,88 @@ asked_on has failures tells asked more =
 
 -- ---- what a look-up leaves of its reader
 
--- the reader is of the same tree
-pub keeps_levels : {T : Type 0} (is_place : Content → (level : ℕ) → Tree level → T → Type 0)
-    (content : Content) (old new : ReaderView T) → new.version ≡ old.version →
-    new.root ≡ old.root → new.top ≡ old.top →
-    AllByRecursion (StandsInPlace is_place content) new.levels →
+-- where it keeps nothing, it is still of the same tree
+keeps_none : {T : Type 0} {is_place : Content → (level : ℕ) → Tree level → T → Type 0}
+    {content : Content} {old new : ReaderView T} → IsEmptied old new →
     IsReaderOf is_place content old → IsReaderOf is_place content new
-keeps_levels is_place content old new version root top levels is = record {
-  version = version ∙ is.version;
-  top = rw (root, top) is.top;
-  levels = levels;
+keeps_none left is = record {
+  version = left.version ∙ is.version;
+  top = rw (left.root, left.top) is.top;
+  levels = rw left.levels tt;
 }
 
--- also where it keeps nothing
-pub keeps_none : {T : Type 0} {is_place : Content → (level : ℕ) → Tree level → T → Type 0}
-    {content : Content} {old new : ReaderView T} → (new.version ≡ old.version) ×
-    (new.root ≡ old.root) × (new.top ≡ old.top) × (new.levels ≡ []) →
-    IsReaderOf is_place content old → IsReaderOf is_place content new
-keeps_none {is_place = is_place} {content = content} {old = old} {new = new} left is =
-    keeps_levels is_place content old new left.0 left.1 left.2 (rw left.3 tt) is
+module _ {S T : Type 0} {has : S → Content → Type 0} {failures : S → ℕ}
+    {is_place : Content → (level : ℕ) → Tree level → T → Type 0} {before after : S}
+    {old : ReaderView T} where
+  -- a fault leaves it so
+  pub look_up_fails : {R : Type 0} {new : ReaderView T} (fault : RootFault)
+      (result : Result R RootFault) → IsErr result × IsErrAnd result (λ told. told ≡ fault) →
+      IsEmptied old new → ((content : Content) → has before content →
+      IsReaderOf is_place content old → MayFail fault) →
+      HasAsked {T = R} has failures before after (Err fault) →
+      LooksUp has failures is_place before after old new result
+  look_up_fails fault result handed left may asked = rw (handed_on fault result handed) (record {
+    of = (left.version, left.root);
+    none = left.levels;
+    kept = λ content had reader. keeps_none left reader;
+    lawful = may;
+    keeps = asked.0;
+    reads = asked.1;
+  })
+
+  -- also one that `?` hands on
+  pub looks_up_so : {A R : Type 0} {new : ReaderView T} (fault : RootFault)
+      (result : Result R RootFault) → IsErr result × IsErrAnd result (λ told. told ≡ fault) →
+      LooksUp {R = A} has failures is_place before after old new (Err fault) →
+      LooksUp has failures is_place before after old new result
+  looks_up_so fault result handed looked = rw (handed_on fault result handed) (record {
+    of = looked.of;
+    none = looked.none;
+    kept = looked.kept;
+    lawful = looked.lawful;
+    keeps = looked.keeps;
+    reads = looked.reads;
+  })
+
+  -- what was found is handed on, or there was no memory for it
+  pub hands_on : {A V E : Type 0} {mid new : ReaderView T} {there : A} (found : Result V E)
+      (result : Result V RootFault) → IfOk found (λ value. (result ≡ Ok value) × (new ≡ mid)) →
+      OnErr found ((result ≡ Err Memory) × IsEmptied mid new) →
+      LooksUp has failures is_place before after old mid (Ok there) →
+      LooksUp has failures is_place before after old new result
+  hands_on (Ok value) result ok err looked = rw (ok.0, ok.1) (record {
+    of = looked.of;
+    none = tt;
+    kept = looked.kept;
+    lawful = looked.lawful;
+    keeps = looked.keeps;
+    reads = looked.reads;
+  })
+  hands_on (Err refused) result ok err looked = rw err.0 (record {
+    of = (err.1.version ∙ looked.of.0, err.1.root ∙ looked.of.1);
+    none = err.1.levels;
+    kept = λ content had reader. keeps_none err.1 (looked.kept content had reader);
+    lawful = λ content had reader. inl refl;
+    keeps = looked.keeps;
+    reads = looked.reads;
+  })
+
+pub finds : {T V E : Type 0} (mid new : ReaderView T) (found : Result V E)
+    (result : Result V RootFault) → IfOk found (λ value. (result ≡ Ok value) × (new ≡ mid)) →
+    OnErr found ((result ≡ Err Memory) × IsEmptied mid new) →
+    (P : V → List (List ℕ) → Type 0) → IfOk found (λ value. P value (way_of mid)) →
+    IfOk result (λ value. P value (way_of new))
+finds mid new (Ok value) result ok err P is = rw (ok.0, ok.1) is
+finds mid new (Err refused) result ok err P is = rw err.0 tt
+
+-- a way has a chunk
+pub some_way : {version : Version} {root : List ℕ} {sought there : Sought}
+    {chunks : List (List ℕ)} → IsWayDown version root sought chunks there → 0 < length chunks
+some_way down = omega (
+  arith,
+  ap length down.way.are,
+  length-append down.way.before (down.way.last ∷ []),
+)
 
 -- ---- the last chunk of a look-up
 
@@ -177,20 +260,6 @@ last_same (a ∷ []) [] x y e = cc
 last_same (a ∷ c ∷ xs) [] x y e = cc
 last_same (a ∷ xs) (b ∷ ys) x y e = last_same xs ys x y cc
 
-pub last_tested : {T : Type 0} (version : Version) (levels : List (ChunkOnWay T)) →
-    AllByRecursion (IsTested version) levels → 0 < length levels → LastTested version levels
-last_tested version [] all some = absurd (omega arith)
-last_tested version (level ∷ []) all some =
-    record { above = []; last = level; are = refl; tested = all.0 }
-last_tested version (level ∷ below ∷ levels) all some =
-    let rest = last_tested version (below ∷ levels) all.1 (omega arith) in
-    record {
-      above = level ∷ rest.above;
-      last = rest.last;
-      are = ap (λ levels. level ∷ levels) rest.are;
-      tested = rest.tested;
-    }
-
 -- its pairs rise
 pub held_rise : (version : Version) (chunk : List ℕ) → IsOrdered version chunk →
     IsMap (pairs_held chunk)
@@ -198,18 +267,12 @@ held_rise version [] ordered = tt
 held_rise version (zero ∷ entries) ordered = ordered.rising
 held_rise version (suc level ∷ entries) ordered = tt
 
--- it is the last of the chunks
-pub last_held : {T : Type 0} (version : Version) (levels : List (ChunkOnWay T))
-    (tested : LastTested version levels) (above : List (List ℕ)) (last : List ℕ) →
-    chunks_on_way levels ≡ above ++ last ∷ [] → tested.last.chunk.items ≡ last
-last_held version levels tested above last are =
-    last_same (chunks_on_way tested.above) above tested.last.chunk.items last
-    (sym (one_more tested.above levels tested.last tested.are) ∙ are)
-
 -- there is one, where a way was found
-pub found_last : {T : Type 0} (version : Version) (levels held : List (ChunkOnWay T)) →
-    held ≡ levels → AllByRecursion (IsTested version) levels → 0 < length (chunks_on_way levels) →
-    LastTested version held
-found_last version levels held are all some =
-    subst (LastTested version) (sym are) (last_tested version levels all
-    (omega (arith, length-map levels (λ level. level.chunk.items), some)))
+pub some_held : {T : Type 0} (levels held : List (ChunkOnWay T)) → held ≡ levels →
+    0 < length (chunks_on_way levels) → 0 < length held
+some_held levels held are some = omega (
+  arith,
+  ap length are,
+  length-map levels (λ level. level.chunk.items),
+  some,
+)

@@ -1,11 +1,11 @@
 -- Going down in a lawful tree, from a node to the top of a tree below it.
-use Rattle.std.proofs.Common.{◌≡◌, ℕ, zero, suc, ◌-◌, List, [], ◌∷◌, ◌++◌, length, drop, map}
-use Rattle.std.proofs.Common.{inr, Option, Some, Result, Ok, Err, refl, sym, ap, ◌∙◌, subst, arith}
+use Rattle.std.proofs.Common.{◌≡◌, ℕ, zero, suc, ◌-◌, List, [], ◌∷◌, ◌++◌, length, drop, get_or}
+use Rattle.std.proofs.Common.{map, inr, Option, Some, Result, Ok, Err, refl, sym, ap, ◌∙◌, subst, arith}
 use Rattle.prolly_check.specs.Chunks.{chunks_of}
 use Rattle.prolly_check.specs.Content.{Content}
 use Rattle.prolly_check.specs.Descent.{ChildIsTree, IsTreeOf}
 use Rattle.prolly_check.specs.Descent.{TopIsRead, child_of}
-use Rattle.prolly_check.specs.Entries.{Child}
+use Rattle.prolly_check.specs.Entries.{Child, IsWhole}
 use Rattle.prolly_check.specs.Kinds.{kind_of}
 use Rattle.prolly_check.specs.Sought.{Sought, IsChildOf}
 use Rattle.prolly_check.specs.Way.{FallsTo, IsOrdered, level_of}
@@ -53,6 +53,12 @@ tree_at version level (t ∷ ts) (b ∷ before) child after e =
     }
 
 -- ---- one level down
+
+-- the first byte of a chunk is its level
+pub level_read : (version : Version) (chunk : List ℕ) (first : ℕ) → IsWhole version chunk →
+    first ≡ get_or chunk 0 first → first ≡ level_of chunk
+level_read version [] first whole is = absurd whole.holds
+level_read version (b ∷ entries) first whole is = is
 
 pub one_less : (n : ℕ) → suc n - 1 ≡ n
 one_less n = omega arith

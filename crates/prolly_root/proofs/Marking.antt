@@ -98,14 +98,6 @@ pub record Begun (content : Content) (number lower : ℕ) (runs : List Run) : Ty
   pub left : (level : ℕ) → level < 32 → lower ≤ level →
       IsRun content number level (run_at runs level)
 
-pub none_begun : (content : Content) (number : ℕ) (runs : List Run) →
-    AreRuns content number runs → Begun content number 0 runs
-none_begun content number runs are = record {
-  long = are.long;
-  anew = λ level within low. absurd (omega (arith, low));
-  left = λ level within high. are.each level within;
-}
-
 -- one is another, and the others are as they were
 set_at : (P : Run → Type 0) (runs : List Run) (at level : ℕ) (run : Run) → at < length runs →
     (level ≡ at → P run) → ((level ≡ at → ⊥) → P (run_at runs level)) →

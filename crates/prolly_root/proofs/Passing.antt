@@ -1,6 +1,6 @@
 -- The chunks of a proof, one after another: appending them and reading them.
 use Rattle.std.proofs.Common.{◌≡◌, ℕ, ◌+◌, ◌<◌, ◌≤◌, List, [], ◌∷◌, ◌++◌, length, take, get_or, sym}
-use Rattle.std.proofs.Common.{ap, ◌∙◌, subst, append_assoc, append-nil, suc, inl, inr, Some, None}
+use Rattle.std.proofs.Common.{ap, ◌∙◌, subst, append_assoc, append-nil, suc, inl, inr, Some}
 use Rattle.std.proofs.Common.{refl, arith, Bool, true, false, ◌==◌, ◌⊎◌, Option, Result, Ok, Err}
 use Rattle.std.specs.List.{AllByRecursion, flat_map}
 use Rattle.std.proofs.lemmas.List.{take_all, take_more, length-append}
@@ -18,9 +18,9 @@ use Rattle.prolly_check.specs.Sought.{EndsAt, LeadsOn, sought_of, Sought}
 use Rattle.prolly_check.specs.Sought.Sought.{Key}
 use Rattle.prolly_check.specs.Way.{FallsTo, IsNamed, level_of, Lead, LevelsFall}
 use Rattle.prolly_check.specs.declared.look_up.step.Due.{Due}
-use Rattle.prolly_root.specs.ProofFault.{HasPassed, IsChunkFault, IsFault, IsFrameFault, HasMore}
+use Rattle.prolly_root.specs.ProofFault.{HasPassed, IsFault, IsFrameFault, HasMore}
 use Rattle.prolly_root.specs.ProofFault.{last_level, EndsWithin, IsProofStartFault, IsWrongChunk}
-use Rattle.prolly_root.proofs.Descending.{Descended, last_same, none_passed, one_passed, way_ends}
+use Rattle.prolly_root.proofs.Descending.{Descended, last_same, one_passed, way_ends}
 use Rattle.prolly_root.specs.declared.proof.fault.ProofFault.{ProofFault}
 use Rattle.prolly_tree.specs.LookUp.{find}
 use Rattle.std.specs.Borrow.{Bor}
@@ -80,61 +80,13 @@ pub record Stands (version : Version) (root key chunks : List ℕ) (due : Due) (
   pub number : count ≡ length passed
   pub few : count + length rest ≤ length chunks
 
-pub begins : (version : Version) (root key chunks : List ℕ) (due : Due) (count : ℕ) →
-    root ≡ due.reference.0 → due.above ≡ None → sought_of due.sought ≡ Key key → count ≡ 0 →
-    Stands version root key chunks due count chunks
-begins version root key chunks due count reference above sought number = record {
-  passed = [];
-  small = tt;
-  is = refl;
-  led = none_passed version root (Key key) due reference above (sym sought);
-  number = number;
-  few = omega (arith, number);
-}
-
 module _ (version : Version) (root key chunks : List ℕ) (due : Due) (count : ℕ) (rest : List ℕ)
     (s : Stands version root key chunks due count rest) where
   abbrev bytes : List ℕ
   bytes = proof_start version ++ chunks
 
-  has_passed : (left : List ℕ) → rest ≡ left →
-      HasPassed version root key bytes s.passed due.reference.0 left
-  has_passed left e = record {
-    there = sought_of due.sought;
-    small = s.small;
-    is = ap (λ x. proof_start version ++ x) (s.is ∙ ap (λ x. flat_map framed s.passed ++ x) e) ∙
-        sym (append_assoc (proof_start version) (flat_map framed s.passed) left);
-    lead = s.led.lead;
-    down = s.led.down;
-  }
-
-  pub no_frame : (fault : ProofFault) → IsFrameFault count rest fault →
-      IsFault version root key bytes fault
-  no_frame fault h = inr (inl (record {
-    passed = s.passed;
-    due = due.reference.0;
-    rest = rest;
-    has = has_passed rest refl;
-    is = subst (λ n. IsFrameFault n rest fault) s.number h;
-  }))
-
   module _ (chunk behind : List ℕ) (small : IsSmall chunk) (is : rest ≡ framed chunk ++ behind)
     where
-      pub wrong_chunk : (fault : ProofFault) →
-          IsChunkFault version due.reference.0 due.above chunk count fault →
-          IsFault version root key bytes fault
-      wrong_chunk fault h = inr (inr (inl (record {
-        passed = s.passed;
-        due = due.reference.0;
-        chunk = chunk;
-        rest = behind;
-        has = has_passed (framed chunk ++ behind) is;
-        small = small;
-        is = subst (λ n. IsChunkFault version due.reference.0 (last_level s.passed) chunk n
-            fault) s.number (subst (λ l. IsChunkFault version due.reference.0 l chunk
-            count fault) s.led.above h);
-      })))
-
       spelled : chunks ≡ flat_map framed (s.passed ++ chunk ∷ []) ++ behind
       spelled = s.is ∙ rw is (simp (flat_map-append, append_assoc, append-nil))
 

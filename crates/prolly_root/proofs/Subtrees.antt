@@ -2,7 +2,7 @@
 use Rattle.std.proofs.Common.{◌≡◌, ℕ, zero, suc, ◌+◌, ◌-◌, ◌≤◌, ◌<◌, inl, inr, ◌⊎◌, List, [], ◌∷◌}
 use Rattle.std.proofs.Common.{◌++◌, length, drop, map, get_or, refl, sym, ap, ◌∙◌, subst, arith}
 use Rattle.std.proofs.Common.{append_assoc, take, append-nil}
-use Rattle.std.specs.List.{AllByRecursion, flat_map}
+use Rattle.std.specs.List.{flat_map}
 use Rattle.std.proofs.Math.Seq.{drop-append_seam, drop-append-add, drop-cons, take-append_seam}
 use Rattle.std.proofs.lemmas.Bool.{cases_eq, cases_lt}
 use Rattle.std.proofs.lemmas.List.{get_or-drop, get_or_append_left, get_or_push, length-append}
@@ -12,7 +12,6 @@ use Rattle.prolly_check.specs.Chunks.{chunks_of}
 use Rattle.prolly_check.specs.Content.{Content}
 use Rattle.prolly_check.specs.FileWays.{nth_chunk}
 use Rattle.prolly_check.specs.Way.{level_of}
-use Rattle.prolly_entry.specs.declared.version.Version.{Version}
 use Rattle.prolly_tree.specs.Chunk.{post_order}
 use Rattle.prolly_tree.specs.Tree.{Tree, bytes_of}
 use Rattle.prolly_root.specs.Subtree.{IsPlaceNth, IsPlaceOf}
@@ -22,7 +21,7 @@ use Rattle.prolly_root.specs.Walk.{chunks_of_tree, IsFrame, IsWalk}
 use Rattle.prolly_root.specs.declared.file.subtree.Place.{Place}
 use Rattle.prolly_root.specs.declared.root_fault.RootFault.{RootFault}
 use Rattle.prolly_root.specs.lemmas.Places.{level_is}
-use Rattle.prolly_root.proofs.Walking.{IsLower, all_lower, top_last, apart, behind}
+use Rattle.prolly_root.proofs.Walking.{IsLower, all_at, all_lower, top_last, apart, behind}
 use Rattle.prolly_root.proofs.Walking.{ending, front, front_length}
 use Rattle.prolly_check.specs.Verdict.{IsFileOf}
 use Rattle.prolly_file.specs.Frame.{framed}
@@ -110,14 +109,6 @@ abbrev pub chunks_of_trees : Content → (level : ℕ) → List (Tree level) →
 chunks_of_trees content level ts =
     map (λ c. c.bytes) (flat_map (post_order content.version level) ts)
 
-all_at : (version : Version) (level : ℕ) (cs : List (List ℕ)) (i : ℕ) →
-    AllByRecursion (IsLower version level) cs →
-    i < length cs → level_of (get_or cs i []) < level
-all_at version level [] i all within = absurd (omega (arith, within))
-all_at version level (c ∷ cs) zero all within = all.0
-all_at version level (c ∷ cs) (suc i) all within =
-    all_at version level cs i all.1 (omega (arith, within))
-
 module _ (content : Content) (level : ℕ) where
   abbrev trees : List (Tree level) → List (List ℕ)
   trees ts = chunks_of_trees content level ts
@@ -171,7 +162,8 @@ module _ (content : Content) (level : ℕ) where
         part_at before (tree t) left are i (omega (arith, within, tree_length t)) ∙
         ap (λ cs. get_or cs i []) (top_last content.version level t) ∙
         get_or_append_left (under t) (bytes_of content.version level t ∷ []) [] i within))
-        (all_at content.version level (under t) i (all_lower content.version level t) within) in
+        (all_at (IsLower content.version level) (under t) i []
+        (all_lower content.version level t) within) in
         omega (arith, low, same);
   }
 

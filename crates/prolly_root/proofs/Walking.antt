@@ -82,6 +82,12 @@ all_weaker : (P Q : List ℕ → Type 0) → ((c : List ℕ) → P c → Q c) �
 all_weaker P Q f [] h = tt
 all_weaker P Q f (c ∷ cs) h = (f c h.0, all_weaker P Q f cs h.1)
 
+pub all_at : {X : Type 0} (P : X → Type 0) (xs : List X) (i : ℕ) (d : X) → AllByRecursion P xs →
+    i < length xs → P (get_or xs i d)
+all_at P [] i d all within = absurd (omega (arith, within))
+all_at P (x ∷ xs) zero d all within = all.0
+all_at P (x ∷ xs) (suc i) d all within = all_at P xs i d all.1 (omega (arith, within))
+
 module _ (version : Version) where
   abbrev AllUpTo : ℕ → List Chunk → Type 0
   AllUpTo level cs = AllByRecursion (StandsUpTo level) (bytes_in cs)

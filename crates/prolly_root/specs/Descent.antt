@@ -1,6 +1,6 @@
 -- Going down from the root, from each chunk to the one that it refers to.
 use Rattle.std.specs.List.{AllByRecursion}
-use Rattle.std.specs.Prelude.{◌≡◌, ℕ, List, [], ◌∷◌, ◌++◌, map, Option, Some}
+use Rattle.std.specs.Prelude.{◌≡◌, ℕ, List, map, Option, Some}
 use Rattle.prolly_check.specs.Chunks.{chunks_of}
 use Rattle.prolly_check.specs.Content.{Content}
 use Rattle.prolly_check.specs.Descent.{IsTreeOf}
@@ -34,22 +34,19 @@ pub record IsAtDue {T : Type 0} (version : Version) (due : Due) (chunk : ChunkOn
 abbrev pub chunks_on_way : {T : Type 0} → List (ChunkOnWay T) → List (List ℕ)
 chunks_on_way levels = map (λ level. level.chunk.items) levels
 
--- The last of the chunks, which can be read.
-pub record LastTested {T : Type 0} (version : Version) (levels : List (ChunkOnWay T)) : Type 0 where
-  pub above : List (ChunkOnWay T)
-  pub last : ChunkOnWay T
-  pub are : levels ≡ above ++ last ∷ []
-  pub tested : IsTested version last
+-- These chunks are the way of a look-up from the root of this reference to its end, and this is what
+-- is sought in the last one.
+pub record IsWayDown (version : Version) (root : List ℕ) (sought : Sought)
+    (chunks : List (List ℕ)) (there : Sought) : Type 0 where
+  pub way : IsWayTo version root sought chunks
+  pub there_is : way.there ≡ there
 
--- The chunks of the descent are the way of a look-up from the root of this reference to its end,
--- and can be read, and this is what is sought in the last one.
+-- The chunks of the descent are this way, and can be read.
 pub record IsDescent {T : Type 0} (version : Version) (root : List ℕ) (sought : Sought)
     (descent : Descent T) : Type 0 where
-  pub way : IsWayTo version root sought (chunks_on_way descent.levels.items)
-  pub there : way.there ≡ sought_of descent.sought
+  pub to : IsWayDown version root sought (chunks_on_way descent.levels.items)
+      (sought_of descent.sought)
   pub all : AllByRecursion (IsTested version) descent.levels.items
-  pub end : LastTested version descent.levels.items
-  pub last : way.last ≡ end.last.chunk.items
 
 -- The look-up ends at the chunk, or goes on from it at the one that is due.
 abbrev pub IsOnward : {T : Type 0} → Version → Sought → List ℕ → Onward T → Type 0

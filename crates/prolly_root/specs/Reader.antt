@@ -1,5 +1,5 @@
 -- A reader that looks up by the root again and again.
-use Rattle.std.specs.Prelude.{◌≡◌, ℕ, List, take}
+use Rattle.std.specs.Prelude.{◌≡◌, ℕ, List, [], take, IfErr, OnErr, Result}
 use Rattle.std.specs.List.{AllByRecursion}
 use Rattle.prolly_check.specs.Content.{Content}
 use Rattle.prolly_check.specs.ScanWay.{IsScanWay}
@@ -7,7 +7,9 @@ use Rattle.prolly_entry.specs.Pair.{Pair}
 use Rattle.prolly_entry.specs.declared.version.Version.{Version}
 use Rattle.prolly_tree.specs.Tree.{Tree}
 use Rattle.prolly_root.specs.Descent.{StandsAt, StandsInPlace, chunks_on_way}
+use Rattle.prolly_root.specs.RootFault.{MayFail, TellsReads}
 use Rattle.prolly_root.specs.declared.look_up.chunk_on_way.ChunkOnWay.{ChunkOnWay}
+use Rattle.prolly_root.specs.declared.root_fault.RootFault.{RootFault}
 
 -- What a reader keeps: the version and the root that it was opened for, the place of the root, and
 -- what the last look-up went through, from the root down.
@@ -28,6 +30,28 @@ pub record IsReaderOf {T : Type 0}
   pub version : reader.version ≡ content.version
   pub top : StandsAt is_place content reader.root reader.top
   pub levels : AllByRecursion (StandsInPlace is_place content) reader.levels
+
+-- The reader is that of the same root, and keeps nothing.
+pub record IsEmptied {T : Type 0} (old new : ReaderView T) : Type 0 where
+  pub version : new.version ≡ old.version
+  pub root : new.root ≡ old.root
+  pub top : new.top ≡ old.top
+  pub levels : new.levels ≡ []
+
+-- A look-up in a source. The reader is that of the same version and root, and keeps nothing after a
+-- fault. Of the tree that the source has it stays the reader, and that tree is never refused, but
+-- for want of memory or a failed read. What the source has it has still, and a failed read is told.
+pub record LooksUp {S T R : Type 0} (has : S → Content → Type 0) (failures : S → ℕ)
+    (is_place : Content → (level : ℕ) → Tree level → T → Type 0) (before after : S)
+    (old new : ReaderView T) (result : Result R RootFault) : Type 0 where
+  pub of : (new.version ≡ old.version) × (new.root ≡ old.root)
+  pub none : OnErr result (new.levels ≡ [])
+  pub kept : (content : Content) → has before content → IsReaderOf is_place content old →
+      IsReaderOf is_place content new
+  pub lawful : (content : Content) → has before content → IsReaderOf is_place content old →
+      IfErr result MayFail
+  pub keeps : (content : Content) → has before content → has after content
+  pub reads : TellsReads (failures before) (failures after) result
 
 -- These are the first pairs, at most so many, of those that a look-up of the key from the root of
 -- this reference finds by these chunks.

@@ -1,5 +1,5 @@
 //! A chunk on the way of a look-up by the root.
-ghost use Rattle.std.specs.Prelude.{◌≡◌, ◌<◌, true, length, IfOk, IfSome};
+ghost use Rattle.std.specs.Prelude.{◌≡◌, ◌<◌, ◌↔◌, length, Ok, IfOk, IfSome, IsTrue};
 ghost use Rattle.prolly_check.specs.Content.{Content};
 ghost use Rattle.prolly_check.specs.Sought.{sought_of};
 ghost use Rattle.prolly_check.specs.Way.{FallsTo};
@@ -67,13 +67,10 @@ impl<T: Copy> ChunkOnWay<T> {
     /// Whether it is the one that is due.
     fn is_due(&self, due: &Due<'_>) -> bool
         requires { 0 < length self.now.chunk.items }
-        ensures { result ≡ true → (self.now.reference ≡ due.now.reference) ×
-            FallsTo due.now.above self.now.chunk.items }
+        ensures { IsTrue result ↔ ((self.now.reference ≡ due.now.reference) ×
+            FallsTo due.now.above self.now.chunk.items) }
     {
-        if self.reference != due.reference {
-            return false;
-        }
-        falls_to(due.above, &self.chunk)
+        self.reference == due.reference && falls_to(due.above, &self.chunk)
     }
 
     /// What a look-up comes to here. See [`ChunkSource::child`] for what is read.
@@ -122,6 +119,10 @@ pub(crate) fn chunk_at<T: Copy + Drop, S: ChunkSource<Place = T>>(
 ) -> Result<ChunkOnWay<T>, RootFault>
     requires { IfSome kept (IsTested version) }
     ensures is { IfOk result (IsAtDue version due.now) }
+
+    // What was kept is not read again.
+    ensures again { IfSome kept (λ chunk. IsAtDue version due.now chunk →
+        (result ≡ Ok chunk) × (source.new ≡ source.old)) }
     ensures lawful { (content : Content) → S.has source.old content → version ≡ content.version →
         IfSome kept (StandsInPlace S.is_place content) →
         StandsBelow S.is_place content due.now.reference.0 due.now.above place →

@@ -1,21 +1,17 @@
 //! Going down by the root, from each chunk to the one that it refers to.
-ghost use Rattle.std.specs.Prelude.{◌≡◌, [], ◌∷◌, ◌++◌, List, map, IfOk, OnOk};
+ghost use Rattle.std.specs.Prelude.{◌≡◌, ◌<◌, ℕ, [], ◌∷◌, ◌++◌, List, length, map, IfOk, OnOk};
 ghost use Rattle.std.specs.List.{AllByRecursion};
 ghost use Rattle.prolly_check.specs.Content.{Content};
 ghost use Rattle.prolly_check.specs.HeldPairs.{pairs_held};
 ghost use Rattle.prolly_check.specs.Sought.{sought_of};
 ghost use Rattle.prolly_root.specs.ChunkSource.{HasAsked};
-ghost use Rattle.prolly_file.specs.Frame.{IsSmall};
-ghost use Rattle.prolly_root.specs.Descent.{IsDescent, IsTested, LastTested, StandsAt};
+ghost use Rattle.prolly_root.specs.Descent.{IsDescent, IsTested, StandsAt};
 ghost use Rattle.prolly_root.specs.Descent.{StandsInPlace, chunks_on_way};
-ghost use Rattle.prolly_root.specs.ProofFile.{proof_file};
 ghost use Rattle.prolly_root.specs.RootFault.{IsOrFails, MayFail};
 ghost use Rattle.prolly_tree.specs.Difference.{IsMap};
-ghost use Rattle.prolly_root.specs.declared.look_up.chunk_on_way.ChunkOnWay.{ChunkOnWay as Chunk};
 
 use crate::chunk_source::ChunkSource;
 use crate::look_up::chunk_on_way::{ChunkOnWay, Onward, chunk_at};
-use crate::proof::proof_of;
 use crate::root_fault::RootFault;
 use prolly_check::{Due, Pairs, Sought, pairs_of};
 use prolly_entry::{Ref, Version};
@@ -30,32 +26,12 @@ pub(crate) struct Descent<'a, T> {
     pub(crate) sought: Sought<'a>,
 }
 
-impl<'a, T> Descent<'a, T> {
-    /// The pairs of the last chunk. A node has none.
-    pub(crate) fn pairs(&self, version: Version) -> Pairs<'_>
-        requires { LastTested version self.now.levels.items }
-        ensures last { (above : List (Chunk T)) (last : Chunk T) →
-            self.now.levels.items ≡ above ++ last ∷ [] → result ≡ pairs_held last.chunk.items }
-        ensures rising { IsMap result }
-    {
-        last_pairs(version, &self.levels)
-    }
-
-    /// The proof that its chunks are.
-    pub(crate) fn proof(&self, alloc: Global, version: Version) -> Result<Vec<u8>, AllocError>
-        ensures { IfOk result (λ proof.
-            AllByRecursion IsSmall (chunks_on_way self.now.levels.items) ×
-            (proof.items ≡ proof_file version (chunks_on_way self.now.levels.items))) }
-    {
-        proof_of(alloc, version, &chunks_of(alloc, &self.levels)?)
-    }
-}
-
 /// The pairs of the last of these chunks. A node has none.
 pub(crate) fn last_pairs<T>(version: Version, levels: &[ChunkOnWay<T>]) -> Pairs<'_>
-    requires { LastTested version levels.now }
-    ensures last { (above : List (Chunk T)) (last : Chunk T) →
-        levels.now ≡ above ++ last ∷ [] → result ≡ pairs_held last.chunk.items }
+    requires some { 0 < length levels.now }
+    requires all { AllByRecursion (IsTested version) levels.now }
+    ensures last { (above : List (List ℕ)) (last : List ℕ) →
+        chunks_on_way levels.now ≡ above ++ last ∷ [] → result ≡ pairs_held last }
     ensures rising { IsMap result }
 {
     let last = &levels[levels.len() - 1];
@@ -63,7 +39,10 @@ pub(crate) fn last_pairs<T>(version: Version, levels: &[ChunkOnWay<T>]) -> Pairs
 }
 
 /// The bytes of these chunks.
-fn chunks_of<T>(alloc: Global, levels: &[ChunkOnWay<T>]) -> Result<Vec<&[u8]>, AllocError>
+pub(crate) fn chunks_of<T>(
+    alloc: Global,
+    levels: &[ChunkOnWay<T>],
+) -> Result<Vec<&[u8]>, AllocError>
     ensures { IfOk result (λ chunks.
         map (λ chunk. chunk.now) chunks.items ≡ chunks_on_way levels.now) }
 {

@@ -1,6 +1,6 @@
 //! Looking up by the root again and again, in a tree of which no more is read than that wants.
 ghost use Rattle.std.specs.Prelude.{◌≡◌, ◌≤◌, ◌<◌, ℕ, [], ◌∷◌, ◌++◌, List, length, option_map, IfOk};
-ghost use Rattle.std.specs.Prelude.{IfErr, IfSome, OnErr, OnOk};
+ghost use Rattle.std.specs.Prelude.{Err, IfErr, IfSome, Ok, OnErr, OnOk};
 ghost use Rattle.std.specs.List.{AllByRecursion};
 ghost use Rattle.std.specs.Option.{option_copied};
 ghost use Rattle.prolly_check.specs.Content.{Content};
@@ -12,16 +12,18 @@ ghost use Rattle.prolly_check.specs.Sought.Sought.{Key};
 ghost use Rattle.prolly_check.specs.Way.{IsCountWay, IsWay, IsWayTo};
 ghost use Rattle.prolly_entry.specs.Cut.{sha512_cut};
 ghost use Rattle.prolly_entry.specs.declared.version.Version.TheVariants.{Two};
-ghost use Rattle.prolly_root.specs.ChunkSource.{HasAsked};
-ghost use Rattle.prolly_root.specs.Descent.{IsDescent, StandsInPlace};
-ghost use Rattle.prolly_root.specs.ProofFile.{IsSomeProof};
-ghost use Rattle.prolly_root.specs.RootFault.{IsOrFails, MayFail, OnlyRead, TellsReads};
-ghost use Rattle.prolly_root.specs.Reader.{AreFirstFound, IsReaderOf, way_of};
+ghost use Rattle.prolly_file.specs.Frame.{IsSmall};
+ghost use Rattle.prolly_root.specs.Descent.{IsWayDown};
+ghost use Rattle.prolly_root.specs.ProofFile.{IsSomeProof, proof_file};
+ghost use Rattle.prolly_root.specs.RootFault.{OnlyRead, TellsReads};
+ghost use Rattle.prolly_root.specs.Reader.{AreFirstFound, IsEmptied, IsReaderOf, LooksUp, way_of};
+ghost use Rattle.prolly_tree.specs.Difference.{IsMap};
 ghost use Rattle.prolly_tree.specs.File.{root_reference};
 
 use crate::chunk_source::ChunkSource;
 use crate::look_up::chunk_on_way::ChunkOnWay;
-use crate::look_up::descent::{Descent, go_down, last_pairs};
+use crate::look_up::descent::{chunks_of, go_down, last_pairs};
+use crate::proof::proof_of;
 use crate::root_fault::RootFault;
 use prolly_check::laws::tops_are_read;
 use prolly_check::{Pairs, Sought, first_pairs, pair_sought, rest_from, value_in};
@@ -118,21 +120,14 @@ impl<T: Copy + Drop> Reader<T> {
         source: &mut S,
         key: &[u8],
     ) -> Result<Option<Vec<u8>>, RootFault>
-        ensures of { (self.new.version ≡ self.old.version) × (self.new.root ≡ self.old.root) }
         ensures found { IfOk result (λ value. IsWay self.old.version self.old.root key.now
             (way_of self.new) (option_map (λ v. v.items) value)) }
-        ensures none { OnErr result (self.new.levels ≡ []) }
-        ensures kept { (content : Content) → S.has source.old content →
-            IsReaderOf S.is_place content self.old → IsReaderOf S.is_place content self.new }
-        ensures lawful { (content : Content) → S.has source.old content →
-            IsReaderOf S.is_place content self.old → IfErr result MayFail }
-        ensures keeps { (content : Content) → S.has source.old content → S.has source.new content }
-        ensures reads { TellsReads (S.failures source.old) (S.failures source.new) result }
+        ensures looked { LooksUp S.has S.failures S.is_place source.old source.new self.old
+            self.new result }
     {
-        let descent = self.descend(alloc, source, Sought::Key(key))?;
-        let value = copied(alloc, value_in(descent.pairs(self.version), key))?;
-        self.levels = descent.levels;
-        Ok(value)
+        self.descend(alloc, source, Sought::Key(key))?;
+        let value = copied(alloc, value_in(self.pairs(), key));
+        self.hand_on(value)
     }
 
     /// The pair of this number, counted from 0 in the order of keys, that the tree with the
@@ -144,21 +139,13 @@ impl<T: Copy + Drop> Reader<T> {
         n: u64,
     ) -> Result<Option<Pair>, RootFault>
         requires { self.old.version ≡ Two }
-        ensures of { (self.new.version ≡ self.old.version) × (self.new.root ≡ self.old.root) }
         ensures found { IfOk result (IsCountWay self.old.root n (way_of self.new)) }
-        ensures none { OnErr result (self.new.levels ≡ []) }
-        ensures kept { (content : Content) → S.has source.old content →
-            IsReaderOf S.is_place content self.old → IsReaderOf S.is_place content self.new }
-        ensures lawful { (content : Content) → S.has source.old content →
-            IsReaderOf S.is_place content self.old → IfErr result MayFail }
-        ensures keeps { (content : Content) → S.has source.old content → S.has source.new content }
-        ensures reads { TellsReads (S.failures source.old) (S.failures source.new) result }
+        ensures looked { LooksUp S.has S.failures S.is_place source.old source.new self.old
+            self.new result }
     {
-        let descent = self.descend(alloc, source, Sought::Number(n))?;
-        let found = pair_sought(descent.pairs(self.version), descent.sought);
-        let pair = copy_of(alloc, found)?;
-        self.levels = descent.levels;
-        Ok(pair)
+        let there = self.descend(alloc, source, Sought::Number(n))?;
+        let pair = copy_of(alloc, pair_sought(self.pairs(), there));
+        self.hand_on(pair)
     }
 
     /// The first pairs that the tree with the reader's root has from the key on: those of one leaf,
@@ -171,22 +158,14 @@ impl<T: Copy + Drop> Reader<T> {
         from: &[u8],
         most: usize,
     ) -> Result<Vec<Pair>, RootFault>
-        ensures of { (self.new.version ≡ self.old.version) × (self.new.root ≡ self.old.root) }
         ensures found { IfOk result (λ pairs. AreFirstFound self.old.version self.old.root
             from.now most (way_of self.new) pairs.items) }
-        ensures none { OnErr result (self.new.levels ≡ []) }
-        ensures kept { (content : Content) → S.has source.old content →
-            IsReaderOf S.is_place content self.old → IsReaderOf S.is_place content self.new }
-        ensures lawful { (content : Content) → S.has source.old content →
-            IsReaderOf S.is_place content self.old → IfErr result MayFail }
-        ensures keeps { (content : Content) → S.has source.old content → S.has source.new content }
-        ensures reads { TellsReads (S.failures source.old) (S.failures source.new) result }
+        ensures looked { LooksUp S.has S.failures S.is_place source.old source.new self.old
+            self.new result }
     {
-        let descent = self.descend(alloc, source, Sought::Key(from))?;
-        let leaf = rest_from(descent.pairs(self.version), from);
-        let pairs = first_pairs(alloc, leaf, most)?;
-        self.levels = descent.levels;
-        Ok(pairs)
+        self.descend(alloc, source, Sought::Key(from))?;
+        let pairs = first_pairs(alloc, rest_from(self.pairs(), from), most);
+        self.hand_on(pairs)
     }
 
     /// The proof of what the tree with the reader's root has at the key: of its value, or that it
@@ -199,21 +178,14 @@ impl<T: Copy + Drop> Reader<T> {
         source: &mut S,
         key: &[u8],
     ) -> Result<Vec<u8>, RootFault>
-        ensures of { (self.new.version ≡ self.old.version) × (self.new.root ≡ self.old.root) }
         ensures proves { IfOk result (λ proof.
             IsSomeProof self.old.version self.old.root key.now proof.items) }
-        ensures none { OnErr result (self.new.levels ≡ []) }
-        ensures kept { (content : Content) → S.has source.old content →
-            IsReaderOf S.is_place content self.old → IsReaderOf S.is_place content self.new }
-        ensures lawful { (content : Content) → S.has source.old content →
-            IsReaderOf S.is_place content self.old → IfErr result MayFail }
-        ensures keeps { (content : Content) → S.has source.old content → S.has source.new content }
-        ensures reads { TellsReads (S.failures source.old) (S.failures source.new) result }
+        ensures looked { LooksUp S.has S.failures S.is_place source.old source.new self.old
+            self.new result }
     {
-        let descent = self.descend(alloc, source, Sought::Key(key))?;
-        let proof = descent.proof(alloc, self.version)?;
-        self.levels = descent.levels;
-        Ok(proof)
+        self.descend(alloc, source, Sought::Key(key))?;
+        let proof = self.proof(alloc);
+        self.hand_on(proof)
     }
 
     /// Goes to where a look-up of the key ends. What is there is given by
@@ -224,19 +196,12 @@ impl<T: Copy + Drop> Reader<T> {
         source: &mut S,
         key: &[u8],
     ) -> Result<(), RootFault>
-        ensures of { (self.new.version ≡ self.old.version) × (self.new.root ≡ self.old.root) }
         ensures found { OnOk result
             (IsWayTo self.old.version self.old.root (Key key.now) (way_of self.new)) }
-        ensures none { OnErr result (self.new.levels ≡ []) }
-        ensures kept { (content : Content) → S.has source.old content →
-            IsReaderOf S.is_place content self.old → IsReaderOf S.is_place content self.new }
-        ensures lawful { (content : Content) → S.has source.old content →
-            IsReaderOf S.is_place content self.old → IfErr result MayFail }
-        ensures keeps { (content : Content) → S.has source.old content → S.has source.new content }
-        ensures reads { TellsReads (S.failures source.old) (S.failures source.new) result }
+        ensures looked { LooksUp S.has S.failures S.is_place source.old source.new self.old
+            self.new result }
     {
-        let descent = self.descend(alloc, source, Sought::Key(key))?;
-        self.levels = descent.levels;
+        self.descend(alloc, source, Sought::Key(key))?;
         Ok(())
     }
 
@@ -249,7 +214,7 @@ impl<T: Copy + Drop> Reader<T> {
             way_of self.now ≡ above ++ last ∷ [] →
             result ≡ pairs_from from.now (pairs_held last) }
     {
-        rest_from(last_pairs(self.version, &self.levels), from)
+        rest_from(self.pairs(), from)
     }
 
     /// How many chunks show what the last look-up has found.
@@ -259,24 +224,20 @@ impl<T: Copy + Drop> Reader<T> {
         self.levels.len()
     }
 
-    /// Goes down from the root. What was kept is taken out of the reader.
+    /// Goes down from the root, and keeps the chunks of the way. Gives what is sought in the last one.
     fn descend<'a, S: ChunkSource<Place = T>>(
         &mut self,
         alloc: Global,
         source: &mut S,
         sought: Sought<'a>,
-    ) -> Result<Descent<'a, T>, RootFault>
-        ensures of { (self.new.version ≡ self.old.version) × (self.new.root ≡ self.old.root) ×
-            (self.new.top ≡ self.old.top) × (self.new.levels ≡ []) }
-        ensures found { IfOk result
-            (IsDescent self.old.version self.old.root (sought_of sought.entry)) }
-        ensures lawful { (content : Content) → S.has source.old content →
-            IsReaderOf S.is_place content self.old → IsOrFails (λ descent.
-            AllByRecursion (StandsInPlace S.is_place content) descent.levels.items) MayFail result }
-        ensures asked { HasAsked S.has S.failures source.old source.new result }
+    ) -> Result<Sought<'a>, RootFault>
+        ensures looked { LooksUp S.has S.failures S.is_place source.old source.new self.old
+            self.new result }
+        ensures found { IfOk result (λ there. IsWayDown self.old.version self.old.root
+            (sought_of sought.entry) (way_of self.new) (sought_of there)) }
     {
         let kept = mem::replace(&mut self.levels, Vec::new(alloc));
-        go_down(
+        let descent = go_down(
             alloc,
             source,
             self.version,
@@ -284,7 +245,41 @@ impl<T: Copy + Drop> Reader<T> {
             self.top,
             kept,
             sought,
-        )
+        )?;
+        self.levels = descent.levels;
+        Ok(descent.sought)
+    }
+
+    /// The pairs of the last chunk that is kept. A node has none.
+    fn pairs(&self) -> Pairs<'_>
+        requires { 0 < length (way_of self.now) }
+        ensures last { (above : List (List ℕ)) (last : List ℕ) →
+            way_of self.now ≡ above ++ last ∷ [] → result ≡ pairs_held last }
+        ensures rising { IsMap result }
+    {
+        last_pairs(self.version, &self.levels)
+    }
+
+    /// The proof that the kept chunks are.
+    fn proof(&self, alloc: Global) -> Result<Vec<u8>, AllocError>
+        ensures { IfOk result (λ proof. AllByRecursion IsSmall (way_of self.now) ×
+            (proof.items ≡ proof_file self.now.version (way_of self.now))) }
+    {
+        proof_of(alloc, self.version, &chunks_of(alloc, &self.levels)?)
+    }
+
+    /// Hands on what a look-up found. Where memory was refused for it, nothing is kept.
+    fn hand_on<V>(&mut self, found: Result<V, AllocError>) -> Result<V, RootFault>
+        ensures ok { IfOk found (λ value. (result ≡ Ok value) × (self.new ≡ self.old)) }
+        ensures err { OnErr found ((result ≡ Err RootFault.Memory) × IsEmptied self.old self.new) }
+    {
+        match found {
+            Ok(value) => Ok(value),
+            Err(AllocError) => {
+                self.levels.clear();
+                Err(RootFault::Memory)
+            }
+        }
     }
 }
 

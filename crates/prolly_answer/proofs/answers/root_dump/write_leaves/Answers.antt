@@ -27,7 +27,7 @@ returns-in_err-seek-clause-dumped g c =
     c.loop-next.next.items c.args.sink.now c.loop-next.sink c.loop-next.invariant.dump
     (RefusesNoneOf g.S.ChunkSource.is_place (g.S.ChunkSource.has c.args.source.now) c.args.reader)
     c.in_err-seek.field-0.0
-    (λ content has opened. c.in_err-seek.ensures.lawful content
+    (λ content has opened. c.in_err-seek.ensures.looked.lawful content
     (c.loop-next.invariant.keeps content has) (c.loop-next.invariant.opened content has opened)))
 
 pub returns-in_default-clause-dumped : goal.returns-in_default-clause-dumped
@@ -99,8 +99,8 @@ loop-next-preserved g c =
     c.deref-in-loop-next.result.now way leaf inv.version inv.root c.deref.ensures.value
     c.deref-in-loop-next.ensures.value c.in_ok-seek.ensures.found c.leaf_from-leaf.ensures in
     record {
-      version = c.in_ok-seek.ensures.of.0 ∙ inv.version;
-      root = c.in_ok-seek.ensures.of.1 ∙ inv.root;
+      version = c.in_ok-seek.ensures.looked.of.0 ∙ inv.version;
+      root = c.in_ok-seek.ensures.looked.of.1 ∙ inv.root;
       dump = dump_goes_on g.W.Sink.seen c.args.reader.version c.args.reader.root c.args.form
           next c.args.sink.now c.loop-next.sink inv.dump
           (RefusesNoneOf g.S.ChunkSource.is_place (g.S.ChunkSource.has c.args.source.now) c.args.reader)
@@ -109,8 +109,8 @@ loop-next-preserved g c =
           (c.in_ok-next.ensures.behind ∙ ap next_key c.in-Some.ensures.key.1);
       bytes = subst AreBytes (sym c.in_ok-next.ensures.behind)
           (next_bytes c.in-Some.last.now (all_bytes c.in-Some.last.now c.key_behind.ensures.bytes));
-      reads = c.in_ok-seek.ensures.reads ∙ inv.reads;
-      keeps = λ content has. c.in_ok-seek.ensures.keeps content (inv.keeps content has);
-      opened = λ content has opened. c.in_ok-seek.ensures.kept content (inv.keeps content has)
+      reads = c.in_ok-seek.ensures.looked.reads ∙ inv.reads;
+      keeps = λ content has. c.in_ok-seek.ensures.looked.keeps content (inv.keeps content has);
+      opened = λ content has opened. c.in_ok-seek.ensures.looked.kept content (inv.keeps content has)
           (inv.opened content has opened);
     }

@@ -26,7 +26,7 @@ returns-in_err-value-clause-found g c =
     c.args.notation (λ k. k.items) c.args.keys.now
     (RefusesNoneOf g.S.ChunkSource.is_place (g.S.ChunkSource.has c.args.source.now) c.args.reader)
     c.loop-key.key-index c.args.sink.now c.loop-key.sink inv.asking c.in_err-value.field-0.0
-    (λ content has opened. c.in_err-value.ensures.lawful content (inv.keeps content has)
+    (λ content has opened. c.in_err-value.ensures.looked.lawful content (inv.keeps content has)
     (inv.opened content has opened)))
 
 pub returns-in_err-write_found-clause-found : goal.returns-in_err-write_found-clause-found
@@ -58,8 +58,8 @@ loop-key-preserved g c =
     (sym c.as_deref.ensures.value)
     c.in_ok-value.ensures.found in
     record {
-      version = c.in_ok-value.ensures.of.0 ∙ inv.version;
-      root = c.in_ok-value.ensures.of.1 ∙ inv.root;
+      version = c.in_ok-value.ensures.looked.of.0 ∙ inv.version;
+      root = c.in_ok-value.ensures.looked.of.1 ∙ inv.root;
       asking = asks_on g.W.Sink.seen c.args.reader.version c.args.reader.root c.args.notation
           (λ k. k.items) c.args.keys.now
           (RefusesNoneOf g.S.ChunkSource.is_place (g.S.ChunkSource.has c.args.source.now) c.args.reader)
@@ -68,8 +68,8 @@ loop-key-preserved g c =
           c.deref-in-loop-key.ensures.value (option_copied c.as_deref.result)
           (way_of c.get.new.self) one c.write_found.new.sink c.in_ok-write_found.ensures.ok
           c.write_found.ensures.keeping;
-      reads = c.in_ok-value.ensures.reads ∙ inv.reads;
-      keeps = λ content has. c.in_ok-value.ensures.keeps content (inv.keeps content has);
-      opened = λ content has opened. c.in_ok-value.ensures.kept content (inv.keeps content has)
+      reads = c.in_ok-value.ensures.looked.reads ∙ inv.reads;
+      keeps = λ content has. c.in_ok-value.ensures.looked.keeps content (inv.keeps content has);
+      opened = λ content has opened. c.in_ok-value.ensures.looked.kept content (inv.keeps content has)
           (inv.opened content has opened);
     }

@@ -48,7 +48,7 @@ returns-in-Err-clause-err g c = scan_fails g.W.Sink.seen c.args.reader.version
     c.loop-left.next.items c.args.sink.now
     c.loop-left.sink c.loop-left.invariant.scan (omega arith)
     (RefusesNoneOf g.S.ChunkSource.is_place (g.S.ChunkSource.has c.args.source.now) c.args.reader) c.in-Err.fault
-    (λ content has opened. c.in-Err.ensures.lawful content
+    (λ content has opened. c.in-Err.ensures.looked.lawful content
     (c.loop-left.invariant.keeps content has) (c.loop-left.invariant.opened content has opened))
 
 pub returns-in_default-last-clause-ok : goal.returns-in_default-last-clause-ok
@@ -149,10 +149,10 @@ loop-left-preserved g c =
       c.in-Ok-pairs_from.pairs.ok,
     )) in
     record {
-      reads = c.in-Ok-pairs_from.ensures.reads ∙ c.loop-left.invariant.reads;
-      version = c.in-Ok-pairs_from.ensures.of.0 ∙ c.loop-left.invariant.version;
-      root = c.in-Ok-pairs_from.ensures.of.1 ∙ c.loop-left.invariant.root;
-      opened = λ content has opened. c.in-Ok-pairs_from.ensures.kept content
+      reads = c.in-Ok-pairs_from.ensures.looked.reads ∙ c.loop-left.invariant.reads;
+      version = c.in-Ok-pairs_from.ensures.looked.of.0 ∙ c.loop-left.invariant.version;
+      root = c.in-Ok-pairs_from.ensures.looked.of.1 ∙ c.loop-left.invariant.root;
+      opened = λ content has opened. c.in-Ok-pairs_from.ensures.looked.kept content
           (c.loop-left.invariant.keeps content has) (c.loop-left.invariant.opened content has opened);
       scan = scan_goes_on g.W.Sink.seen c.args.reader.version c.args.reader.root
           c.args.scan.now.from.now c.args.scan.now.limit c.args.scan.now.notation left
@@ -166,7 +166,7 @@ loop-left-preserved g c =
           (c.deref-in-loop-left.ensures.value ∙ all) (sym c.in-Some.ensures.value))
           (c.in-Ok-key_behind.ensures.behind ∙ ap next_key c.key.ensures.key)
           (omega (arith, c.len-count.ensures, c.in-Ok-pairs_from.pairs.ok, ap length all));
-      keeps = λ content has. c.in-Ok-pairs_from.ensures.keeps content
+      keeps = λ content has. c.in-Ok-pairs_from.ensures.looked.keeps content
           (c.loop-left.invariant.keeps content has);
     }
 
@@ -175,4 +175,4 @@ returns-in-Err-clause-reads g c =
     let new = g.S.ChunkSource.failures c.pairs_from.new.source in
     subst (λ n. TellsScanReads n new (Err (Root c.in-Err.fault))) c.loop-left.invariant.reads
     (look_up_tells (g.S.ChunkSource.failures c.loop-left.source) new c.in-Err.fault
-    c.in-Err.ensures.reads)
+    c.in-Err.ensures.looked.reads)

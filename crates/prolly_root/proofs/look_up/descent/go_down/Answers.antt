@@ -1,6 +1,5 @@
 use Rattle.std.proofs.Common.{[], ◌∷◌, ◌++◌, ◌≡◌, inl, refl, sym, subst, ◌∙◌, ap}
 use Rattle.std.specs.List.{AllByRecursion}
-use Rattle.std.specs.Vec.Iter.{into_iter_items}
 use Rattle.prolly_check.specs.Sought.{sought_of}
 use Rattle.prolly_check.specs.Way.{IsNamed}
 use Rattle.prolly_entry.specs.lemmas.Lists.{all_append}
@@ -12,8 +11,7 @@ use Rattle.prolly_root.proofs.Descending.{none_passed, one_more, one_passed, way
 use Rattle.prolly_root.proofs.look_up.descent.go_down.Goals as goal
 
 pub chunk_at-requires : goal.chunk_at-requires
-chunk_at-requires g c = (next_kept (IsTested c.args.version) (into_iter_items c.loop-levels.kept)
-    (into_iter_items c.next.new.self) c.next.result c.next.ensures.items
+chunk_at-requires g c = (next_kept (IsTested c.args.version) _ _ _ c.next.ensures.items
     c.loop-levels.invariant.kept).0
 
 pub returns-in_err-chunk : goal.returns-in_err-chunk
@@ -26,8 +24,7 @@ returns-in_err-chunk g c =
           let on = before.lawful content has same top keeps in
           c.in_err-chunk.ensures.lawful content (before.asked.0 content has) same
           (next_kept (StandsInPlace g.S.ChunkSource.is_place content)
-          (into_iter_items c.loop-levels.kept) (into_iter_items c.next.new.self) c.next.result
-          c.next.ensures.items on.left).0 on.at;
+          _ _ _ c.next.ensures.items on.left).0 on.at;
       asked = asked_on g.S.ChunkSource.has g.S.ChunkSource.failures
           (λ n. TellsFailure n (g.S.ChunkSource.failures c.chunk_at.new.source) fault)
           before.asked c.in_err-chunk.ensures.asked;
@@ -48,8 +45,7 @@ returns-in_err-onward g c =
           let on = before.lawful content h same top keeps in
           let kept = at.lawful content (before.asked.0 content h) same
           (next_kept (StandsInPlace g.S.ChunkSource.is_place content)
-          (into_iter_items c.loop-levels.kept) (into_iter_items c.next.new.self) c.next.result
-          c.next.ensures.items on.left).0 on.at in
+          _ _ _ c.next.ensures.items on.left).0 on.at in
           (stepped.lawful content (at.asked.0 content (before.asked.0 content h)) same kept).1;
       asked = asked_on has failures (λ n. TellsFailure n (failures c.step.new.source) fault)
           (asked_on has failures (λ n. failures c.chunk_at.new.source ≡ n) before.asked at.asked)
@@ -79,19 +75,19 @@ returns-in-End-clause-found g c =
     let is = c.in_ok-chunk.ensures.is in
     let stepped = c.in_ok-onward.ensures in
     let more = c.in_ok-keep.ensures in record {
-      way = way_ends version c.args.root.now.0 (sought_of c.args.sought) (chunks_on_way above) due
-          before.way chunk.chunk.items
-          (subst (λ r. IsNamed version r.0 chunk.chunk.items) is.reference is.is.named) is.falls
-          (subst (IsOnward version (sought_of due.sought) chunk.chunk.items) c.in-End.is stepped.is)
-          (chunks_on_way c.keep.new.levels.items)
-          (one_more above c.keep.new.levels.items c.step.new.self more ∙
-          ap (λ chunk. chunks_on_way above ++ chunk.items ∷ []) stepped.stays.1);
-      there = refl;
+      to = record {
+        way = way_ends version c.args.root.now.0 (sought_of c.args.sought) (chunks_on_way above) due
+            before.way chunk.chunk.items
+            (subst (λ r. IsNamed version r.0 chunk.chunk.items) is.reference is.is.named) is.falls
+            (subst (IsOnward version (sought_of due.sought) chunk.chunk.items) c.in-End.is
+            stepped.is) (chunks_on_way c.keep.new.levels.items)
+            (one_more above c.keep.new.levels.items c.step.new.self more ∙
+            ap (λ chunk. chunks_on_way above ++ chunk.items ∷ []) stepped.stays.1);
+        there_is = refl;
+      };
       all = subst (AllByRecursion (IsTested version)) (sym more)
           (all_append (IsTested version) above (c.step.new.self ∷ []) before.tested
           (stepped.level, tt));
-      end = record { above = above; last = c.step.new.self; are = more; tested = stepped.level };
-      last = ap (λ chunk. chunk.items) (sym stepped.stays.1);
     }
 
 pub returns-in-End-clause-lawful : goal.returns-in-End-clause-lawful
@@ -99,8 +95,7 @@ returns-in-End-clause-lawful g c content has same top keeps =
     let P = StandsInPlace g.S.ChunkSource.is_place content in
     let before = c.loop-levels.invariant in
     let on = before.lawful content has same top keeps in
-    let next = next_kept P (into_iter_items c.loop-levels.kept) (into_iter_items c.next.new.self)
-    c.next.result c.next.ensures.items on.left in
+    let next = next_kept P _ _ _ c.next.ensures.items on.left in
     let had = before.asked.0 content has in
     let kept = c.in_ok-chunk.ensures.lawful content had same next.0 on.at in
     let later = c.in_ok-onward.ensures.lawful content
@@ -132,8 +127,7 @@ loop-levels-preserved g c =
       tested = subst (AllByRecursion (IsTested version)) (sym more)
           (all_append (IsTested version) above (c.step.new.self ∷ []) before.tested
           (stepped.level, tt));
-      kept = (next_kept (IsTested version) (into_iter_items c.loop-levels.kept)
-          (into_iter_items c.next.new.self) c.next.result c.next.ensures.items before.kept).1;
+      kept = (next_kept (IsTested version) _ _ _ c.next.ensures.items before.kept).1;
       asked = (
         λ content has. stepped.asked.0 content
             (c.in_ok-chunk.ensures.asked.0 content (before.asked.0 content has)),
@@ -142,8 +136,7 @@ loop-levels-preserved g c =
       lawful = λ content has same top keeps.
           let P = StandsInPlace g.S.ChunkSource.is_place content in
           let on = before.lawful content has same top keeps in
-          let next = next_kept P (into_iter_items c.loop-levels.kept)
-          (into_iter_items c.next.new.self) c.next.result c.next.ensures.items on.left in
+          let next = next_kept P _ _ _ c.next.ensures.items on.left in
           let kept = c.in_ok-chunk.ensures.lawful content (before.asked.0 content has) same next.0
           on.at in
           let late = c.in_ok-chunk.ensures.asked.0 content (before.asked.0 content has) in

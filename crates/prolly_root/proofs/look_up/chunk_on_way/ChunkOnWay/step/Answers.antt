@@ -1,7 +1,6 @@
-use Rattle.std.proofs.Common.{◌≡◌, Ok, Err, refl, subst, rules}
+use Rattle.std.proofs.Common.{Ok, Err, refl, subst, rules}
 use Rattle.prolly_check.specs.Sought.{IsMark, sought_of}
-use Rattle.prolly_check.specs.Way.{level_of}
-use Rattle.prolly_root.proofs.LawfulSteps.{steps_down}
+use Rattle.prolly_root.proofs.LawfulSteps.{level_read, steps_down}
 use Rattle.prolly_root.proofs.look_up.chunk_on_way.ChunkOnWay.step.Goals as goal
 
 pub returns-in_err-place-clause-level : goal.returns-in_err-place-clause-level
@@ -21,7 +20,8 @@ returns-clause-level g c = record {
 pub returns-in_err-place-clause-lawful : goal.returns-in_err-place-clause-lawful
 returns-in_err-place-clause-lawful g c content has same kept =
     let l = c.index-level.result.now in
-    let high : l ≡ level_of c.args.self.now.chunk.items = search rules in
+    let high = level_read c.args.version c.args.self.now.chunk.items l
+    c.requires.named.ordered.whole c.index-level.ensures in
     let down = steps_down g.S.ChunkSource.is_place content c.args.self.now
     c.tops_are_read.ensures.child c.tops_are_read.ensures.read kept c.args.version same
     c.deref.result.now c.deref.ensures.value (sought_of c.args.sought) c.in-Some.child
@@ -32,7 +32,8 @@ returns-in_err-place-clause-lawful g c content has same kept =
 pub returns-clause-lawful : goal.returns-clause-lawful
 returns-clause-lawful g c content has same kept =
     let l = c.index-level.result.now in
-    let high : l ≡ level_of c.args.self.now.chunk.items = search rules in
+    let high = level_read c.args.version c.args.self.now.chunk.items l
+    c.requires.named.ordered.whole c.index-level.ensures in
     steps_down g.S.ChunkSource.is_place content c.args.self.now
     c.tops_are_read.ensures.child c.tops_are_read.ensures.read kept c.args.version same
     c.deref.result.now c.deref.ensures.value (sought_of c.args.sought) c.in-Some.child

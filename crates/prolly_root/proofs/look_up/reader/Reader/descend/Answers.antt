@@ -1,30 +1,45 @@
 use Rattle.std.proofs.Common.{ap, subst, sym, ◌∙◌}
-use Rattle.std.specs.List.{AllByRecursion}
-use Rattle.std.specs.Prelude.{IfOk}
 use Rattle.prolly_check.specs.Sought.{sought_of}
-use Rattle.prolly_root.specs.Descent.{IsDescent, StandsAt, StandsInPlace}
+use Rattle.prolly_root.specs.Descent.{IsWayDown, chunks_on_way}
+use Rattle.prolly_root.specs.Reader.{IsReaderOf}
+use Rattle.prolly_root.proofs.Descending.{look_up_fails}
 use Rattle.prolly_root.proofs.look_up.reader.Reader.descend.Goals as goal
 
 pub go_down-requires : goal.go_down-requires
 go_down-requires g c = rw c.replace-kept.ensures.value c.self.invariant
 
-pub returns : goal.returns
-returns g c =
+pub returns-in_err-descent-clause-looked : goal.returns-in_err-descent-clause-looked
+returns-in_err-descent-clause-looked g c =
+    let view = c.self.view_is in
+    look_up_fails c.in_err-descent.field-0.0 c.from_residual.result c.from_residual.ensures (record {
+      version = ap (λ r. r.version) view;
+      root = ap (λ r. r.root) view;
+      top = ap (λ r. r.top) view;
+      levels = ap (λ v. v.items) c.replace-kept.ensures.after ∙ c.new.ensures.items;
+    }) (λ content has reader.
+    let opened = subst (IsReaderOf g.S.ChunkSource.is_place content) (sym view) reader in
+    c.in_err-descent.ensures.lawful content has opened.version opened.top
+    (rw c.replace-kept.ensures.value opened.levels)) c.in_err-descent.ensures.asked
+
+pub returns-clause-looked : goal.returns-clause-looked
+returns-clause-looked g c =
     let view = c.self.view_is in record {
-      of = (
-        ap (λ r. r.version) view,
-        ap (λ r. r.root) view,
-        ap (λ r. r.top) view,
-        ap (λ v. v.items) c.replace-kept.ensures.after ∙ c.new.ensures.items,
-      );
-      found = subst (λ r. IfOk c.go_down.result
-          (IsDescent r.version r.root (sought_of c.args.sought))) view c.go_down.ensures.found;
-      lawful = λ content has reader.
-          let at = subst (λ r. StandsAt g.S.ChunkSource.is_place content r.root r.top) (sym view)
-          reader.top in
-          c.go_down.ensures.lawful content has (ap (λ r. r.version) view ∙ reader.version) at
-          (subst (AllByRecursion (StandsInPlace g.S.ChunkSource.is_place content))
-          (sym (ap (λ v. v.items) c.replace-kept.ensures.value ∙ ap (λ r. r.levels) view))
-          reader.levels);
-      asked = c.go_down.ensures.asked;
+      of = (ap (λ r. r.version) view, ap (λ r. r.root) view);
+      none = tt;
+      kept = λ content has reader.
+          let opened = subst (IsReaderOf g.S.ChunkSource.is_place content) (sym view) reader in
+          record {
+            version = opened.version;
+            top = opened.top;
+            levels = c.in_ok-descent.ensures.lawful content has opened.version opened.top
+                (rw c.replace-kept.ensures.value opened.levels);
+          };
+      lawful = λ content has reader. tt;
+      keeps = c.in_ok-descent.ensures.asked.0;
+      reads = c.in_ok-descent.ensures.asked.1;
     }
+
+pub returns-clause-found : goal.returns-clause-found
+returns-clause-found g c = subst (λ r. IsWayDown r.version r.root (sought_of c.args.sought)
+    (chunks_on_way c.in_ok-descent.descent.levels.items)
+    (sought_of c.in_ok-descent.descent.sought)) c.self.view_is c.in_ok-descent.ensures.found.to

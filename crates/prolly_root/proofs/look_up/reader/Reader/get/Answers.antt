@@ -1,33 +1,28 @@
-use Rattle.std.proofs.Common.{ap, subst, sym, ◌∙◌}
+use Rattle.std.proofs.Common.{ap, option_map, ◌∙◌}
+use Rattle.std.proofs.lemmas.Result.{IfOk-weaker}
+use Rattle.prolly_check.specs.Way.{IsWay}
 use Rattle.prolly_tree.specs.LookUp.{find}
-use Rattle.prolly_check.specs.HeldPairs.{pairs_held}
-use Rattle.prolly_root.specs.Descent.{LastTested}
-use Rattle.prolly_root.proofs.Descending.{keeps_levels, keeps_none}
+use Rattle.prolly_root.proofs.Descending.{finds, hands_on, looks_up_so, some_way}
 use Rattle.prolly_root.proofs.look_up.reader.Reader.get.Goals as goal
 
 pub pairs-requires : goal.pairs-requires
-pairs-requires g c = subst (λ version. LastTested version c.in_ok-descent.descent.levels.items)
-    (sym (ap (λ reader. reader.version) c.self.view_is ∙ c.in_ok-descent.ensures.of.0))
-    c.in_ok-descent.ensures.found.end
+pairs-requires g c = some_way c.in_ok-descend.ensures.found
+
+pub returns-in_err-descend-clause-looked : goal.returns-in_err-descend-clause-looked
+returns-in_err-descend-clause-looked g c = looks_up_so c.in_err-descend.field-0.0
+    c.from_residual.result c.from_residual.ensures c.in_err-descend.ensures.looked
+
+pub returns-clause-looked : goal.returns-clause-looked
+returns-clause-looked g c = hands_on c.copied-value.result c.hand_on.result c.hand_on.ensures.ok
+    c.hand_on.ensures.err c.in_ok-descend.ensures.looked
 
 pub returns-clause-found : goal.returns-clause-found
 returns-clause-found g c =
-    let found = c.in_ok-descent.ensures.found in record {
-      way = found.way;
-      value_is = c.in_ok-value.ensures ∙ c.value_in.ensures ∙ ap (λ ps. find ps c.args.key.now)
-          (c.pairs.ensures.last found.end.above found.end.last found.end.are ∙
-          ap pairs_held (sym found.last));
-    }
-
-pub returns-clause-kept : goal.returns-clause-kept
-returns-clause-kept g c content has reader =
-    let left = c.in_ok-descent.ensures in
-    keeps_levels g.S.ChunkSource.is_place content c.args.self.now _
-    (ap (λ r. r.version) c.self.view_is ∙ left.of.0) (ap (λ r. r.root) c.self.view_is ∙ left.of.1)
-    (ap (λ r. r.top) c.self.view_is ∙ left.of.2) (left.lawful content has reader) reader
-
-pub returns-in_err-descent-clause-kept : goal.returns-in_err-descent-clause-kept
-returns-in_err-descent-clause-kept g c content has = keeps_none c.in_err-descent.ensures.of
-
-pub returns-in_err-value-clause-kept : goal.returns-in_err-value-clause-kept
-returns-in_err-value-clause-kept g c content has = keeps_none c.in_ok-descent.ensures.of
+    let way = c.in_ok-descend.ensures.found.way in
+    finds c.descend.new.self _ c.copied-value.result c.hand_on.result c.hand_on.ensures.ok c.hand_on.ensures.err
+    (λ value chunks. IsWay c.args.self.now.version c.args.self.now.root c.args.key.now chunks
+    (option_map (λ v. v.items) value)) (IfOk-weaker c.copied-value.result _ _ (λ value is. record {
+      way = way;
+      value_is = is ∙ c.value_in.ensures ∙ ap (λ ps. find ps c.args.key.now)
+          (c.pairs.ensures.last way.before way.last way.are);
+    }) c.copied-value.ensures)

@@ -1,35 +1,31 @@
-use Rattle.std.proofs.Common.{ap, refl, subst, sym, take, ◌∙◌}
+use Rattle.std.proofs.Common.{ap, refl, take, ◌∙◌}
+use Rattle.std.proofs.lemmas.Result.{IfOk-weaker}
 use Rattle.prolly_check.specs.HeldPairs.{pairs_held}
 use Rattle.prolly_check.specs.Leaves.{pairs_from}
-use Rattle.prolly_root.specs.Descent.{LastTested}
-use Rattle.prolly_root.proofs.Descending.{keeps_levels, keeps_none}
+use Rattle.prolly_root.specs.Reader.{AreFirstFound}
+use Rattle.prolly_root.proofs.Descending.{finds, hands_on, looks_up_so, some_way}
 use Rattle.prolly_root.proofs.look_up.reader.Reader.pairs_from.Goals as goal
 
 pub pairs-requires : goal.pairs-requires
-pairs-requires g c = subst (λ version. LastTested version c.in_ok-descent.descent.levels.items)
-    (sym (ap (λ reader. reader.version) c.self.view_is ∙ c.in_ok-descent.ensures.of.0))
-    c.in_ok-descent.ensures.found.end
+pairs-requires g c = some_way c.in_ok-descend.ensures.found
+
+pub returns-in_err-descend-clause-looked : goal.returns-in_err-descend-clause-looked
+returns-in_err-descend-clause-looked g c = looks_up_so c.in_err-descend.field-0.0
+    c.from_residual.result c.from_residual.ensures c.in_err-descend.ensures.looked
+
+pub returns-clause-looked : goal.returns-clause-looked
+returns-clause-looked g c = hands_on c.first_pairs-pairs.result c.hand_on.result c.hand_on.ensures.ok
+    c.hand_on.ensures.err c.in_ok-descend.ensures.looked
 
 pub returns-clause-found : goal.returns-clause-found
 returns-clause-found g c =
     let from = c.args.from.now in
-    let found = c.in_ok-descent.ensures.found in record {
-      found = pairs_from from (pairs_held found.way.last);
-      way = record { way = found.way; found_is = refl };
-      are = c.in_ok-pairs.ensures ∙ ap (take c.args.most) (c.rest_from-leaf.ensures ∙ ap (pairs_from from)
-          (c.pairs.ensures.last found.end.above found.end.last found.end.are ∙
-          ap pairs_held (sym found.last)));
-    }
-
-pub returns-clause-kept : goal.returns-clause-kept
-returns-clause-kept g c content has reader =
-    let left = c.in_ok-descent.ensures in
-    keeps_levels g.S.ChunkSource.is_place content c.args.self.now _
-    (ap (λ r. r.version) c.self.view_is ∙ left.of.0) (ap (λ r. r.root) c.self.view_is ∙ left.of.1)
-    (ap (λ r. r.top) c.self.view_is ∙ left.of.2) (left.lawful content has reader) reader
-
-pub returns-in_err-descent-clause-kept : goal.returns-in_err-descent-clause-kept
-returns-in_err-descent-clause-kept g c content has = keeps_none c.in_err-descent.ensures.of
-
-pub returns-in_err-pairs-clause-kept : goal.returns-in_err-pairs-clause-kept
-returns-in_err-pairs-clause-kept g c content has = keeps_none c.in_ok-descent.ensures.of
+    let way = c.in_ok-descend.ensures.found.way in
+    finds c.descend.new.self _ c.first_pairs-pairs.result c.hand_on.result c.hand_on.ensures.ok c.hand_on.ensures.err
+    (λ pairs chunks. AreFirstFound c.args.self.now.version c.args.self.now.root from c.args.most
+    chunks pairs.items) (IfOk-weaker c.first_pairs-pairs.result _ _ (λ pairs is. record {
+      found = pairs_from from (pairs_held way.last);
+      way = record { way = way; found_is = refl };
+      are = is ∙ ap (take c.args.most) (c.rest_from.ensures ∙ ap (pairs_from from)
+          (c.pairs.ensures.last way.before way.last way.are));
+    }) c.first_pairs-pairs.ensures)

@@ -1,16 +1,14 @@
-use Rattle.std.proofs.Common.{ap, ◌∙◌}
-use Rattle.prolly_root.proofs.Descending.{keeps_levels, keeps_none}
+use Rattle.std.proofs.Common.{Ok, refl}
+use Rattle.prolly_root.proofs.Descending.{hands_on, looks_up_so}
 use Rattle.prolly_root.proofs.look_up.reader.Reader.seek.Goals as goal
 
+pub returns-in_err-descend-clause-looked : goal.returns-in_err-descend-clause-looked
+returns-in_err-descend-clause-looked g c = looks_up_so c.in_err-descend.field-0.0
+    c.from_residual.result c.from_residual.ensures c.in_err-descend.ensures.looked
+
+pub returns-clause-looked : goal.returns-clause-looked
+returns-clause-looked g c = hands_on {E = Unit {0}} (Ok tt) (Ok tt) (refl, refl)
+    tt c.in_ok-descend.ensures.looked
+
 pub returns-clause-found : goal.returns-clause-found
-returns-clause-found g c = c.in_ok-descent.ensures.found.way
-
-pub returns-clause-kept : goal.returns-clause-kept
-returns-clause-kept g c content has reader =
-    let left = c.in_ok-descent.ensures in
-    keeps_levels g.S.ChunkSource.is_place content c.args.self.now _
-    (ap (λ r. r.version) c.self.view_is ∙ left.of.0) (ap (λ r. r.root) c.self.view_is ∙ left.of.1)
-    (ap (λ r. r.top) c.self.view_is ∙ left.of.2) (left.lawful content has reader) reader
-
-pub returns-in_err-descent-clause-kept : goal.returns-in_err-descent-clause-kept
-returns-in_err-descent-clause-kept g c content has = keeps_none c.in_err-descent.ensures.of
+returns-clause-found g c = c.in_ok-descend.ensures.found.way
