@@ -213,18 +213,11 @@ module _ {T U : Type 0} (version : Version) (start : Lefts) (before : Side T) (a
           let is = same_pair y q second.0 new.leaf (sym second.1 ∙ taken) in
           subst (FirstAbove q.key) (sym first.1) (subst (λ z. KeyBelow z.key x.key) is comes)
 
-  pub changes_first : GoesByPairs (left_of before) (left_of after) ways.Changed → (new : Side T)
-      (p : Pair) → before.leaf ≡ p ∷ new.leaf → new.due ≡ before.due → (other : Side U) (q : Pair) →
-      after.leaf ≡ q ∷ other.leaf → other.due ≡ after.due →
-      Changes version start q.key (Some p.value) (Some q.value)
-      (record { before = left_of new; after = left_of other })
-  changes_first g new p taken due other q taken' due' =
-      let so = by_pairs g.p g.q g.first g.second g.comes in
-      changes version start At _ moves (g.before_ready, g.after_ready) p q (
-        (taken, ap (λ d. flat_map dues d.items) due),
-        (taken', ap (λ d. flat_map dues d.items) due'),
-        so.0,
-      ) so.1
+  -- where the two first pairs are a change, they have one key and two values
+  pub are_changed : GoesByPairs (left_of before) (left_of after) ways.Changed → (new : Side T)
+      (p : Pair) → before.leaf ≡ p ∷ new.leaf → (other : Side U) (q : Pair) →
+      after.leaf ≡ q ∷ other.leaf → (p.key ≡ q.key) × (p.value ≢ q.value)
+  are_changed g new p taken other q taken' = by_pairs g.p g.q g.first g.second g.comes
     where
       by_pairs : (x y : Option Pair) → FirstPair before.leaf x → FirstPair after.leaf y →
           ComesTo x y ways.Changed → (p.key ≡ q.key) × (p.value ≢ q.value)
@@ -236,6 +229,19 @@ module _ {T U : Type 0} (version : Version) (start : Lefts) (before : Side T) (a
           let is' = same_pair y q second.0 other.leaf (sym second.1 ∙ taken') in
           subst (λ z. (z.key ≡ q.key) × (z.value ≢ q.value)) is
           (subst (λ z. (x.key ≡ z.key) × (x.value ≢ z.value)) is' comes)
+
+  pub changes_first : GoesByPairs (left_of before) (left_of after) ways.Changed → (new : Side T)
+      (p : Pair) → before.leaf ≡ p ∷ new.leaf → new.due ≡ before.due → (other : Side U) (q : Pair) →
+      after.leaf ≡ q ∷ other.leaf → other.due ≡ after.due →
+      Changes version start q.key (Some p.value) (Some q.value)
+      (record { before = left_of new; after = left_of other })
+  changes_first g new p taken due other q taken' due' =
+      let so = are_changed g new p taken other q taken' in
+      changes version start At _ moves (g.before_ready, g.after_ready) p q (
+        (taken, ap (λ d. flat_map dues d.items) due),
+        (taken', ap (λ d. flat_map dues d.items) due'),
+        so.0,
+      ) so.1
 
   pub ends_there : GoesByPairs (left_of before) (left_of after) ways.End →
       Ends version start × IsAtEnd (left_of before) × IsAtEnd (left_of after)

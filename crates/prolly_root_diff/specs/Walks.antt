@@ -105,6 +105,11 @@ Gives version old (Some (Added pair)) new = Changes version old pair.key None (S
 Gives version old (Some (Changed before after)) new =
     Changes version old after.key (Some before.value) (Some after.value) new
 
+-- Where a change tells two pairs, they have one key.
+abbrev pub IsOfOneKey : Option RootChange → Type 0
+IsOfOneKey (Some (Changed before after)) = before.key ≡ after.key
+IsOfOneKey change = Unit {0}
+
 -- ---- how a walk goes on
 
 -- A pair is in hand, or nothing is left.

@@ -6,7 +6,8 @@ ghost use Rattle.std.specs.Option.{is_some};
 ghost use Rattle.prolly_root_diff.specs.Notes.{AreNoted, TellsMissing};
 ghost use Rattle.prolly_root_diff.specs.Sides.{left_of};
 ghost use Rattle.prolly_root_diff.specs.ToGo.{ComesNearer};
-ghost use Rattle.prolly_root_diff.specs.Walks.{Gives, IsBegun, Lefts, TellsNew, TellsOld, lefts_of};
+ghost use Rattle.prolly_root_diff.specs.Walks.{Gives, IsBegun, IsOfOneKey, Lefts, TellsNew, TellsOld};
+ghost use Rattle.prolly_root_diff.specs.Walks.{lefts_of};
 ghost use Rattle.prolly_root_diff.specs.declared.notes.Notes.{Notes as NotesValue};
 
 use crate::change::RootChange;
@@ -111,6 +112,7 @@ impl<T: Copy + Drop, U: Copy + Drop> RootDifferences<T, U> {
         ensures version { self.new.version ≡ self.old.version }
         ensures gives { IfOk result (λ change. Gives self.old.version (lefts_of self.old) change
             (lefts_of self.new)) }
+        ensures one_key { IfOk result IsOfOneKey }
         ensures nearer { IfOk result (λ change. ComesNearer (lefts_of self.old) change
             (lefts_of self.new)) }
         ensures stops { OnErr result (self.new.stopped ≡ true) }
@@ -160,6 +162,7 @@ impl<T: Copy + Drop, U: Copy + Drop> RootDifferences<T, U> {
             2 ^ 64 ≤ sum_by (λ n. n.length) notes.new.items }
         ensures stays { (self.new.version ≡ self.old.version) ×
             (lefts_of self.new ≡ lefts_of self.old) × (self.new.stopped ≡ self.old.stopped) }
+        ensures still { is_some self.new.notes ≡ is_some self.old.notes }
     {
         // By this law what was noted tells what is missing.
         walks_are_right();
@@ -188,6 +191,7 @@ fn next_change<
     ensures gives { IfOk result (λ change. Gives version
         (record { before = left_of before.old; after = left_of after.old }) change
         (record { before = left_of before.new; after = left_of after.new })) }
+    ensures one_key { IfOk result IsOfOneKey }
     ensures nearer { IfOk result (λ change. ComesNearer
         (record { before = left_of before.old; after = left_of after.old }) change
         (record { before = left_of before.new; after = left_of after.new })) }

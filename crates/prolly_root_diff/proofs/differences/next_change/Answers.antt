@@ -5,7 +5,7 @@ use Rattle.prolly_root_diff.specs.Sides.{left_of}
 use Rattle.prolly_root_diff.proofs.Moving.{moves_on, opens_after, opens_before}
 use Rattle.prolly_root_diff.proofs.Moving as moving
 use Rattle.prolly_root_diff.proofs.Steps.{behind_first_due, skips_lighter, takes_nearer}
-use Rattle.prolly_root_diff.proofs.Steps.{adds_first, changes_first, ends_there, goes_behind, goes_by}
+use Rattle.prolly_root_diff.proofs.Steps.{adds_first, are_changed, changes_first, ends_there, goes_behind, goes_by}
 use Rattle.prolly_root_diff.proofs.Steps.{goes_down, passes_lighter, passes_on, removes_first}
 use Rattle.prolly_root_diff.proofs.Steps.{skips_on, stays}
 use Rattle.prolly_root_diff.proofs.Weights.{opens_lighter}
@@ -190,6 +190,14 @@ returns-in-Changed-clause-gives g c = changes_first c.args.version
     c.in_ok-old-in-Changed.ensures.due c.take-in-Changed-2.new.self
     c.in_ok-take-in-Changed.field-0 c.in_ok-take-in-Changed.ensures.pair
     c.in_ok-take-in-Changed.ensures.due
+
+pub returns-in-Changed-clause-one_key : goal.returns-in-Changed-clause-one_key
+returns-in-Changed-clause-one_key g c = (are_changed c.args.version
+    (record { before = left_of c.args.before.now; after = left_of c.args.after.now })
+    c.walk.before c.walk.after c.walk.invariant.moves c.in-Changed.ensures
+    c.take-in-Changed.new.self c.in_ok-old-in-Changed.old c.in_ok-old-in-Changed.ensures.pair
+    c.take-in-Changed-2.new.self c.in_ok-take-in-Changed.field-0
+    c.in_ok-take-in-Changed.ensures.pair).0
 
 pub returns-in-End-clause-gives : goal.returns-in-End-clause-gives
 returns-in-End-clause-gives g c = ends_there c.args.version
