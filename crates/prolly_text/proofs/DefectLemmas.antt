@@ -1,5 +1,5 @@
 -- What is wrong with a line that stands for no record.
-use Rattle.std.proofs.Common.{◌≡◌, ℕ, ◌+◌, ◌-◌, ◌%◌, ◌<◌, ◌≤◌, Bool, true, false}
+use Rattle.std.proofs.Common.{◌≡◌, ◌≢◌, ℕ, ◌+◌, ◌-◌, ◌%◌, ◌<◌, ◌≤◌, Bool, true, false}
 use Rattle.std.proofs.Common.{◌||◌, List, [], ◌∷◌, ◌++◌, length, take, drop, Option, Some, None}
 use Rattle.std.proofs.Common.{All, refl, sym, ap, ◌∙◌, subst, arith, if◌then◌else◌}
 use Rattle.std.proofs.Common.{append_assoc}
@@ -15,7 +15,7 @@ use Rattle.prolly_text.specs.Defects.{BreaksOff, HasByte, HasDefect, HasTwo, IsL
 use Rattle.prolly_text.specs.Defects.{IsPart, IsPartDefect, IsRead, IsVerdictOn}
 use Rattle.prolly_text.specs.Lines.{CutsAt, IsBadLine, IsLineOf, IsMarked, reads_bare_keys}
 use Rattle.prolly_text.specs.Notations.{separator}
-use Rattle.prolly_text.specs.PackedLines.{IsWrittenFor, value_in}
+use Rattle.prolly_text.specs.PackedLines.{IsWrittenFor, MarksRemoval, value_in}
 use Rattle.prolly_text.specs.Pieces.{BeginsWithAll, BeginsWithNone, HasPiece}
 use Rattle.prolly_text.specs.lemmas.Sequences.{all_more, piece_shortens}
 use Rattle.prolly_text.specs.declared.lines.defect.Defect.{Defect}
@@ -24,7 +24,7 @@ use Rattle.prolly_text.specs.declared.lines.defect.LinePlace.{LinePlace}
 use Rattle.prolly_text.specs.declared.lines.form.LineForm.{LineForm}
 use Rattle.prolly_text.specs.declared.lines.line.Change.{Change}
 use Rattle.prolly_text.specs.declared.notation.Notation.TheVariants.{Hex, Text}
-use Rattle.prolly_text.proofs.LineLemmas.{bare_line, cut_there, line_put}
+use Rattle.prolly_text.proofs.LineLemmas.{bare_line, cut_there, line_put, line_removed}
 
 -- ---- digits
 
@@ -68,13 +68,19 @@ all_digits : (xs : List ℕ) → AllByRecursion (λ b. is_ascii_hexdigit b ≡ t
 all_digits [] h = tt
 all_digits (x ∷ xs) h = (same_digits x ∙ h.0, all_digits xs h.1)
 
+-- As many digits as there are bytes are all of them.
+pub every_digit : (xs : List ℕ) (n : ℕ) → All (λ b. is_ascii_hexdigit b ≡ true) (take n xs) →
+    length xs ≤ n → AllByRecursion (λ b. is_hex_digit b ≡ true) xs
+every_digit xs n all within =
+    let every = subst (All (λ b. is_ascii_hexdigit b ≡ true)) (take_all n xs within) all in
+    all_digits xs (recursion_from_All (λ b. is_ascii_hexdigit b ≡ true) xs every)
+
 -- An even number of digits stands for bytes.
 pub digits_read : (xs : List ℕ) (n : ℕ) → All (λ b. is_ascii_hexdigit b ≡ true) (take n xs) →
     length xs ≤ n → length xs % 2 ≡ 0 → IsRead Hex xs
 digits_read xs n all within even =
-    let every = subst (All (λ b. is_ascii_hexdigit b ≡ true)) (take_all n xs within) all in
     decode_of-digits xs even (All-from_recursion (λ b. is_hex_digit b ≡ true) xs
-    (all_digits xs (recursion_from_All (λ b. is_ascii_hexdigit b ≡ true) xs every)))
+    (every_digit xs n all within))
 
 -- ---- escapes
 
@@ -122,13 +128,15 @@ breaks_off text rest start h none some = record {
 -- The second separator.
 pub second_there : (byte : ℕ) (line key change : List ℕ) (n start : ℕ) →
     CutsAt byte line key change → slice_get change n ≡ Some byte → n ≤ length change →
-    HasTwo byte start line (start + length key + 1 + n)
-second_there byte line key change n start cut there within = record {
+    All (λ b. b ≢ byte) (take n change) → HasTwo byte start line (start + length key + 1 + n)
+second_there byte line key change n start cut there within none = record {
   front = key;
   mid = take n change;
   back = drop (n + 1) change;
   is = cut.is ∙ (ap (λ (t : List ℕ). key ++ byte ∷ t) (cut_there change n byte there) ∙
       sym (append_assoc key (byte ∷ take n change) (byte ∷ drop (n + 1) change)));
+  none_before = cut.none;
+  none_between = recursion_from_All (λ b. b ≢ byte) (take n change) none;
   offset_is = ap (λ i. start + length key + 1 + i) (sym (length-take-le n change within));
 }
 
@@ -136,7 +144,7 @@ second_there byte line key change n start cut there within = record {
 
 -- What is wrong with a part of a line that stands for nothing is wrong with the line.
 pub part_wrong : (form : LineForm) (place : LinePlace) (line text : List ℕ) (before : ℕ)
-    (defect : Defect) → IsBadLine form line → IsPart (separator form.notation) line text before →
+    (defect : Defect) → IsBadLine form line → IsPart form line text before →
     IsPartDefect form.notation text (place.offset + before) defect →
     HasDefect form place line defect
 part_wrong form place line text before (defects.BadEscape offset) bad part wrong =
@@ -167,6 +175,15 @@ pub both_read : (form : LineForm) (line key_text change_text : List ℕ) →
     IsRead form.notation key_text → IsRead form.notation change_text → IsBadLine form line → ⊥
 both_read form line key_text change_text cut h k bad =
     bad h.0 (Some k.0) (line_put form line key_text change_text h.0 k.0 cut h.1 k.1)
+
+-- What is behind the separator of a line that stands for nothing, and whose key stands for bytes,
+-- marks no removal.
+pub marks_none : (form : LineForm) (line key_text change_text : List ℕ) →
+    CutsAt (separator form.notation) line key_text change_text →
+    IsRead form.notation key_text → IsBadLine form line →
+    MarksRemoval form.notation change_text → ⊥
+marks_none form line key_text change_text cut h bad marks =
+    bad h.0 None (line_removed form line key_text change_text h.0 cut h.1 marks)
 
 -- What is too long of the change of a line is too long of the line; where nothing is, the line
 -- stands for a record.

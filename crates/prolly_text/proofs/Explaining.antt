@@ -8,7 +8,7 @@ use Rattle.std.specs.Prelude.{codes, nat_lt}
 use Rattle.prolly_text.specs.Ahead.{BeginsWithLine, LiesWithin, LooksLong, PassesLine}
 use Rattle.prolly_text.specs.Defects.{HasDefect}
 use Rattle.prolly_text.specs.FaultyLines.{AreExplained, Explains, IsExplained, IsGood, IsSeen}
-use Rattle.prolly_text.specs.FaultyLines.{SeesFaulty, SeesGood, defect_lines, lines_with}
+use Rattle.prolly_text.specs.FaultyLines.{SeesFaulty, SeesGood, StopsAtFault, defect_lines, lines_with}
 use Rattle.prolly_text.specs.FaultyLines.{place_after, place_behind, shown_line, start}
 use Rattle.prolly_text.specs.Lines.{lines_of}
 use Rattle.prolly_text.specs.Notations.{written}
@@ -179,7 +179,7 @@ more_faulty form place (l ∷ lines) line faulty text defect (inr h) wrong = inr
 )
 
 -- Some lines are read and explained, and the rest follows.
-pub record IsUnderWay (form : LineForm) (text rest : List ℕ) (place : LinePlace)
+pub record IsUnderWay (form : LineForm) (limit : ℕ) (text rest : List ℕ) (place : LinePlace)
     (old out : List ℕ) (faulty : ℕ) : Type 0 where
   pub read : List (List ℕ)
   pub whole : lines_of text ≡ read ++ lines_of rest
@@ -189,10 +189,11 @@ pub record IsUnderWay (form : LineForm) (text rest : List ℕ) (place : LinePlac
   pub number_is : place.number ≡ length read
   pub place_is : rest ≢ [] → place ≡ place_after start read
   pub bytes_are : place.offset + length rest ≡ length text
+  pub stops : faulty ≡ limit → StopsAtFault form read
 
-pub none_read : (form : LineForm) (text old : List ℕ) →
-    IsUnderWay form text text start old old 0
-none_read form text old = record {
+pub none_read : (form : LineForm) (limit : ℕ) (text old : List ℕ) →
+    IsUnderWay form limit text text start old old 0
+none_read form limit text old = record {
   read = [];
   whole = refl;
   shown = [];
@@ -201,6 +202,7 @@ none_read form text old = record {
   number_is = refl;
   place_is = λ _. refl;
   bytes_are = omega arith;
+  stops = λ _. inl refl;
 }
 
 some_rest : (rest line : List ℕ) (after : List (List ℕ)) → lines_of rest ≡ line ∷ after → rest ≢ []
@@ -213,21 +215,24 @@ next_place : (text rest rest' : List ℕ) (place : LinePlace) (line : List ℕ) 
 next_place text rest rest' place line size end e (inl h) some = omega arith
 next_place text rest rest' place line size end e (inr h) some = absurd (some h.1)
 
-behind_is : (form : LineForm) (text rest rest' : List ℕ) (place : LinePlace) (old out : List ℕ)
-    (faulty size end : ℕ) (h : IsUnderWay form text rest place old out faulty)
+behind_is : (form : LineForm) (limit : ℕ) (text rest rest' : List ℕ) (place : LinePlace)
+    (old out : List ℕ) (faulty size end : ℕ)
+    (h : IsUnderWay form limit text rest place old out faulty)
     (p : PassesLine rest rest' size) → end ≡ place.offset + size → rest' ≢ [] →
     record { number = place.number + 1; offset = end } ≡ place_after start (h.read ++ p.line ∷ [])
-behind_is form text rest rest' place old out faulty size end h p e some =
+behind_is form limit text rest rest' place old out faulty size end h p e some =
     let here = h.place_is (some_rest rest p.line (lines_of rest') p.whole) in
     ap (λ (n : ℕ). let r : LinePlace = record { number = place.number + 1; offset = n } in r)
     (next_place text rest rest' place p.line size end e p.ends some)
     ∙ (ap (λ q. place_behind q p.line) here ∙ sym (place_after-snoc start h.read p.line))
 
-pub good_read : (form : LineForm) (text rest rest' : List ℕ) (place : LinePlace)
-    (old out out' : List ℕ) (faulty end : ℕ) → IsUnderWay form text rest place old out faulty →
+pub good_read : (form : LineForm) (limit : ℕ) (text rest rest' : List ℕ) (place : LinePlace)
+    (old out out' : List ℕ) (faulty end : ℕ) →
+    IsUnderWay form limit text rest place old out faulty → faulty < limit →
     SeesGood form place rest rest' end out out' →
-    IsUnderWay form text rest' (record { number = place.number + 1; offset = end }) old out' faulty
-good_read form text rest rest' place old out out' faulty end h k =
+    IsUnderWay form limit text rest' (record { number = place.number + 1; offset = end }) old out'
+    faulty
+good_read form limit text rest rest' place old out out' faulty end h less k =
     let p = k.passes in
     let here = h.place_is (some_rest rest p.line (lines_of rest') p.whole) in record {
       read = h.read ++ p.line ∷ [];
@@ -238,39 +243,48 @@ good_read form text rest rest' place old out out' faulty end h k =
           (subst (λ q. IsGood form q p.line) here k.good);
       appended = k.same ∙ h.appended;
       number_is = let n = h.number_is in omega (arith, length-append h.read (p.line ∷ []));
-      place_is = λ some. behind_is form text rest rest' place old out faulty k.size end h p
+      place_is = λ some. behind_is form limit text rest rest' place old out faulty k.size end h p
           k.end_is some;
       bytes_are = let b = h.bytes_are in let c = p.bytes_are in let e = k.end_is in omega arith;
+      stops = λ e. absurd (omega arith);
     }
 
-pub faulty_read : (form : LineForm) (text rest rest' : List ℕ) (place : LinePlace)
-    (old out out' : List ℕ) (faulty end : ℕ) → IsUnderWay form text rest place old out faulty →
+pub faulty_read : (form : LineForm) (limit : ℕ) (text rest rest' : List ℕ) (place : LinePlace)
+    (old out out' : List ℕ) (faulty end : ℕ) →
+    IsUnderWay form limit text rest place old out faulty →
     SeesFaulty form place rest rest' end out out' →
-    IsUnderWay form text rest' (record { number = place.number + 1; offset = end }) old out'
+    IsUnderWay form limit text rest' (record { number = place.number + 1; offset = end }) old out'
     (faulty + 1)
-faulty_read form text rest rest' place old out out' faulty end h k =
+faulty_read form limit text rest rest' place old out out' faulty end h k =
     let p = k.passes in
     let here = h.place_is (some_rest rest p.line (lines_of rest') p.whole) in
+    let wrong = subst (λ q. HasDefect form q p.line k.defect) here k.wrong in
     let line = defect_lines form.notation (place_after start h.read) p.line k.defect in record {
       read = h.read ++ p.line ∷ [];
       whole = h.whole ∙ (ap (λ (ls : List (List ℕ)). h.read ++ ls) p.whole ∙
           sym (append_assoc h.read (p.line ∷ []) (lines_of rest')));
       shown = h.shown ++ line;
-      explains = more_faulty form start h.read p.line faulty h.shown k.defect h.explains
-          (subst (λ q. HasDefect form q p.line k.defect) here k.wrong);
+      explains = more_faulty form start h.read p.line faulty h.shown k.defect h.explains wrong;
       appended = k.appended
           ∙ (ap (λ q. out ++ defect_lines form.notation q p.line k.defect) here
           ∙ (ap (λ (t : List ℕ). t ++ line) h.appended ∙ append_assoc old h.shown line));
       number_is = let n = h.number_is in omega (arith, length-append h.read (p.line ∷ []));
-      place_is = λ some. behind_is form text rest rest' place old out faulty k.size end h p
+      place_is = λ some. behind_is form limit text rest rest' place old out faulty k.size end h p
           k.end_is some;
       bytes_are = let b = h.bytes_are in let c = p.bytes_are in let e = k.end_is in omega arith;
+      stops = λ _. inr (record {
+        before = h.read;
+        last = p.line;
+        is = refl;
+        defect = k.defect;
+        wrong = wrong;
+      });
     }
 
 -- So many are explained.
 pub are_explained : (form : LineForm) (limit : ℕ) (text rest : List ℕ) (place : LinePlace)
     (old out : List ℕ) (counts : LineCounts) →
-    IsUnderWay form text rest place old out counts.faulty → counts.lines ≡ place.number →
+    IsUnderWay form limit text rest place old out counts.faulty → counts.lines ≡ place.number →
     counts.faulty ≤ limit → (counts.faulty < limit → rest ≡ []) →
     AreExplained form limit text old out counts
 are_explained form limit text rest place old out counts h lines few over = record {
@@ -283,4 +297,5 @@ are_explained form limit text rest place old out counts h lines few over = recor
   lines_are = lines ∙ h.number_is;
   few = few;
   all = λ less. ap lines_of (over less);
+  stops = h.stops;
 }

@@ -1,5 +1,9 @@
 -- Two hexadecimal digits behind `\x`.
 pub mod Digits
+-- What stood in front of bytes that were appended still does.
+pub mod Appended
+-- Bytes stand in front of what is appended to them, piece by piece.
+pub mod Kept
 -- What is written, chunk by chunk.
 pub mod Writing
 -- The rows of a tree, one by one, and the last first.
@@ -14,10 +18,6 @@ pub mod Shown
 pub mod Places
 -- Lines of text, and the split of a line at its first space.
 pub mod LineLemmas
--- Parts of bytes.
-pub mod PartLemmas
--- What a read behind some bytes puts there.
-pub mod FillLemmas
 -- Looking for the line that a text begins with.
 pub mod Looking
 -- Passing a line that is too long.

@@ -150,10 +150,3 @@ over_ahead unparsed unparsed' left' (suc n) none all same over =
     last_found unparsed' left' (suc n)
     (subst (λ (t : List ℕ). All (λ b. b ≢ 0x0A) (take (suc n) t)) (sym same) none)
     (all ∙ ap length (sym same)) (omega arith) over
-
--- A read of no byte leaves the unparsed ones as they are.
-pub none_given : (unparsed unparsed' given : List ℕ) (n : ℕ) → unparsed' ≡ unparsed ++ given →
-    length given ≡ n → n ≡ 0 → unparsed' ≡ unparsed
-none_given unparsed unparsed' given n e size none =
-    e ∙ (ap (λ (t : List ℕ). unparsed ++ t) (nil_from_length given (size ∙ none)) ∙
-    append-nil unparsed)

@@ -1,12 +1,12 @@
 -- What is wrong with a line that stands for no record.
-use Rattle.std.specs.Prelude.{◌≡◌, ◌≢◌, ◌⊎◌, ℕ, ◌+◌, ◌%◌, ◌<◌, ◌≤◌, false, List, [], ◌∷◌, ◌++◌}
+use Rattle.std.specs.Prelude.{◌≡◌, ◌≢◌, ◌⊎◌, ℕ, ◌+◌, ◌%◌, ◌<◌, ◌≤◌, true, false, List, [], ◌∷◌, ◌++◌}
 use Rattle.std.specs.Prelude.{length, Option, Some, None}
 use Rattle.std.specs.List.{AllByRecursion}
 use Rattle.hex.specs.Hex.{is_hex_digit}
 use Rattle.prolly_entry.specs.Record.{Record, IsChange}
-use Rattle.prolly_text.specs.Lines.{CutsAt, IsBadLine, IsLineOf, IsMarked}
+use Rattle.prolly_text.specs.Lines.{CutsAt, IsBadLine, IsLineOf, IsMarked, reads_bare_keys}
 use Rattle.prolly_text.specs.Notations.{IsWritten, separator}
-use Rattle.prolly_text.specs.PackedLines.{StandsAt, value_in}
+use Rattle.prolly_text.specs.PackedLines.{MarksRemoval, StandsAt, value_in}
 use Rattle.prolly_text.specs.Pieces.{BeginsWithAll, BeginsWithNone}
 use Rattle.prolly_text.specs.declared.lines.buffer.TheConstants.{LINE_LIMIT}
 use Rattle.prolly_text.specs.declared.lines.defect.Defect.{Defect}
@@ -46,34 +46,42 @@ IsPartDefect notation text start (defects.BadEscape offset) =
     (notation ≡ Text) × BreaksOff text start offset
 IsPartDefect notation text start (defects.BadDigit offset) = (notation ≡ Hex) ×
     ((byte : ℕ) × (is_hex_digit byte ≡ false) × HasByte byte start text offset)
-IsPartDefect notation text start (defects.OddDigits offset) =
-    (notation ≡ Hex) × (offset ≡ start) × (length text % 2 ≡ 1)
+IsPartDefect notation text start (defects.OddDigits offset) = (notation ≡ Hex) ×
+    (offset ≡ start) × (length text % 2 ≡ 1) × AllByRecursion (λ b. is_hex_digit b ≡ true) text
 IsPartDefect notation text start _ = ⊥
 
--- The text is that of the line's key, or what is behind the first separator, and this many bytes of
--- the line are before it.
-abbrev pub IsPart : ℕ → List ℕ → List ℕ → ℕ → Type 0
-IsPart byte line text before =
-    ((text ≡ line) × (before ≡ 0) × AllByRecursion (λ b. b ≢ byte) line)
-    ⊎ ((change : List ℕ) × CutsAt byte line text change × (before ≡ 0))
-    ⊎ ((key : List ℕ) × CutsAt byte line key text × (before ≡ length key + 1))
+-- Without a separator the line is read as a key, and the text is all of it.
+abbrev pub IsBareKey : LineForm → List ℕ → List ℕ → Type 0
+IsBareKey form line text = (reads_bare_keys form.notation form.removals ≡ true) ×
+    (text ≡ line) × AllByRecursion (λ b. b ≢ separator form.notation) line
 
--- That is wrong with the text of the line's key, or with what is behind the separator.
+-- The text is that of the line's key, or what is behind the first separator and does not mark a
+-- removal; and this many bytes of the line are before it.
+abbrev pub IsPart : LineForm → List ℕ → List ℕ → ℕ → Type 0
+IsPart form line text before =
+    (IsBareKey form line text × (before ≡ 0))
+    ⊎ ((change : List ℕ) × CutsAt (separator form.notation) line text change × (before ≡ 0))
+    ⊎ ((key : List ℕ) × CutsAt (separator form.notation) line key text ×
+    (MarksRemoval form.notation text → ⊥) × (before ≡ length key + 1))
+
+-- That is wrong with the text of the line's key, or with the value's behind the separator.
 pub record HasBadPart (form : LineForm) (start : ℕ) (line : List ℕ) (defect : Defect) : Type 0
   where
     pub text : List ℕ
     pub before : ℕ
-    pub part : IsPart (separator form.notation) line text before
+    pub part : IsPart form line text before
     pub wrong : IsPartDefect form.notation text (start + before) defect
 
 -- ---- a line
 
--- The line, which begins at an offset, has two separators, the second one at another offset.
+-- The line, which begins at an offset, has two separators or more, the second one at another offset.
 pub record HasTwo (byte start : ℕ) (line : List ℕ) (offset : ℕ) : Type 0 where
   pub front : List ℕ
   pub mid : List ℕ
   pub back : List ℕ
   pub is : line ≡ front ++ byte ∷ mid ++ byte ∷ back
+  pub none_before : AllByRecursion (λ b. b ≢ byte) front
+  pub none_between : AllByRecursion (λ b. b ≢ byte) mid
   pub offset_is : offset ≡ start + length front + 1 + length mid
 
 -- The line stands for a key of so many bytes, which are too many.
@@ -100,7 +108,8 @@ HasDefect form place line defects.ByteOrderMark =
 HasDefect form place line (defects.CarriageReturn offset) =
     IsBadLine form line × HasByte 0x0D place.offset line offset
 HasDefect form place line defects.NoSeparator =
-    IsBadLine form line × AllByRecursion (λ b. b ≢ separator form.notation) line
+    IsBadLine form line × (reads_bare_keys form.notation form.removals ≡ false) ×
+    AllByRecursion (λ b. b ≢ separator form.notation) line
 HasDefect form place line (defects.SecondSeparator offset) =
     IsBadLine form line × HasTwo (separator form.notation) place.offset line offset
 HasDefect form place line (defects.BadEscape offset) =

@@ -123,8 +123,21 @@ Explains form place (line ∷ lines) faulty text =
 abbrev pub start : LinePlace
 start = record { number = 0; offset = 0 }
 
+-- The last of the lines of a text, which stands behind the others, is at fault.
+pub record EndsFaulty (form : LineForm) (lines : List (List ℕ)) : Type 0 where
+  pub before : List (List ℕ)
+  pub last : List ℕ
+  pub is : lines ≡ before ++ last ∷ []
+  pub defect : Defect
+  pub wrong : HasDefect form (place_after start before) last defect
+
+-- Reading has stopped at once: no line was read, or the last one is at fault.
+abbrev pub StopsAtFault : LineForm → List (List ℕ) → Type 0
+StopsAtFault form read = (read ≡ []) ⊎ EndsFaulty form read
+
 -- The first lines of the text, or all, are so many, and of them so many are at fault, each of which
--- is explained. Where there are fewer of these than the limit, the lines are all.
+-- is explained. Where there are fewer of these than the limit, the lines are all; and else the last
+-- one is at fault, or none was read.
 pub record AreExplained (form : LineForm) (limit : ℕ) (text old new : List ℕ) (counts : LineCounts)
     : Type 0 where
   pub read : List (List ℕ)
@@ -136,6 +149,7 @@ pub record AreExplained (form : LineForm) (limit : ℕ) (text old new : List ℕ
   pub lines_are : counts.lines ≡ length read
   pub few : counts.faulty ≤ limit
   pub all : counts.faulty < limit → unread ≡ []
+  pub stops : counts.faulty ≡ limit → StopsAtFault form read
 
 -- ---- one line
 

@@ -2,6 +2,8 @@
 pub mod Escapes
 -- What a text stands for.
 pub mod Pieces
+-- Bytes that are appended to others.
+pub mod Appending
 -- The two notations, and their laws.
 pub mod Notations
 -- How a line shows the name of a file.
@@ -26,12 +28,6 @@ pub mod Lines
 pub mod RecordForms
 -- What packing a text comes to: the record file of its lines, or the first line at fault.
 pub mod PackedLines
--- Places of bytes.
-pub mod Span
--- What a buffer of lines holds.
-pub mod Buffered
--- What a read adds to the unparsed bytes.
-pub mod Fill
 -- The line that a text begins with, seen from the bytes of it that are at hand.
 pub mod Ahead
 -- Records out of the lines of a text, one after another.

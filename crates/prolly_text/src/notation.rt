@@ -1,10 +1,13 @@
 //! The two ways in which keys and values are written.
+#![tactic(auto, using(crate::proofs::Appended::front_kept))]
+
 mod escape;
 mod name;
 mod unescape;
 
 ghost use Rattle.std.specs.Prelude.{◌≡◌, ◌++◌, IfOk, IfErr, OnOk};
 ghost use Rattle.hex.specs.Hex.{encode_lower};
+ghost use Rattle.prolly_text.specs.Appending.{Appends};
 ghost use Rattle.prolly_text.specs.Notations.{IsWritten, IsTextFault, separator, written};
 
 use crate::notation::escape::append_text;
@@ -49,7 +52,7 @@ impl Notation {
     /// Appends what is written for the bytes, in time linear in them. An `Err` may leave a part of
     /// it behind.
     pub fn append(self, out: &mut Vec<u8>, bytes: &[u8]) -> Result<(), AllocError>
-        ensures { OnOk result (out.new.items ≡ out.old.items ++ written self bytes.now) }
+        ensures { Appends result out.old.items (written self bytes.now) out.new.items }
     {
         match self {
             Notation::Hex => append_hex(out, bytes),
@@ -71,7 +74,7 @@ impl Notation {
 
 /// Appends the bytes in hexadecimal, in lower case.
 pub fn append_hex(out: &mut Vec<u8>, bytes: &[u8]) -> Result<(), AllocError>
-    ensures { OnOk result (out.new.items ≡ out.old.items ++ encode_lower bytes.now) }
+    ensures { Appends result out.old.items (encode_lower bytes.now) out.new.items }
 {
     let start = out.len();
     let Some(digits) = bytes.len().checked_mul(2) else {

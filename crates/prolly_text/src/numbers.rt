@@ -1,4 +1,6 @@
 //! The numbers of files, as tables, lines and JSON.
+#![tactic(auto, using(crate::proofs::Appended::front_kept))]
+
 mod json;
 mod records;
 mod table;

@@ -1,11 +1,15 @@
 //! The faulty lines of a text, explained.
+#![tactic(auto, using(crate::proofs::Appended::front_kept))]
+
 ghost use Rattle.std.specs.Prelude.{◌≡◌, ◌≢◌, ◌↔◌, ◌+◌, ◌^◌, ◌<◌, ◌≤◌, ◌++◌, true, length, IfOk};
 ghost use Rattle.std.specs.Prelude.{IsErrOf, OnOk};
+ghost use Rattle.std.specs.Io.{StartsWith};
+ghost use Rattle.prolly_text.specs.Appending.{Appends};
 ghost use Rattle.prolly_text.specs.FaultyLines.{AreExplained, IsExplained, IsOnward, IsSeen};
 ghost use Rattle.prolly_text.specs.FaultyLines.{defect_lines, right_line, right_text, separator_name};
 ghost use Rattle.prolly_text.specs.FaultyLines.{place_text, shown_line};
 
-use crate::lines::buffer::{Ahead, LineBuffer, sum};
+use crate::lines::buffer::{Ahead, LineBuffer, look_ahead, skip_line, sum};
 use crate::lines::defect::{Defect, LinePlace, defect_of};
 use crate::lines::form::LineForm;
 use crate::notation::Notation;
@@ -47,6 +51,7 @@ pub fn append_faulty_lines<S: Source>(
         (S.seen source.new).failures ≡ (S.seen source.old).failures }
     ensures honest { (S.seen source.old).is_honest ≡ true → (S.seen source.new).is_honest ≡ true }
     ensures steady { (S.seen source.old).is_steady ≡ true → (S.seen source.new).is_steady ≡ true }
+    ensures kept { StartsWith out.new.items out.old.items }
 {
     let mut buffer = LineBuffer::new(alloc)?;
     let mut place = LinePlace {
@@ -111,20 +116,21 @@ fn explain_line<S: Source>(
         (S.seen source.new).failures ≡ (S.seen source.old).failures }
     ensures honest { (S.seen source.old).is_honest ≡ true → (S.seen source.new).is_honest ≡ true }
     ensures steady { (S.seen source.old).is_steady ≡ true → (S.seen source.new).is_steady ≡ true }
+    ensures kept { StartsWith out.new.items out.old.items }
 {
-    match buffer.look_ahead(source)? {
+    match look_ahead(buffer, source)? {
         Ahead::End => Ok(Seen::End),
         Ahead::Line { len, size } => {
             let end = sum(place.offset, size as u64)?;
             let seen = explain_held(alloc, form, &buffer.unparsed()[..len], place, end, out)?;
-            buffer.pass(size);
+            buffer.consume(size);
             Ok(seen)
         }
         Ahead::TooLong => {
             let held = buffer.unparsed();
             sum(place.offset, held.len() as u64)?;
             append_defect(alloc, out, form.notation, place, held, Defect::LineTooLong)?;
-            let size = buffer.skip_line(source)?;
+            let size = skip_line(buffer, source)?;
             Ok(Seen::Faulty {
                 end: sum(place.offset, size)?,
             })
@@ -143,7 +149,9 @@ fn explain_held(
 ) -> Result<Seen, AllocError>
     requires fits { place.offset + length line.now < 2 ^ 64 }
     requires number { place.number + 1 < 2 ^ 64 }
-    ensures { IfOk result (IsExplained form place line.now end out.old.items out.new.items) }
+    ensures explained { IfOk result
+        (IsExplained form place line.now end out.old.items out.new.items) }
+    ensures kept { StartsWith out.new.items out.old.items }
 {
     match defect_of(alloc, form, place, line)? {
         None => Ok(Seen::Good { end }),
@@ -253,15 +261,16 @@ fn append_defect(
     defect: Defect,
 ) -> Result<(), AllocError>
     requires { place.number + 1 < 2 ^ 64 }
-    ensures { OnOk result (out.new.items ≡ out.old.items ++
-        defect_lines notation place line.now defect) }
+    ensures { Appends result out.old.items (defect_lines notation place line.now defect)
+        out.new.items }
 {
     append_place(alloc, out, place.number + 1, place.offset)?;
     let text = DefectText(notation, defect);
     let wrong = format!(in alloc; "{text}\nthe line: ")?;
     out.extend_from_slice(wrong.as_bytes())?;
     append_shown(out, line)?;
-    append_right(out, right_text(notation, defect))
+    append_right(out, right_text(notation, defect))?;
+    Ok(())
 }
 
 /// Appends where a line stands: its number from 1, and the offset of its first byte.
@@ -271,7 +280,7 @@ fn append_place(
     number: u64,
     offset: u64,
 ) -> Result<(), AllocError>
-    ensures { OnOk result (out.new.items ≡ out.old.items ++ place_text number offset) }
+    ensures { Appends result out.old.items (place_text number offset) out.new.items }
 {
     let stands = format!(in alloc; "line {number} at byte {offset}: ")?;
     out.extend_from_slice(stands.as_bytes())
@@ -279,7 +288,7 @@ fn append_place(
 
 /// Appends what would be right, behind a line that is shown.
 fn append_right(out: &mut Vec<u8>, right: &str) -> Result<(), AllocError>
-    ensures { OnOk result (out.new.items ≡ out.old.items ++ right_line right.now) }
+    ensures { Appends result out.old.items (right_line right.now) out.new.items }
 {
     out.extend_from_slice(b"\nright: ")?;
     out.extend_from_slice(right.as_bytes())?;
@@ -289,7 +298,7 @@ fn append_right(out: &mut Vec<u8>, right: &str) -> Result<(), AllocError>
 /// Appends a line as text, or the text of its first bytes. They may part a character; its bytes are
 /// then shown as escapes.
 fn append_shown(out: &mut Vec<u8>, line: &[u8]) -> Result<(), AllocError>
-    ensures { OnOk result (out.new.items ≡ out.old.items ++ shown_line line.now) }
+    ensures { Appends result out.old.items (shown_line line.now) out.new.items }
 {
     if line.len() <= SHOWN_BYTES {
         return Notation::Text.append(out, line);

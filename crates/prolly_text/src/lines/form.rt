@@ -1,7 +1,11 @@
 //! How lines are written and read, and how records are written.
+#![tactic(auto, using(crate::proofs::Appended::front_kept))]
+
 ghost use Rattle.std.specs.Prelude.{◌≡◌};
+ghost use Rattle.prolly_text.specs.Appending.{Appends};
 ghost use Rattle.prolly_text.specs.Lines.{hex_lines, reads_bare_keys};
 ghost use Rattle.std.specs.Prelude.{◌≡◌, ◌≢◌, ◌++◌, None, OnOk, IfOk, OnErr};
+ghost use Rattle.std.specs.Io.{StartsWith};
 ghost use Rattle.std.specs.Option.{option_copied};
 ghost use Rattle.prolly_entry.specs.Record.{IsRecord};
 ghost use Rattle.prolly_entry.specs.Spelling.{record_spelling};
@@ -66,6 +70,7 @@ pub fn append_change(
     ensures ok { OnOk result (out.new.items ≡ out.old.items ++ spelled_in form
         (record { key = key.now; value = option_copied value.entry })) }
     ensures err { OnErr result (form ≢ None) }
+    ensures kept { OnErr result (StartsWith out.new.items out.old.items) }
 {
     match form {
         None => Ok(()),
@@ -81,8 +86,8 @@ pub fn append_line(
     key: &[u8],
     value: Option<&[u8]>,
 ) -> Result<(), AllocError>
-    ensures { OnOk result (out.new.items ≡ out.old.items ++ record_line notation
-        (record { key = key.now; value = option_copied value.entry })) }
+    ensures { Appends result out.old.items (record_line notation
+        (record { key = key.now; value = option_copied value.entry })) out.new.items }
 {
     notation.append(out, key)?;
     append_change_text(out, notation, value)?;
@@ -95,8 +100,8 @@ fn append_change_text(
     notation: Notation,
     value: Option<&[u8]>,
 ) -> Result<(), AllocError>
-    ensures { OnOk result (out.new.items ≡
-        out.old.items ++ change_text notation (option_copied value.entry)) }
+    ensures { Appends result out.old.items (change_text notation (option_copied value.entry))
+        out.new.items }
 {
     match value {
         Some(value) => {

@@ -1,7 +1,7 @@
 //! Records out of the lines of a text, one after another, as the text is read.
 ghost use Rattle.std.specs.Prelude.{◌≡◌, ◌≢◌, ◌↔◌, ◌<◌, ◌^◌, ◌++◌, true, [], IfOk, IsErrOf, OnOk};
 
-use crate::lines::buffer::{Ahead, LineBuffer};
+use crate::lines::buffer::{Ahead, LineBuffer, look_ahead};
 use crate::lines::form::LineForm;
 use crate::lines::pack::{LinesFault, record_at};
 use prolly_entry::Record;
@@ -138,7 +138,7 @@ impl RecordLines {
         ensures steady { (S.seen source.old).is_steady ≡ true →
             (S.seen source.new).is_steady ≡ true }
     {
-        let (len, size) = match self.buffer.look_ahead(source)? {
+        let (len, size) = match look_ahead(&mut self.buffer, source)? {
             Ahead::End => return Ok(None),
             Ahead::TooLong => return Err(ReadLinesFault::LineTooLong { line: self.number }),
             Ahead::Line { len, size } => (len, size),
@@ -148,7 +148,7 @@ impl RecordLines {
         }
         let line = &self.buffer.unparsed()[..len];
         let record = record_at(self.alloc, self.form, line, self.number)?;
-        self.buffer.pass(size);
+        self.buffer.consume(size);
         self.number += 1;
         Ok(Some(record))
     }

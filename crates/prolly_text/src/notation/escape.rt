@@ -2,6 +2,7 @@
 ghost use Rattle.std.specs.Prelude.{◌≡◌, ◌++◌, OnOk};
 ghost use Rattle.std.specs.List.{flat_map};
 ghost use Rattle.std.specs.Str.{chars};
+ghost use Rattle.prolly_text.specs.Appending.{Appends};
 ghost use Rattle.prolly_text.specs.Escapes.{hex_escape, is_hidden, letter_of, shown_character};
 ghost use Rattle.prolly_text.specs.Escapes.{shown_plain, text_of};
 
@@ -10,7 +11,7 @@ use std::alloc::{AllocError, Global};
 
 /// Appends the text of the bytes: their characters, and escapes.
 pub(crate) fn append_text(out: &mut Vec<u8>, bytes: &[u8]) -> Result<(), AllocError>
-    ensures { OnOk result (out.new.items ≡ out.old.items ++ text_of bytes.now) }
+    ensures { Appends result out.old.items (text_of bytes.now) out.new.items }
 {
     for chunk in bytes.utf8_chunks() {
         append_characters(out, chunk.valid())?;
@@ -21,8 +22,8 @@ pub(crate) fn append_text(out: &mut Vec<u8>, bytes: &[u8]) -> Result<(), AllocEr
 
 /// Appends each character, as it stands or escaped.
 fn append_characters(out: &mut Vec<u8>, text: &str) -> Result<(), AllocError>
-    ensures { OnOk result (out.new.items ≡ out.old.items ++ flat_map shown_character
-        (chars text.now)) }
+    ensures { Appends result out.old.items (flat_map shown_character (chars text.now))
+        out.new.items }
 {
     for character in text.chars() {
         append_character(out, character)?;
@@ -32,7 +33,7 @@ fn append_characters(out: &mut Vec<u8>, text: &str) -> Result<(), AllocError>
 
 /// Appends an escape for each byte.
 fn append_escapes(out: &mut Vec<u8>, bytes: &[u8]) -> Result<(), AllocError>
-    ensures { OnOk result (out.new.items ≡ out.old.items ++ flat_map hex_escape bytes.now) }
+    ensures { Appends result out.old.items (flat_map hex_escape bytes.now) out.new.items }
 {
     for byte in bytes {
         append_escape(out, *byte)?;
@@ -42,7 +43,7 @@ fn append_escapes(out: &mut Vec<u8>, bytes: &[u8]) -> Result<(), AllocError>
 
 /// Appends a character, as it stands or escaped.
 fn append_character(out: &mut Vec<u8>, character: char) -> Result<(), AllocError>
-    ensures { OnOk result (out.new.items ≡ out.old.items ++ shown_character character) }
+    ensures { Appends result out.old.items (shown_character character) out.new.items }
 {
     if let Some(letter) = letter_of(character) {
         return out.extend_from_slice(&[b'\\', letter]);
@@ -53,7 +54,7 @@ fn append_character(out: &mut Vec<u8>, character: char) -> Result<(), AllocError
 /// Appends a character that has no letter: a hidden one by its bytes, and every other one as it
 /// stands.
 pub(crate) fn append_plain(out: &mut Vec<u8>, character: char) -> Result<(), AllocError>
-    ensures { OnOk result (out.new.items ≡ out.old.items ++ shown_plain character) }
+    ensures { Appends result out.old.items (shown_plain character) out.new.items }
 {
     let mut buffer = [0; 4];
     if is_hidden(character) {
@@ -77,7 +78,7 @@ fn is_hidden(character: char) -> bool
 
 /// Appends `\x` and the byte in hexadecimal.
 fn append_escape(out: &mut Vec<u8>, byte: u8) -> Result<(), AllocError>
-    ensures { OnOk result (out.new.items ≡ out.old.items ++ hex_escape byte) }
+    ensures { Appends result out.old.items (hex_escape byte) out.new.items }
 {
     out.extend_from_slice(b"\\x")?;
     append_hex(out, &[byte])

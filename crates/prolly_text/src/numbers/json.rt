@@ -3,6 +3,7 @@ ghost use Rattle.std.specs.Prelude.{◌≡◌, [], ◌∷◌, ◌++◌, OnOk, ma
 ghost use Rattle.std.specs.Fmt.{decimal};
 ghost use Rattle.std.specs.List.{flat_map};
 ghost use Rattle.std.specs.Option.{option_copied};
+ghost use Rattle.prolly_text.specs.Appending.{Appends};
 ghost use Rattle.prolly_text.specs.Json.{member, quoted, array, comma_before, json_of, level_json};
 ghost use Rattle.prolly_text.specs.Json.{behind_comma, key_member, records_json_of};
 ghost use Rattle.prolly_text.specs.Rows.{rows_of};
@@ -20,8 +21,8 @@ pub(crate) fn append_number_member(
     name: &[u8],
     number: u64,
 ) -> Result<(), AllocError>
-    ensures { OnOk result (out.new.items ≡
-        out.old.items ++ before ∷ member name.now (decimal number)) }
+    ensures { Appends result out.old.items (before ∷ member name.now (decimal number))
+        out.new.items }
 {
     append_member_name(out, before, name)?;
     let text = format!(in alloc; "{number}")?;
@@ -36,8 +37,8 @@ pub(crate) fn append_string_member(
     name: &[u8],
     text: &[u8],
 ) -> Result<(), AllocError>
-    ensures { OnOk result (out.new.items ≡
-        out.old.items ++ before ∷ member name.now (quoted text.now)) }
+    ensures { Appends result out.old.items (before ∷ member name.now (quoted text.now))
+        out.new.items }
 {
     append_member_name(out, before, name)?;
     out.push(b'"')?;
@@ -52,8 +53,7 @@ pub(crate) fn append_member_name(
     before: u8,
     name: &[u8],
 ) -> Result<(), AllocError>
-    ensures { OnOk result (out.new.items ≡
-        out.old.items ++ before ∷ quoted name.now ++ 0x3A ∷ []) }
+    ensures { Appends result out.old.items (before ∷ quoted name.now ++ 0x3A ∷ []) out.new.items }
 {
     out.extend_from_slice(&[before, b'"'])?;
     out.extend_from_slice(name)?;
@@ -65,7 +65,7 @@ pub(crate) fn append_member_name(
 /// The text of a reference needs no escape, so where the root is one, the line is JSON. An `Err`
 /// may leave a part of it behind.
 pub fn append_json(alloc: Global, out: &mut Vec<u8>, tree: &TreeNumbers) -> Result<(), AllocError>
-    ensures { OnOk result (out.new.items ≡ out.old.items ++ json_of tree.now) }
+    ensures { Appends result out.old.items (json_of tree.now) out.new.items }
 {
     let format = u64::from(tree.version.to_byte());
     append_string_member(out, b'{', b"root", tree.root)?;
@@ -82,8 +82,8 @@ pub fn append_json(alloc: Global, out: &mut Vec<u8>, tree: &TreeNumbers) -> Resu
 
 /// Appends the array of the levels, from the leaves up.
 fn append_levels(alloc: Global, out: &mut Vec<u8>, tree: &TreeNumbers) -> Result<(), AllocError>
-    ensures { OnOk result (out.new.items ≡
-        out.old.items ++ array (map level_json (rows_of tree.now))) }
+    ensures { Appends result out.old.items (array (map level_json (rows_of tree.now)))
+        out.new.items }
 {
     out.push(b'[')?;
     for number in 0..tree.levels.len() {
@@ -96,7 +96,7 @@ fn append_levels(alloc: Global, out: &mut Vec<u8>, tree: &TreeNumbers) -> Result
 
 /// Appends what stands before the value of this number in an array: a comma, but for the first.
 fn append_comma(out: &mut Vec<u8>, number: usize) -> Result<(), AllocError>
-    ensures { OnOk result (out.new.items ≡ out.old.items ++ comma_before number) }
+    ensures { Appends result out.old.items (comma_before number) out.new.items }
 {
     if number > 0 {
         out.push(b',')?;
@@ -106,7 +106,7 @@ fn append_comma(out: &mut Vec<u8>, number: usize) -> Result<(), AllocError>
 
 /// Appends a level.
 fn append_level(alloc: Global, out: &mut Vec<u8>, row: &Row) -> Result<(), AllocError>
-    ensures { OnOk result (out.new.items ≡ out.old.items ++ level_json row.now) }
+    ensures { Appends result out.old.items (level_json row.now) out.new.items }
 {
     append_number_member(alloc, out, b'{', b"level", row.number as u64)?;
     append_number_member(alloc, out, b',', b"chunks", row.level.chunks)?;
@@ -126,7 +126,7 @@ pub fn append_records_json(
     out: &mut Vec<u8>,
     numbers: &RecordNumbers,
 ) -> Result<(), AllocError>
-    ensures { OnOk result (out.new.items ≡ out.old.items ++ records_json_of numbers.now) }
+    ensures { Appends result out.old.items (records_json_of numbers.now) out.new.items }
 {
     append_number_member(alloc, out, b'{', b"records", u64::from(numbers.records))?;
     append_number_member(alloc, out, b',', b"removals", u64::from(numbers.removals))?;
@@ -144,8 +144,8 @@ fn append_key_member(
     name: &[u8],
     key: Option<&[u8]>,
 ) -> Result<(), AllocError>
-    ensures { OnOk result (out.new.items ≡ out.old.items ++
-        flat_map behind_comma (key_member name.now (option_copied key.entry))) }
+    ensures { Appends result out.old.items (flat_map behind_comma
+        (key_member name.now (option_copied key.entry))) out.new.items }
 {
     let Some(key) = key else {
         return Ok(());

@@ -2,6 +2,7 @@
 ghost use Rattle.std.specs.Prelude.{◌≡◌, ◌++◌, OnOk, option_map};
 ghost use Rattle.std.specs.Option.{option_copied};
 ghost use Rattle.std.specs.Fmt.{decimal};
+ghost use Rattle.prolly_text.specs.Appending.{Appends};
 ghost use Rattle.prolly_text.specs.Records.{records_of};
 ghost use Rattle.prolly_text.specs.Flaws.{flaw_text, flawed_text, shortened};
 ghost use Rattle.prolly_text.specs.NumberLines.{line_of, optional_line};
@@ -28,21 +29,22 @@ pub struct RecordNumbers<'a> {
 
 /// Appends the lines of a record file, its keys whole, in time linear in them. An `Err` may leave a
 /// part of them behind.
-#[tactic(auto, unfolding(crate::specs::Records::records_of))]
+#[tactic(auto, using(crate::proofs::Appended::front_kept), unfolding(crate::specs::Records::records_of))]
 pub fn append_records(
     alloc: Global,
     out: &mut Vec<u8>,
     notation: Notation,
     numbers: &RecordNumbers,
 ) -> Result<(), AllocError>
-    ensures { OnOk result (out.new.items ≡ out.old.items ++ records_of notation numbers.now) }
+    ensures { Appends result out.old.items (records_of notation numbers.now) out.new.items }
 {
     append_number_line(alloc, out, b"records", u64::from(numbers.records))?;
     append_number_line(alloc, out, b"removals", u64::from(numbers.removals))?;
     append_number_line(alloc, out, b"bytes", numbers.bytes)?;
     let form = KeyForm::Whole(notation);
     form.append_line(alloc, out, b"first", numbers.first_key)?;
-    form.append_line(alloc, out, b"last", numbers.last_key)
+    form.append_line(alloc, out, b"last", numbers.last_key)?;
+    Ok(())
 }
 
 /// Appends the lines that explain the flaw of the record behind the good ones of a file, which has
@@ -56,8 +58,8 @@ pub fn append_flaw(
     flaw: Flaw,
     key: Option<&[u8]>,
 ) -> Result<(), AllocError>
-    ensures { OnOk result (out.new.items ≡ out.old.items ++
-        flawed_text notation good.now flaw (option_copied key.entry)) }
+    ensures { Appends result out.old.items
+        (flawed_text notation good.now flaw (option_copied key.entry)) out.new.items }
 {
     let place = format!(in alloc; "record {} at byte {}", good.records, good.bytes)?;
     out.extend_from_slice(place.as_bytes())?;
@@ -65,7 +67,8 @@ pub fn append_flaw(
     out.push(b'\n')?;
     let form = KeyForm::Shortened(notation);
     form.append_line(alloc, out, b"its key:", key)?;
-    form.append_line(alloc, out, b"the key before:", good.last_key)
+    form.append_line(alloc, out, b"the key before:", good.last_key)?;
+    Ok(())
 }
 
 /// What is said of a record with this flaw.
@@ -88,7 +91,7 @@ pub(crate) fn append_number_line(
     name: &[u8],
     number: u64,
 ) -> Result<(), AllocError>
-    ensures { OnOk result (out.new.items ≡ out.old.items ++ line_of name.now (decimal number)) }
+    ensures { Appends result out.old.items (line_of name.now (decimal number)) out.new.items }
 {
     out.extend_from_slice(name)?;
     let rest = format!(in alloc; " {number}\n")?;
@@ -117,8 +120,8 @@ impl KeyForm {
         name: &[u8],
         key: Option<&[u8]>,
     ) -> Result<(), AllocError>
-        ensures { OnOk result (out.new.items ≡ out.old.items ++ optional_line name.now
-            (option_map (shown_in self) (option_copied key.entry))) }
+        ensures { Appends result out.old.items (optional_line name.now
+            (option_map (shown_in self) (option_copied key.entry))) out.new.items }
     {
         let Some(key) = key else {
             return Ok(());
@@ -132,7 +135,7 @@ impl KeyForm {
 
     /// Appends a key.
     fn append(self, alloc: Global, out: &mut Vec<u8>, key: &[u8]) -> Result<(), AllocError>
-        ensures { OnOk result (out.new.items ≡ out.old.items ++ shown_in self key.now) }
+        ensures { Appends result out.old.items (shown_in self key.now) out.new.items }
     {
         match self {
             KeyForm::Whole(notation) => notation.append(out, key),
@@ -148,7 +151,7 @@ fn append_shortened(
     notation: Notation,
     key: &[u8],
 ) -> Result<(), AllocError>
-    ensures { OnOk result (out.new.items ≡ out.old.items ++ shortened notation key.now) }
+    ensures { Appends result out.old.items (shortened notation key.now) out.new.items }
 {
     if key.len() <= SHOWN_BYTES {
         return notation.append(out, key);

@@ -1,5 +1,6 @@
 //! The numbers of a tree, and the table of them.
 ghost use Rattle.std.specs.Prelude.{◌≡◌, ◌++◌, OnOk, ◌<◌, Some, length, slice_get};
+ghost use Rattle.prolly_text.specs.Appending.{Appends};
 ghost use Rattle.prolly_text.specs.Table.{bar, head_of, row_line, table_of};
 ghost use Rattle.prolly_text.specs.Rows.{rows_of};
 
@@ -15,7 +16,7 @@ const HEADING: &[u8] =
 /// Appends the table of a tree: its numbers, a line each, and then a line for each level, from the
 /// root's to the leaves'. An `Err` may leave a part of it behind.
 pub fn append_table(alloc: Global, out: &mut Vec<u8>, tree: &TreeNumbers) -> Result<(), AllocError>
-    ensures { OnOk result (out.new.items ≡ out.old.items ++ table_of tree.now) }
+    ensures { Appends result out.old.items (table_of tree.now) out.new.items }
 {
     append_head(alloc, out, tree)?;
     out.extend_from_slice(HEADING)?;
@@ -26,9 +27,9 @@ pub fn append_table(alloc: Global, out: &mut Vec<u8>, tree: &TreeNumbers) -> Res
 }
 
 /// Appends the lines of the tree's numbers.
-#[tactic(auto, unfolding(crate::specs::Table::head_of))]
+#[tactic(auto, using(crate::proofs::Appended::front_kept), unfolding(crate::specs::Table::head_of))]
 fn append_head(alloc: Global, out: &mut Vec<u8>, tree: &TreeNumbers) -> Result<(), AllocError>
-    ensures { OnOk result (out.new.items ≡ out.old.items ++ head_of tree.now) }
+    ensures { Appends result out.old.items (head_of tree.now) out.new.items }
 {
     out.extend_from_slice(b"root ")?;
     out.extend_from_slice(tree.root)?;
@@ -37,12 +38,13 @@ fn append_head(alloc: Global, out: &mut Vec<u8>, tree: &TreeNumbers) -> Result<(
     append_number_line(alloc, out, b"bits", u64::from(tree.bits))?;
     append_number_line(alloc, out, b"pairs", tree.pairs)?;
     append_number_line(alloc, out, b"chunks", tree.chunks)?;
-    append_number_line(alloc, out, b"bytes", tree.bytes)
+    append_number_line(alloc, out, b"bytes", tree.bytes)?;
+    Ok(())
 }
 
 /// Appends the line of a level.
 fn append_row(alloc: Global, out: &mut Vec<u8>, row: &Row) -> Result<(), AllocError>
-    ensures { OnOk result (out.new.items ≡ out.old.items ++ row_line row.now) }
+    ensures { Appends result out.old.items (row_line row.now) out.new.items }
 {
     let Row {
         number,
@@ -68,7 +70,7 @@ fn append_row(alloc: Global, out: &mut Vec<u8>, row: &Row) -> Result<(), AllocEr
 /// Appends a bar as long as the number has binary digits, so that it grows by one where the number
 /// doubles.
 fn append_bar(alloc: Global, out: &mut Vec<u8>, number: u64) -> Result<(), AllocError>
-    ensures { OnOk result (out.new.items ≡ out.old.items ++ bar number) }
+    ensures { Appends result out.old.items (bar number) out.new.items }
 {
     let digits = format!(in alloc; "{number:b}")?;
     for _digit in digits.as_bytes() {

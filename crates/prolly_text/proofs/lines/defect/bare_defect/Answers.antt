@@ -12,7 +12,8 @@ unreachable-requires c =
 pub returns : goal.returns
 returns c =
     let line = c.args.line.now in
+    let reads = sym c.reads_bare_keys.ensures ∙ c.if-not-reads_bare_keys.false in
     part_wrong c.args.form c.args.place line line 0 c.in-Some.defect c.requires.bad
-    (inl (refl, refl, c.requires.none))
+    (inl ((reads, refl, c.requires.none), refl))
     (subst (λ (n : ℕ). IsPartDefect c.args.form.notation line n c.in-Some.defect)
     (sym (add-zero c.args.place.offset)) c.in-Some.ensures.some)

@@ -1,10 +1,11 @@
-use Rattle.std.proofs.Common.{◌≡◌, ◌+◌, ◌∙◌, ◌≢◌, Some, add-zero, arith, ap, inl, inr, length}
-use Rattle.std.proofs.Common.{refl, subst, sym, ℕ}
+use Rattle.std.proofs.Common.{◌≡◌, ◌+◌, ◌∙◌, ◌≢◌, All, Some, add-zero, arith, ap, inl, inr, length}
+use Rattle.std.proofs.Common.{refl, subst, sym, take, ℕ}
 use Rattle.std.specs.List.{AllByRecursion}
 use Rattle.prolly_text.specs.Defects.{IsPartDefect}
 use Rattle.prolly_text.specs.Lines.{CutsAt}
 use Rattle.prolly_text.specs.Notations.{separator}
-use Rattle.prolly_text.proofs.DefectLemmas.{both_read, byte_there, part_wrong, second_there}
+use Rattle.prolly_text.proofs.DefectLemmas.{both_read, byte_there, marks_none, part_wrong}
+use Rattle.prolly_text.proofs.DefectLemmas.{second_there}
 use Rattle.prolly_text.proofs.lines.defect.spelling_defect.Goals as goal
 
 pub returns-then-returned-line : goal.returns-then-returned-line
@@ -31,7 +32,9 @@ returns-then-second-change c =
           c.first_place-second.result c.args.place.offset cut
           (c.first_place-second.ensures.there c.if-second-change.true ∙
           ap Some c.separator-separator.ensures)
-          c.first_place-second.ensures.bound,
+          c.first_place-second.ensures.bound
+          (subst (λ (n : ℕ). All (λ b. b ≢ n) (take c.first_place-second.result change))
+          c.separator-separator.ensures c.first_place-second.ensures.none),
     )
 
 pub returns-in-Some-part_defect : goal.returns-in-Some-part_defect
@@ -62,7 +65,9 @@ returns c =
     c.separator-separator.ensures c.in-Some.ensures.some in
     let start : c.args.place.offset + length key + 1 ≡ c.args.place.offset + (length key + 1) =
     omega arith in
+    let unmarked = marks_none c.args.form c.args.line.now key change cut
+    c.in_default-part_defect.ensures.none c.requires.bad in
     part_wrong c.args.form c.args.place c.args.line.now change (length key + 1)
-    c.in-Some-part_defect-2.defect c.requires.bad (inr (inr (key, cut, refl)))
+    c.in-Some-part_defect-2.defect c.requires.bad (inr (inr (key, cut, unmarked, refl)))
     (subst (λ (n : ℕ). IsPartDefect c.args.form.notation change n c.in-Some-part_defect-2.defect)
     start c.in-Some-part_defect-2.ensures.some)
