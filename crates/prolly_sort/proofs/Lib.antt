@@ -10,8 +10,10 @@ mod Sorting
 mod Numbering
 -- Records of which no two have one key.
 mod Apart
--- The first bytes of keys as numbers, and places in the order of these.
+-- Bytes of keys as numbers, and places in the order of these.
 mod Prefixes
+-- Places that are ranked behind a front which their keys have in common.
+mod Ranking
 -- Where records lie among bytes.
 mod Lying
 -- A record file that is written record by record.

@@ -16,7 +16,7 @@ use Rattle.prolly_entry.specs.Spelling.{change_spelling, record_spelling}
 use Rattle.prolly_entry.specs.lemmas.Spellings.{after_two, key_there, record_size, value_size}
 use Rattle.prolly_sort.specs.declared.place.Place.{Place}
 use Rattle.prolly_sort.specs.Overlaid.{written}
-use Rattle.prolly_sort.specs.Place.{StandsIn, key_in, part_in, place_of, prefix_of, record_in}
+use Rattle.prolly_sort.specs.Place.{StandsIn, key_in, part_in, place_of, record_in}
 use Rattle.prolly_sort.specs.Place.{records_in, value_in}
 use Rattle.prolly_sort.specs.Run.{IsHeld, cost_of}
 use Rattle.prolly_sort.proofs.Numbering.{numbered_more}
@@ -76,7 +76,6 @@ stands_more bytes more p h = let same = record_more bytes more p h in record {
   spelled = range_more bytes more p.start p.end (omega (arith, h.ordered)) h.within ∙ h.spelled ∙
       ap record_spelling (sym same);
   lawful = subst IsRecord (sym same) h.lawful;
-  begins = h.begins ∙ ap (prefix_of 8) (sym (key_more bytes more p h));
 }
 
 records_more : (bytes more : List ℕ) (places : List Place) → AllByRecursion (StandsIn bytes) places →
@@ -133,7 +132,6 @@ module _ (bytes : List ℕ) (number : ℕ) (r : Record) where
         (omega (arith, length-append bytes (record_spelling r))) ∙
         ap record_spelling (sym new_record);
     lawful = subst IsRecord (sym new_record) h;
-    begins = ap (prefix_of 8) (sym new_key);
   }
 
 -- ---- what a run holds

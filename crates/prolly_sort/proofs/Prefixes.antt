@@ -1,9 +1,11 @@
--- The first bytes of keys as numbers, and places in the order of these.
-use Rattle.std.proofs.Common.{◌≡◌, ℕ, zero, suc, ◌+◌, ◌*◌, ◌^◌, ◌<◌, ◌≤◌, Bool, cond, not, ◌&&◌}
-use Rattle.std.proofs.Common.{List, [], ◌∷◌, filter, get_or, All, IsPermutation, IsSortedBy}
-use Rattle.std.proofs.Common.{Ordering, is_lt, refl, sym, ap, ◌∙◌, arith, mul-le-mul_right}
+-- Bytes of keys as numbers, and places in the order of these.
+use Rattle.std.proofs.Common.{◌≡◌, ℕ, zero, suc, ◌+◌, ◌*◌, ◌^◌, ◌<◌, ◌≤◌, Bool, cond}
+use Rattle.std.proofs.Common.{List, [], ◌∷◌, ◌++◌, drop, filter, get_or, length, All, IsPermutation}
+use Rattle.std.proofs.Common.{IsSortedBy, Ordering, is_eq, is_lt, refl, sym, ap, ◌∙◌, subst, arith}
+use Rattle.std.proofs.Common.{mul-le-mul_right}
 use Rattle.std.proofs.Common.{add-one, mul_assoc, suc-mul, pow-suc, slice_range, true, false}
-use Rattle.std.proofs.lemmas.Cmp.{ranked}
+use Rattle.std.proofs.Math.Seq.{drop-append_seam}
+use Rattle.std.proofs.lemmas.Cmp.{nat_cmp_total, ranked, tied_itself}
 use Rattle.std.proofs.lemmas.List.{get_or_default}
 use Rattle.std.proofs.lemmas.List.Elements.{All-drop, All-nil, All-take, recursion_from_All}
 use Rattle.std.proofs.lemmas.List.Sorted.{All-permutation}
@@ -15,9 +17,13 @@ use Rattle.std.specs.Ordering.{nat_cmp, ordering_then}
 use Rattle.std.specs.declared.cmp.Ordering.TheVariants.{Less, Equal, Greater}
 use Rattle.prolly_entry.specs.Byte.{IsByte}
 use Rattle.prolly_entry.specs.Keys.{KeyBelow, key_order}
-use Rattle.prolly_entry.specs.lemmas.Orders.{below_greater}
+use Rattle.prolly_entry.specs.Prefix.{IsPrefix}
+use Rattle.prolly_entry.specs.lemmas.Lists.{all_back}
+use Rattle.prolly_entry.specs.lemmas.Orders.{below_greater, order_same}
 use Rattle.prolly_sort.specs.declared.place.Place.{Place}
-use Rattle.prolly_sort.specs.Place.{StandsIn, is_below, key_in, prefix_of, ranked_in}
+use Rattle.prolly_sort.specs.Place.{AreRanked, IsRanked, is_below, key_in, prefix_of, ranked_behind}
+use Rattle.prolly_sort.specs.Place.{ranked_in}
+use Rattle.prolly_sort.proofs.Sorting.{tied_equal}
 
 -- ---- the number of the first bytes
 
@@ -96,22 +102,53 @@ prefixed_order x y m n is_x is_y h k = go (nat_cmp m n) refl
         sym (below_greater y x (prefix_less 8 y x h
         (omega (arith, ranked m n Greater (sym e), is_x, is_y))))
 
+-- ---- keys with one front
+
+-- A front that two keys have in common leaves their order to what is behind it.
+front_order : (front x y : List ℕ) → key_order (front ++ x) (front ++ y) ≡ key_order x y
+front_order [] x y = refl
+front_order (b ∷ front) x y =
+    ap (λ o. ordering_then o (key_order (front ++ x) (front ++ y))) (tied_itself nat_cmp_total b) ∙
+    front_order front x y
+
+-- Behind the numbers of the bytes behind that front they have their order, too.
+fronted_order : (front k l : List ℕ) (m n : ℕ) → IsPrefix front k → IsPrefix front l →
+    m ≡ prefix_of 8 (drop (length front) k) → n ≡ prefix_of 8 (drop (length front) l) →
+    AllByRecursion IsByte k → AllByRecursion IsByte l → key_order (m ∷ k) (n ∷ l) ≡ key_order k l
+fronted_order front k l m n (x, e) (y, f) is_m is_n g h =
+    let same : key_order k l ≡ key_order x y = ap (λ z. key_order z l) e ∙
+    ap (λ z. key_order (front ++ x) z) f ∙ front_order front x y in
+    ap (ordering_then (nat_cmp m n)) same ∙
+    prefixed_order x y m n
+    (is_m ∙ ap (λ z. prefix_of 8 (drop (length front) z)) e ∙
+    ap (prefix_of 8) (drop-append_seam front x))
+    (is_n ∙ ap (λ z. prefix_of 8 (drop (length front) z)) f ∙
+    ap (prefix_of 8) (drop-append_seam front y))
+    (all_back IsByte front x (subst (AllByRecursion IsByte) e g))
+    (all_back IsByte front y (subst (AllByRecursion IsByte) f h)) ∙ sym same
+
+never_equal : (o r : Ordering) → is_eq r ≡ false → is_eq (ordering_then o r) ≡ false
+never_equal Less r e = refl
+never_equal Equal r e = e
+never_equal Greater r e = refl
+
+-- Keys behind numbers that equal keys have in common are equal where the keys are.
+numbered_equal : (k l : List ℕ) (m n : ℕ) → (k ≡ l → m ≡ n) →
+    is_eq (key_order (m ∷ k) (n ∷ l)) ≡ is_eq (key_order k l)
+numbered_equal k l m n same = go (key_order k l) refl
+  where
+    go : (o : Ordering) → key_order k l ≡ o →
+        is_eq (ordering_then (nat_cmp m n) (key_order k l)) ≡ is_eq (key_order k l)
+    go Less e = never_equal (nat_cmp m n) (key_order k l) (ap is_eq e) ∙ sym (ap is_eq e)
+    go Equal e = ap (λ o. is_eq (ordering_then o (key_order k l)))
+        (ap (nat_cmp m) (sym (same (order_same k l e))) ∙ tied_itself nat_cmp_total m)
+    go Greater e = never_equal (nat_cmp m n) (key_order k l) (ap is_eq e) ∙ sym (ap is_eq e)
+
 -- ---- places
 
--- The place's key behind the number of its first bytes is less than the other's.
+-- The place's key behind its number is less than the other's.
 abbrev pub ranks_below : List ℕ → Place → Place → Bool
 ranks_below bytes p q = is_lt (key_order (ranked_in bytes p) (ranked_in bytes q))
-
--- A place with the same key, and the number of its first bytes.
-abbrev with_prefix : List ℕ → Place → Place
-with_prefix bytes p = record {
-  prefix = prefix_of 8 (key_in bytes p);
-  number = p.number;
-  start = p.start;
-  end = p.end;
-  key_len = p.key_len;
-  is_put = p.is_put;
-}
 
 alike : (f g : Place → Bool) (places : List Place) → AllByRecursion (λ p. f p ≡ g p) places →
     filter f places ≡ filter g places
@@ -133,43 +170,49 @@ module _ (bytes : List ℕ) (are_bytes : All IsByte bytes) where
   key_bytes p = recursion_from_All IsByte (key_in bytes p)
       (part_bytes (p.start + 2) (p.start + 2 + p.key_len) _)
 
-  -- Two places that hold the numbers of their keys' first bytes have the order of their keys.
-  pub same_order : (p q : Place) → p.prefix ≡ prefix_of 8 (key_in bytes p) →
-      q.prefix ≡ prefix_of 8 (key_in bytes q) → ranks_below bytes p q ≡ is_below bytes p q
-  same_order p q e f = ap is_lt (prefixed_order (key_in bytes p) (key_in bytes q) p.prefix q.prefix e f
-      (key_bytes p) (key_bytes q))
+  ranked_order : (front : List ℕ) (p q : Place) → IsRanked bytes front p → IsRanked bytes front q →
+      ranks_below bytes p q ≡ is_below bytes p q
+  ranked_order front p q h k = ap is_lt (fronted_order front (key_in bytes p) (key_in bytes q) p.prefix
+      q.prefix h.shares k.shares h.begins k.begins (key_bytes p) (key_bytes q))
 
-  -- Places that are sorted by the numbers first are sorted by their keys.
-  pub sorted_by_keys : (places : List Place) → All (StandsIn bytes) places →
+  -- Two places that are ranked behind one front have the order of their keys.
+  pub same_order : (p q : Place) → AreRanked bytes (p ∷ q ∷ []) →
+      ranks_below bytes p q ≡ is_below bytes p q
+  same_order p q h = ranked_order h.front p q (h.each 0 p (omega arith)) (h.each 1 p (omega arith))
+
+  -- Ranked places that are sorted by their numbers first are sorted by their keys.
+  pub sorted_by_keys : (places : List Place) → AreRanked bytes places →
       IsSortedBy (ranks_below bytes) places → IsSortedBy (is_below bytes) places
-  sorted_by_keys places stand sorted = λ k d low high.
-      sym (same_order (get_or places (k + 1) d) (get_or places k d)
-      (stand (k + 1) d high).begins (stand k d (omega arith)).begins) ∙ sorted k d low high
+  sorted_by_keys places h sorted = λ k d low high.
+      sym (ranked_order h.front (get_or places (k + 1) d) (get_or places k d)
+      (h.each (k + 1) d high) (h.each k d (omega arith))) ∙ sorted k d low high
 
-  same_ties : (x p : Place) → StandsIn bytes p →
-      ties (is_below bytes) x p ≡ ties (ranks_below bytes) (with_prefix bytes x) p
+module _ (bytes front : List ℕ) where
+  same_ties : (x p : Place) → IsRanked bytes front p →
+      ties (is_below bytes) x p ≡ ties (ranks_below bytes) (ranked_behind (length front) bytes x) p
   same_ties x p h =
-      let there = same_order (with_prefix bytes x) p refl h.begins in
-      let back = same_order p (with_prefix bytes x) h.begins refl in
-      ap (λ b. not b && not (is_below bytes p x)) (sym there) ∙
-      ap (λ b. not (ranks_below bytes (with_prefix bytes x) p) && not b) (sym back)
+      let y = ranked_behind (length front) bytes x in
+      tied_equal (key_in bytes x) (key_in bytes p) ∙
+      sym (tied_equal (ranked_in bytes y) (ranked_in bytes p) ∙
+      numbered_equal (key_in bytes p) (key_in bytes x) p.prefix y.prefix
+      (λ e. h.begins ∙ ap (λ k. prefix_of 8 (drop (length front) k)) e))
 
-  tied_alike : (x : Place) (places : List Place) → AllByRecursion (StandsIn bytes) places →
+  tied_alike : (x : Place) (places : List Place) → AllByRecursion (IsRanked bytes front) places →
       AllByRecursion (λ p. ties (is_below bytes) x p ≡
-      ties (ranks_below bytes) (with_prefix bytes x) p) places
+      ties (ranks_below bytes) (ranked_behind (length front) bytes x) p) places
   tied_alike x [] h = tt
   tied_alike x (p ∷ places) h = (same_ties x p h.0, tied_alike x places h.1)
 
-  tied : (x : Place) (places : List Place) → All (StandsIn bytes) places →
+  tied : (x : Place) (places : List Place) → All (IsRanked bytes front) places →
       filter (ties (is_below bytes) x) places ≡
-      filter (ties (ranks_below bytes) (with_prefix bytes x)) places
+      filter (ties (ranks_below bytes) (ranked_behind (length front) bytes x)) places
   tied x places h = alike (ties (is_below bytes) x)
-      (ties (ranks_below bytes) (with_prefix bytes x)) places
-      (tied_alike x places (recursion_from_All (StandsIn bytes) places h))
+      (ties (ranks_below bytes) (ranked_behind (length front) bytes x)) places
+      (tied_alike x places (recursion_from_All (IsRanked bytes front) places h))
 
-  -- Places that tie by the numbers and the keys tie by the keys, and so stay in their order.
-  pub stable_by_keys : (xs ys : List Place) → All (StandsIn bytes) xs → IsPermutation xs ys →
-      IsStableBy (ranks_below bytes) xs ys → IsStableBy (is_below bytes) xs ys
-  stable_by_keys xs ys stand same stable = λ x.
-      tied x ys (All-permutation (StandsIn bytes) xs ys same stand) ∙
-      stable (with_prefix bytes x) ∙ sym (tied x xs stand)
+-- Ranked places that tie by the numbers and the keys tie by the keys, and so stay in their order.
+pub stable_by_keys : (bytes : List ℕ) (xs ys : List Place) → AreRanked bytes xs → IsPermutation xs ys →
+    IsStableBy (ranks_below bytes) xs ys → IsStableBy (is_below bytes) xs ys
+stable_by_keys bytes xs ys h same stable = λ x.
+    tied bytes h.front x ys (All-permutation (IsRanked bytes h.front) xs ys same h.each) ∙
+    stable (ranked_behind (length h.front) bytes x) ∙ sym (tied bytes h.front x xs h.each)

@@ -26,13 +26,18 @@ neither Less = refl
 neither Equal = refl
 neither Greater = refl
 
+-- Keys tie where they are equal.
+pub tied_equal : (a b : List ℕ) →
+    (not (is_lt (key_order a b)) && not (is_lt (key_order b a))) ≡ is_eq (key_order b a)
+tied_equal a b = ap (λ o. not (is_lt o) && not (is_lt (key_order b a))) (order_back a b) ∙
+    neither (key_order b a)
+
 -- Places that tie with one of a key are those of the key.
 tie_is : (bytes key : List ℕ) (x p : Place) → key_in bytes x ≡ key →
     ties (is_below bytes) x p ≡ is_of bytes key p
 tie_is bytes key x p e = ap
     (λ k. not (is_lt (key_order k (key_in bytes p))) && not (is_lt (key_order (key_in bytes p) k))) e ∙
-    ap (λ o. not (is_lt o) && not (is_lt (key_order (key_in bytes p) key)))
-    (order_back key (key_in bytes p)) ∙ neither (key_order (key_in bytes p) key)
+    tied_equal key (key_in bytes p)
 
 -- Tests that give the same keep the same.
 pub filter_alike : (f g : Place → Bool) → ((p : Place) → f p ≡ g p) → (places : List Place) →

@@ -15,6 +15,7 @@ mod open_run;
 mod order;
 mod pile;
 mod place;
+mod rank;
 mod run;
 mod shelf;
 mod sorted_file;

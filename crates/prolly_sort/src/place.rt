@@ -1,8 +1,8 @@
 //! Where a record lies among the bytes of a run.
-ghost use Rattle.std.specs.Prelude.{◌≡◌, slice_range};
+ghost use Rattle.std.specs.Prelude.{◌≡◌, ◌∷◌, [], slice_range};
 ghost use Rattle.std.specs.Option.{option_copied};
 ghost use Rattle.prolly_entry.specs.Keys.{key_order};
-ghost use Rattle.prolly_sort.specs.Place.{StandsIn, is_below, key_in, prefix_of, ranked_in, value_in};
+ghost use Rattle.prolly_sort.specs.Place.{AreRanked, StandsIn, is_below, key_in, prefix_of, ranked_in, value_in};
 
 use prolly_entry::{KEY_START, key_order};
 use std::cmp::Ordering;
@@ -16,8 +16,9 @@ const PREFIX_SIZE: usize = 8;
 /// Where a record lies among the bytes of a run.
 #[derive(Clone, Copy)]
 pub(crate) struct Place {
-    /// The first bytes of its key, as [`prefix_of`] has them: most keys differ there, so they are
-    /// compared without a look at the bytes.
+    /// Bytes of its key as a number ([`prefix_of`]): those behind the front that all keys have in
+    /// common. Most keys differ there, so they are compared without a look at the bytes. It is 0
+    /// until the places are ranked (`rank_places`), just before they are sorted.
     pub(crate) prefix: u64,
     /// How many records came before it.
     pub(crate) number: u32,
@@ -65,20 +66,20 @@ impl Place {
     }
 }
 
-/// The first eight bytes of a key as one number, the first byte the weightiest. A key that is shorter
-/// counts as if zeros stood behind it.
-pub(crate) fn prefix_of(key: &[u8]) -> u64
-    ensures { result ≡ prefix_of 8 key.now }
+/// The first eight of these bytes as one number, the first byte the weightiest. Fewer of them count
+/// as if zeros stood behind them.
+pub(crate) fn prefix_of(bytes: &[u8]) -> u64
+    ensures { result ≡ prefix_of 8 bytes.now }
 {
     let mut prefix = 0;
     for at in 0..PREFIX_SIZE {
-        let byte = key.get(at).copied().unwrap_or(0);
+        let byte = bytes.get(at).copied().unwrap_or(0);
         prefix = prefix * 256 + u64::from(byte);
     }
     prefix
 }
 
-/// Compares two places by the first bytes of their keys, and by the keys where these are equal.
+/// Compares two places by their prefixes, and by their keys where these are equal.
 pub(crate) fn place_order(bytes: &[u8], one: Place, other: Place) -> Ordering
     ensures { result ≡ key_order (ranked_in bytes.now one) (ranked_in bytes.now other) }
 {
@@ -90,8 +91,7 @@ pub(crate) fn place_order(bytes: &[u8], one: Place, other: Place) -> Ordering
 
 /// Whether the one place's key is less than the other's.
 pub(crate) fn is_below(bytes: &[u8], one: Place, other: Place) -> bool
-    requires one { StandsIn bytes.now one }
-    requires other { StandsIn bytes.now other }
+    requires { AreRanked bytes.now (one ∷ other ∷ []) }
     ensures { result ≡ is_below bytes.now one other }
 {
     place_order(bytes, one, other).is_lt()

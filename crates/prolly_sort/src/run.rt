@@ -7,7 +7,8 @@ ghost use Rattle.prolly_sort.specs.Place.{place_of, records_in};
 
 use crate::fault::{PushFault, SortFault};
 use crate::order::{first_doubled, last_of_each, sort_places};
-use crate::place::{LENGTHS_SIZE, Place, prefix_of};
+use crate::place::{LENGTHS_SIZE, Place};
+use crate::rank::rank_places;
 use crate::sorted_run::SortedRun;
 use prolly_entry::{Record, append_record, key_order};
 use std::alloc::{AllocError, Global};
@@ -119,6 +120,7 @@ impl Run {
         if is_rising {
             return Ok(SortedRun { bytes, places });
         }
+        rank_places(&bytes, &mut places);
         sort_places(&bytes, &mut places)?;
         let kept = last_of_each(alloc, &bytes, &places)?;
         Ok(SortedRun {
@@ -150,6 +152,7 @@ impl Run {
         if is_rising {
             return Ok(SortedRun { bytes, places });
         }
+        rank_places(&bytes, &mut places);
         sort_places(&bytes, &mut places)?;
         match first_doubled(&bytes, &places) {
             None => Ok(SortedRun { bytes, places }),
@@ -189,7 +192,8 @@ fn rises(is_rising: bool, bytes: &[u8], places: &[Place], key: &[u8]) -> bool
     }
 }
 
-/// The place of a record of this number, whose spelling lies from `start` up to `end`.
+/// The place of a record of this number, whose spelling lies from `start` up to `end`. It is not
+/// ranked yet.
 fn place_of(record: &Record, number: usize, start: usize, end: usize) -> Place
     requires number { number < 2 ^ 32 }
     requires order { start ≤ end }
@@ -198,7 +202,7 @@ fn place_of(record: &Record, number: usize, start: usize, end: usize) -> Place
 {
     let key = record.key();
     Place {
-        prefix: prefix_of(key),
+        prefix: 0,
         number: number as u32,
         start: start as u32,
         end: end as u32,

@@ -12,7 +12,10 @@ use std::process::Abort;
 use std::sync::Wait;
 use std::test::Fail;
 
-/// Keys that rise.
+/// Fronts that all keys of a run have in common.
+const FRONTS: [&[u8]; 2] = [b"", b"https://example.org/"];
+
+/// What stands behind the front of keys that rise.
 const KEYS: [&[u8]; 12] = [
     b"",
     b"\0",
@@ -27,6 +30,13 @@ const KEYS: [&[u8]; 12] = [
     b"\x80",
     b"\xFF",
 ];
+
+/// A key: a front, and what stands behind it.
+fn key_of(alloc: Global, front: &[u8], rest: &[u8]) -> Result<Vec<u8>, Fail> {
+    let mut key = Vec::from_slice(alloc, front)?;
+    key.extend_from_slice(rest)?;
+    Ok(key)
+}
 
 /// Numbers that are drawn.
 #[derive(Drop)]
@@ -47,10 +57,11 @@ impl Drawn {
         (self.state >> 33) % bound
     }
 
-    /// A record of one of the keys, and what the keys have at last with it.
+    /// A record of one of the keys with this front, and what the keys have at last with it.
     fn record(
         &mut self,
         alloc: Global,
+        front: &[u8],
         last: &mut [Option<Option<u8>>; 12],
     ) -> Result<Record, Fail> {
         let number = self.below(12) as usize;
@@ -59,18 +70,23 @@ impl Drawn {
             _ => Some(self.below(256) as u8),
         };
         last[number] = Some(value);
-        record_of(alloc, KEYS[number], value)
+        record_of(alloc, &key_of(alloc, front, KEYS[number])?, value)
     }
 }
 
-/// The record file of what each key has at last: nothing, a value of one byte, or that it is
-/// removed.
-fn expected_file(alloc: Global, last: &[Option<Option<u8>>; 12]) -> Result<Vec<u8>, Fail> {
+/// The record file of what each key with this front has at last: nothing, a value of one byte, or
+/// that it is removed.
+fn expected_file(
+    alloc: Global,
+    front: &[u8],
+    last: &[Option<Option<u8>>; 12],
+) -> Result<Vec<u8>, Fail> {
     let mut file = Vec::new(alloc);
-    for (key, change) in KEYS.iter().zip(last) {
+    for (rest, change) in KEYS.iter().zip(last) {
         if let Some(value) = change {
+            let key = key_of(alloc, front, rest)?;
             file.extend_from_slice(&[0, (key.len() % 256) as u8])?;
-            file.extend_from_slice(key)?;
+            file.extend_from_slice(&key)?;
             match value {
                 Some(value) => file.extend_from_slice(&[0, 0, 0, 1, *value])?,
                 None => file.extend_from_slice(b"\xFF\xFF\xFF\xFF")?,
@@ -81,49 +97,62 @@ fn expected_file(alloc: Global, last: &[Option<Option<u8>>; 12]) -> Result<Vec<u
 }
 
 /// Draws up to 99 records, and compares the file of their run with what the keys have at last.
-fn expect_drawn(rt: &impl Abort, alloc: Global, seed: u64) -> Result<(), Fail> {
+fn expect_drawn(rt: &impl Abort, alloc: Global, front: &[u8], seed: u64) -> Result<(), Fail> {
     let mut drawn = Drawn { state: seed };
     let mut run = Run::new(alloc, AMPLE);
     let mut last = [None; 12];
     for _ in 0..drawn.below(100) {
-        run.push(&drawn.record(alloc, &mut last)?)?;
+        run.push(&drawn.record(alloc, front, &mut last)?)?;
     }
     let sorted = run.sort(alloc)?;
     expect_bytes(
         rt,
         file_of(alloc, &sorted)?.taken(),
-        &expected_file(alloc, &last)?,
+        &expected_file(alloc, front, &last)?,
     );
     Ok(())
 }
 
 #[test]
 fn drawn_records_come_in_order(rt: HostRuntime) -> Result<(), Fail> {
-    for seed in 0..300u64 {
-        expect_drawn(&rt, rt.alloc(), seed)?;
+    for front in FRONTS {
+        for seed in 0..300u64 {
+            expect_drawn(&rt, rt.alloc(), front, seed)?;
+        }
     }
     Ok(())
 }
 
 /// The same of a sorter of up to 199 records, of which its budget holds one or some.
-fn expect_sorted(rt: &(impl Abort + Wait), alloc: Global, seed: u64) -> Result<(), Fail> {
+fn expect_sorted(
+    rt: &(impl Abort + Wait),
+    alloc: Global,
+    front: &[u8],
+    seed: u64,
+) -> Result<(), Fail> {
     let mut drawn = Drawn { state: seed };
     let mut files = Files::new(alloc, Failing::Nothing);
-    let mut sorter = Sorter::new(alloc, 64 + drawn.below(400) as u32);
+    let mut sorter = Sorter::new(alloc, 84 + drawn.below(400) as u32);
     let mut last = [None; 12];
     for _ in 0..drawn.below(200) {
-        let record = drawn.record(alloc, &mut last)?;
+        let record = drawn.record(alloc, front, &mut last)?;
         sorter.push(rt, &mut files, &record)?;
     }
     let sorted = sorter.finish(rt, &mut files)?;
-    expect_bytes(rt, sorted.file.taken(), &expected_file(alloc, &last)?);
+    expect_bytes(
+        rt,
+        sorted.file.taken(),
+        &expected_file(alloc, front, &last)?,
+    );
     Ok(())
 }
 
 #[test]
 fn drawn_records_are_merged_in_order(rt: HostRuntime) -> Result<(), Fail> {
-    for seed in 0..60u64 {
-        expect_sorted(&rt, rt.alloc(), seed)?;
+    for front in FRONTS {
+        for seed in 0..30u64 {
+            expect_sorted(&rt, rt.alloc(), front, seed)?;
+        }
     }
     Ok(())
 }

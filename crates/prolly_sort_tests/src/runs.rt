@@ -139,6 +139,60 @@ fn keys_that_came_once_are_put_in_order(rt: HostRuntime) -> Result<(), Fail> {
     Ok(())
 }
 
+/// Keys that rise. The first one is the front that all of them have in common, and some of them have
+/// the same eight bytes behind it.
+const FRONTED: [&[u8]; 5] = [
+    b"https://example.org/",
+    b"https://example.org/\0",
+    b"https://example.org/1",
+    b"https://example.org/12345678",
+    b"https://example.org/123456780",
+];
+
+/// A run of these keys, the greatest first.
+fn fronted_run(alloc: Global) -> Result<Run, Fail> {
+    let mut run = Run::new(alloc, AMPLE);
+    for key in FRONTED.iter().rev() {
+        run.push(&record_of(alloc, key, None)?)?;
+    }
+    Ok(run)
+}
+
+#[test]
+fn keys_with_one_front_are_put_in_order(rt: HostRuntime) -> Result<(), Fail> {
+    let alloc = rt.alloc();
+    for sorted in [
+        fronted_run(alloc)?.sort(alloc)?,
+        fronted_run(alloc)?.sort_unique()?,
+    ] {
+        expect_eq(&rt, &sorted.len(), &FRONTED.len());
+        for (number, key) in FRONTED.iter().enumerate() {
+            expect_eq(&rt, &sorted.get(number), &Some((*key, None)));
+        }
+    }
+    Ok(())
+}
+
+#[test]
+fn a_front_that_came_twice_is_told(rt: HostRuntime) -> Result<(), Fail> {
+    let mut run = fronted_run(rt.alloc())?;
+    run.push(&record_of(rt.alloc(), FRONTED[0], None)?)?;
+    match run.sort_unique() {
+        Ok(_) => Err(Fail::from("no key came twice")),
+        Err(fault) => {
+            expect_eq(
+                &rt,
+                &fault,
+                &SortFault::Doubled {
+                    first: 4,
+                    second: 5,
+                },
+            );
+            Ok(())
+        }
+    }
+}
+
 /// Pushes a=1 and then b=1, which take 56 bytes of the budget each, and compares the answers.
 fn expect_pushed(
     rt: &impl Abort,

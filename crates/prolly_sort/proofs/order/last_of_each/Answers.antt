@@ -1,9 +1,10 @@
-use Rattle.std.proofs.Common.{◌∙◌, ap, arith, sym, subst}
+use Rattle.std.proofs.Common.{◌∙◌, ◌-◌, ap, arith, sym, subst}
 use Rattle.std.proofs.lemmas.List.Elements.{All-nil, All-push}
 use Rattle.std.specs.Option.{option_copied}
 use Rattle.prolly_sort.specs.Place.{StandsIn, records_in}
 use Rattle.prolly_sort.proofs.Lasting.{first_kept, first_there, kept_step, none_kept}
 use Rattle.prolly_sort.proofs.Lasting.{same_there, stands_step}
+use Rattle.prolly_sort.proofs.Ranking.{two_ranked}
 use Rattle.prolly_sort.proofs.order.last_of_each.Goals as goal
 
 pub returns-in_default-clause-records : goal.returns-in_default-clause-records
@@ -22,6 +23,14 @@ loop-number-init c =
       lies = subst (StandsIn c.args.bytes.now) (there.1 c.in-Some.first.now)
           (c.requires.stand 0 c.in-Some.first.now there.0);
     })
+
+pub keep-requires : goal.keep-requires
+keep-requires c =
+    let places = c.args.places.now in
+    let at = c.loop-number.number in
+    two_ranked c.args.bytes.now places (at - 1) at c.loop-number.last _ c.requires.ranked (omega arith)
+    (omega arith) (c.loop-number.invariant.kept.last_is c.loop-number.last)
+    (same_there places at _ _ (omega arith))
 
 pub loop-number-preserved : goal.loop-number-preserved
 loop-number-preserved c =

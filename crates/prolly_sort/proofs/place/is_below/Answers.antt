@@ -7,4 +7,4 @@ returns c =
     let bytes = c.args.bytes.now in
     c.is_lt.ensures ∙ ap is_lt c.place_order.ensures ∙
     same_order bytes (all_bytes bytes (λ k. omega (arith, c.type_inv.bytes k))) c.args.one c.args.other
-    c.requires.one.begins c.requires.other.begins
+    c.requires
