@@ -10,14 +10,15 @@
  * memory of their own say so; they take it with malloc and give it back before they return.
  *
  * Pointers.  No pointer may be NULL, not even where its length is 0. A prolly_slice that is passed
- * for an answer has to be set before, as to PROLLY_EMPTY. What a call writes may not overlap what it
- * reads.
+ * for an answer has to be set before, as to PROLLY_EMPTY. What a call writes may overlap neither what
+ * it reads nor what else it writes.
  *
  * Threads.  A call has no effect but on what it is given to write. So any number of calls may run at a
  * time over the same bytes and the same index, each with answers, and a cursor, of its own.
  *
  * Statuses.  Each call answers one of `enum prolly_status`. Where a call is not done, what it writes
- * answers into is as before, unless the call says otherwise. prolly_error_text() has a text for each.
+ * answers into is as before, unless the call says otherwise. Where it is done, a buffer and an index are
+ * as before behind what it tells that it wrote. prolly_error_text() has a text for each.
  *
  * What is promised is proved, of the library's source code, down to the definition of the map that a
  * file holds: see docs/proofs.md. */
@@ -52,7 +53,7 @@ enum prolly_status {
   PROLLY_NOT_CANONICAL = 22,     /* * the file of the same pairs does not have it there */
   PROLLY_BAD_END = 23,           /* the end record has another root or number of chunks */
   PROLLY_COLLISION = 24,         /* * an earlier chunk has its reference, too */
-  PROLLY_READ_FAILED = 25,       /* a read failed, which no read of memory does */
+  PROLLY_READ_FAILED = 25,       /* a read failed; no call answers this, since no read of memory fails */
 
   /* Why bytes are no record file. All but the last name a record, counted from 0. */
   PROLLY_RECORD_CUT = 32,          /* the bytes end inside the record */
@@ -138,7 +139,7 @@ typedef struct prolly_report {
   uint8_t bits;     /* by how many bits the entries were cut: chunks have some 2^bits entries */
   uint64_t chunks;  /* how many chunks there are */
   uint64_t pairs;   /* how many pairs there are */
-  uint64_t faulty;  /* the chunk that a fault names; else 0 */
+  uint64_t faulty;  /* the chunk that a fault names, or 0; where memory was refused it stays */
 } prolly_report;
 
 /* A part of an index: where in the bytes some pairs stand that follow one another. The fields are of
@@ -168,8 +169,8 @@ typedef struct prolly_cursors {
 /* Checks whether the bytes are the one lawful file of some map, and tells what it says.
  *
  * PROLLY_DONE: they are, and `*report` is that of the file. No lawful file is refused, but for want
- * of memory. PROLLY_MEMORY: memory was refused. Else the status is the first fault of the bytes, and
- * `report->faulty` is the chunk that it names; the rest of `*report` stays.
+ * of memory. PROLLY_MEMORY: memory was refused, and `*report` stays. Else the status is the first fault
+ * of the bytes, and `report->faulty` is the chunk that it names, or 0; the rest of `*report` stays.
  *
  * Cost: hashes each chunk and each pair once, and the pairs of the last leaf twice where that is not
  * whole, some 0.6 s for a million pairs. Takes memory for the places and references of the chunks, and
@@ -293,8 +294,9 @@ uint32_t prolly_verify(uint8_t version, const uint8_t root[20], const uint8_t *k
  *
  * PROLLY_DONE: the proof is `out[0 .. *count]`, and prolly_verify takes it. PROLLY_NO_ROOM: `*count`
  * is its length, and nothing else is written. PROLLY_USAGE: no such version. PROLLY_MEMORY: memory was
- * refused. Else the status is the first fault that was met in the file, and `*chunk` the chunk that
- * it names. The file of a tree with this root is never refused so.
+ * refused, as it is for a chunk of more than 1 GiB. Else the status is one of the faults of a chunk
+ * file or of the last four, and `*chunk` the chunk that it names. The file of a tree with this root is
+ * never refused so. Which fault of any other is told is not proved.
  *
  * Cost: goes over the frames of the file, and hashes one chunk a level. Takes memory for these. */
 uint32_t prolly_prove(const uint8_t *bytes, size_t len, uint8_t version, const uint8_t root[20],
@@ -313,8 +315,9 @@ uint32_t prolly_prove(const uint8_t *bytes, size_t len, uint8_t version, const u
  * goes over the pairs of the range, from a cursor that is all zeros on: over those that each map with
  * this root has there, and no other, unless two different chunks have one reference. PROLLY_NO_ROOM:
  * `*count` is the number of runs that it needs, and what was written means nothing. PROLLY_USAGE: no
- * such version. PROLLY_MEMORY: memory was refused. Else the bytes prove nothing: the status is their
- * first fault, and `*chunk` the chunk that it names. A proof is never refused so.
+ * such version. PROLLY_MEMORY: memory was refused, as it is for a chunk of more than 1 GiB. Else the
+ * bytes prove nothing: the status is their first fault, and `*chunk` the chunk that it names. A proof
+ * is never refused so.
  *
  * Cost: hashes the proof once, also where there is no room. A run is of 16 pairs as a rule, and a
  * proof of n bytes never needs more than n / 6 runs. Takes memory for one chunk, and for references. */

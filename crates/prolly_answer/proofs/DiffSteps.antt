@@ -18,6 +18,7 @@ use Rattle.prolly_tree.specs.LookUp.{find}
 use Rattle.prolly_tree.specs.lemmas.Differences.{some_difference}
 use Rattle.prolly_file.specs.Failures.{after_failure}
 use Rattle.prolly_file.specs.Sink.{IsSettled, SinkView}
+use Rattle.prolly_range.specs.lemmas.Unfailed.{other_failures}
 use Rattle.prolly_file.specs.Writes.{Writes}
 use Rattle.prolly_diff.specs.Differences.{Maps, AreMaps, IsFirstChange}
 use Rattle.std.specs.Prelude.{IfOk, OnErr}
@@ -37,7 +38,7 @@ use Rattle.prolly_answer.specs.Outputs.{IsPart, TookAll, TookPrefix, TookUntil}
 use Rattle.prolly_text.specs.RecordForms.{spelled, spelled_in, written_records}
 use Rattle.prolly_answer.proofs.Answering.{looked_up}
 use Rattle.prolly_answer.proofs.Writing.{TookSoFar, took_none, took_more, took_front, took_until}
-use Rattle.prolly_answer.proofs.Writing.{flushed, other_failures, unflushed}
+use Rattle.prolly_answer.proofs.Writing.{flushed, unflushed}
 use Rattle.prolly_answer.proofs.Counting.{all_counted}
 
 -- ---- the records of a difference are lawful

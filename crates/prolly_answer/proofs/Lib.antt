@@ -26,8 +26,6 @@ pub mod Stating
 pub mod RootDiffSteps
 -- Looking up key after key, and writing the line of each.
 mod KeySteps
--- What is left of the proof of a set of keys.
-pub mod SetRests
 -- Which keys of a list are past when pairs were shown, and what is found there.
 pub mod ShownKeys
 -- The lines of the keys up to those of pairs, key by key and pair by pair.

@@ -14,6 +14,7 @@ use Rattle.prolly_entry.specs.Pair.{Pair}
 use Rattle.prolly_entry.specs.declared.version.Version.{Version}
 use Rattle.prolly_file.specs.Failures.{CountsFailure, after_failure}
 use Rattle.prolly_file.specs.Sink.{IsSettled, SinkView}
+use Rattle.prolly_range.specs.lemmas.Unfailed.{other_failures}
 use Rattle.prolly_root.specs.Reader.{AreFirstFound, ReaderView}
 use Rattle.prolly_root.specs.RootFault.{TellsReads}
 use Rattle.prolly_root.specs.declared.root_fault.RootFault.{RootFault}
@@ -30,7 +31,7 @@ use Rattle.prolly_answer.specs.declared.faults.fault.Fault.TheVariants as faults
 use Rattle.prolly_answer.specs.declared.faults.fault.Fault.TheVariants.{Root, Write}
 use Rattle.prolly_answer.specs.declared.faults.output_fault.OutputFault.{OutputFault}
 use Rattle.prolly_answer.specs.declared.faults.output_fault.OutputFault.TheVariants as outputs
-use Rattle.prolly_answer.proofs.Writing.{TookSoFar, flushed, other_failures, took_front, took_none}
+use Rattle.prolly_answer.proofs.Writing.{TookSoFar, flushed, took_front, took_none}
 use Rattle.prolly_answer.proofs.Writing.{unflushed}
 
 -- ---- the last pair of a leaf

@@ -38,7 +38,7 @@ use Rattle.prolly_answer.specs.declared.faults.output_fault.OutputFault.{OutputF
 use Rattle.prolly_answer.specs.declared.faults.output_fault.OutputFault.TheVariants as outputs
 use Rattle.prolly_answer.proofs.ScanSteps.{all_flushed, all_unflushed, prefix_flushed}
 use Rattle.prolly_answer.proofs.ScanSteps.{prefix_unflushed, took_also, until_also}
-use Rattle.prolly_answer.proofs.SetRests.{not_begun, rest_behind, rest_begins}
+use Rattle.prolly_range.specs.lemmas.Rests.{not_begun, rest_behind, rest_begins}
 use Rattle.prolly_answer.proofs.ShownKeys.{IsLeft, SomeOfSet, left_begins, left_fits, left_goes_on}
 use Rattle.prolly_answer.proofs.ShownKeys.{lines_ended, lines_more, lines_of_none, some_of_set}
 use Rattle.prolly_answer.proofs.Writing.{TookSoFar, took_none}

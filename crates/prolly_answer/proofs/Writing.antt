@@ -1,9 +1,10 @@
 -- Bytes that a sink is to take, part by part.
-use Rattle.std.proofs.Common.{◌≡◌, ◌≢◌, ℕ, true, List, [], ◌++◌, Result, Ok, Err, refl, sym, ap}
-use Rattle.std.proofs.Common.{◌∙◌, subst, arith, append_assoc, append-nil}
+use Rattle.std.proofs.Common.{◌≡◌, ℕ, true, List, [], ◌++◌, Result, Ok, Err, refl, sym, ap}
+use Rattle.std.proofs.Common.{◌∙◌, subst, append_assoc, append-nil}
 use Rattle.prolly_file.specs.Failures.{after_failure}
 use Rattle.prolly_file.specs.Sink.{IsSettled, SinkView}
 use Rattle.prolly_file.specs.Writes.{Writes}
+use Rattle.prolly_range.specs.lemmas.Unfailed.{other_failures}
 use Rattle.prolly_answer.specs.Outputs.{TookAll, TookPart, TookPrefix}
 pub use Rattle.prolly_answer.specs.Outputs.{TookSoFar}
 
@@ -19,9 +20,6 @@ pub own_nothing : (bytes items cleared own : List ℕ) → bytes ≡ items → i
     cleared ≡ [] → own ≡ [] → bytes ≡ []
 own_nothing bytes items cleared own e f g none =
     e ∙ (f ∙ (ap (λ c. c ++ own) g ∙ none))
-
-pub other_failures : (n : ℕ) → after_failure n ≢ n
-other_failures n e = omega (arith, e)
 
 module _ {W : Type 0} (seen : W → SinkView) where
   -- ---- all at once

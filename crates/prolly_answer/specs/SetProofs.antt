@@ -12,7 +12,8 @@ use Rattle.prolly_file.specs.Frame.{IsSmall}
 use Rattle.prolly_file.specs.Sink.{IsSettled, SinkView}
 use Rattle.prolly_range.specs.KeySet.{KeySet, is_before}
 use Rattle.prolly_range.specs.KeySet.KeySet.{Keys, Range}
-use Rattle.prolly_range.specs.Prover.{MayFailTo, TellsSink, TellsSource, WritesPart, WritesProof}
+use Rattle.prolly_range.specs.Prover.{MayFailTo, MayStop, TellsSink, TellsSource, WritesPart}
+use Rattle.prolly_range.specs.Prover.{WritesProof}
 use Rattle.prolly_range.specs.SetProof.{AreTaken, Due, IsSetProof, root_due, set_file, set_start}
 use Rattle.prolly_range.specs.Start.{IsSetStartFault}
 use Rattle.prolly_range.specs.Verifier.{IsProofFault}
@@ -66,7 +67,7 @@ IsProvedSet set bytes failed old new =
 -- the sink tells too, or want of memory; and the sink took a first part of a proof.
 abbrev pub IsStoppedProof : KeySet → List ℕ → Type 0 → SinkView → SinkView → ProveFault → Type 0
 IsStoppedProof set bytes failed old new fault =
-    IsLookedUp bytes failed (λ content. MayFailTo fault × WritesPart content.version
+    IsLookedUp bytes failed (λ content. MayStop fault × WritesPart content.version
     (root_due (root_reference (sha512_cut content.bits) content.version content.pairs) set ∷ [])
     (set_start content.version) old new)
     × TellsSink {T = Unit {0}} old.failures new.failures (Err fault)

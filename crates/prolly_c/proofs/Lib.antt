@@ -1,5 +1,7 @@
 -- Reading the entries of a leaf, one pair after another.
 pub mod Entries
+-- What stands behind the elements that were written.
+pub mod Behind
 -- An index that is written, run by run.
 pub mod Writing
 -- The runs of an index, and what is found by them.
@@ -10,8 +12,8 @@ pub mod Cursors
 pub mod FileFrames
 -- Two cursors side by side: what is taken of the least key, and what is left.
 pub mod Sides
--- What is left of the proof of a set of keys.
-pub mod ProofRests
+-- What is told of a chunk file in memory, of which no read fails.
+pub mod Unread
 -- Verifying a proof, chunk by chunk.
 pub mod Verifying
 -- The pairs of a range among those of a leaf.

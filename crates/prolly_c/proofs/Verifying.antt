@@ -20,7 +20,7 @@ use Rattle.prolly_range.specs.declared.fault.SetFault.{SetFault}
 use Rattle.prolly_range.specs.declared.fault.SetFault.TheVariants as sets
 use Rattle.prolly_range.specs.lemmas.Taken.{taken_more}
 use Rattle.prolly_tree.specs.Events.{greatest_count}
-use Rattle.prolly_c.proofs.ProofRests.{not_begun, rest_behind, rest_begins}
+use Rattle.prolly_range.specs.lemmas.Rests.{not_begun, rest_behind, rest_begins}
 use Rattle.prolly_c.specs.RangeProofs.{IsNoRangeProof, IsSomeRangeProof}
 
 -- What a call came to, over a source that is honest.

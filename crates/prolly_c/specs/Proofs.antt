@@ -1,5 +1,5 @@
 -- What a proof says, and why bytes are none. (This project's rules.)
-use Rattle.std.specs.Prelude.{◌≡◌, ℕ, List, Option, length}
+use Rattle.std.specs.Prelude.{◌≡◌, ◌≢◌, ℕ, List, Option, length}
 use Rattle.prolly_entry.specs.Version.{version_byte}
 use Rattle.prolly_entry.specs.declared.version.Version.{Version}
 use Rattle.prolly_root.specs.ProofFault.{IsFault}
@@ -62,7 +62,8 @@ status_of_root (rooted.Reference chunk) = (66, chunk)
 status_of_root (rooted.Level chunk) = (67, chunk)
 status_of_root rooted.Read = (25, 0)
 
--- The status is that of some fault of a file, and this is the chunk that it names.
+-- The status is that of some fault of a file but a failed read, and this is the chunk that it names.
 pub record TellsFault (status chunk : ℕ) : Type 0 where
   pub fault : RootFault
+  pub unread : fault ≢ rooted.Read
   pub is : status_of_root fault ≡ (status, chunk)

@@ -17,6 +17,7 @@ pub record IsReport (content : Content) (report : Report) : Type 0 where
   pub bits : report.bits ≡ content.bits
   pub chunks : report.chunks ≡ length (chunks_of content)
   pub pairs : report.pairs ≡ length content.pairs
+  pub faulty : report.faulty ≡ 0
 
 -- Nothing but the chunk that a fault names is told anew.
 abbrev pub KeepsRest : Report → Report → Type 0

@@ -1,5 +1,5 @@
 //! The index of a chunk file.
-ghost use Rattle.std.specs.Prelude.{◌≡◌, ◌≢◌, ◌⊎◌, ◌≤◌, ◌<◌, length, take};
+ghost use Rattle.std.specs.Prelude.{◌≡◌, ◌≢◌, ◌⊎◌, ◌≤◌, ◌<◌, length, take, drop};
 ghost use Rattle.prolly_check.specs.Content.{Content};
 ghost use Rattle.prolly_check.specs.Verdict.{IsFileOf};
 ghost use Rattle.prolly_c.specs.Cursor.{IsAt, first_place};
@@ -19,6 +19,7 @@ pub extern "C" fn prolly_index(bytes: &[u8], index: &mut [Run], count: &mut usiz
     ensures index { result ≡ 0 → (content : Content) → IsFileOf bytes.now content →
         IsIndexOf bytes.now content (take count.new index.new) }
     ensures within { result ≡ 0 → count.new ≤ length index.new }
+    ensures behind { result ≡ 0 → drop count.new index.new ≡ drop count.new index.old }
     ensures room { result ≡ 3 → length index.new < count.new }
     ensures counted { result ≢ 5 → (content : Content) → IsFileOf bytes.now content →
         count.new ≡ run_count content }

@@ -1,5 +1,5 @@
 //! Proofs of what a chunk file has at a key.
-ghost use Rattle.std.specs.Prelude.{◌≡◌, ◌≢◌, ◌⊎◌, ◌<◌, ◌≤◌, length, take};
+ghost use Rattle.std.specs.Prelude.{◌≡◌, ◌≢◌, ◌⊎◌, ◌<◌, ◌≤◌, length, take, drop};
 ghost use Rattle.prolly_entry.specs.Cut.{sha512_cut};
 ghost use Rattle.prolly_entry.specs.Version.{version_byte};
 ghost use Rattle.prolly_tree.specs.File.{root_reference};
@@ -18,7 +18,8 @@ use std::alloc::Global;
 /// so it need not be checked: where the status is `DONE`, the bytes are a proof for this root.
 ///
 /// Where there is less room, `count` is the length that is needed, and nothing else is written.
-/// Else the status is the first fault that is met, and `chunk` the chunk that this names.
+/// Else the status is that of a fault that is met, and `chunk` the chunk that this names. By the
+/// contract that may be any fault but a failed read.
 ///
 /// Takes memory for the chunks of the proof. Goes over the frames of the file, and hashes the chunks
 /// of the proof.
@@ -35,18 +36,20 @@ pub extern "C" fn prolly_prove(
 ) -> u32
     ensures proves { result ≡ 0 → ProvesSome version root.now key.now (take count.new out.new) }
     ensures within { result ≡ 0 → count.new ≤ length out.new }
+    ensures behind { result ≡ 0 → drop count.new out.new ≡ drop count.new out.old }
     ensures room { result ≡ 3 → (length out.new < count.new) ×
         HasProof version root.now key.now count.new }
     ensures lawful { (content : Content) → IsFileOf bytes.now content →
         version_byte content.version ≡ version →
         root.now ≡ root_reference (sha512_cut content.bits) content.version content.pairs →
-        (result ≡ 0) ⊎ ((result ≡ 2) ⊎ ((result ≡ 3) ⊎ (result ≡ 25))) }
+        (result ≡ 0) ⊎ ((result ≡ 2) ⊎ (result ≡ 3)) }
     ensures refused { (result ≡ 0) ⊎ ((result ≡ 2) ⊎ ((result ≡ 3) ⊎ ((result ≡ 6) ⊎
         TellsFault result chunk.new))) }
     ensures stays { result ≢ 0 → out.new ≡ out.old }
     ensures uncounted { result ≢ 0 → result ≢ 3 → count.new ≡ count.old }
     ensures unnamed { result ≤ 6 → chunk.new ≡ chunk.old }
     ensures usage { result ≡ 6 → (version ≡ 1 → ⊥) × (version ≡ 2 → ⊥) }
+    ensures version { (version ≡ 1) ⊎ ((version ≡ 2) ⊎ (result ≡ 6)) }
 {
     let Some(format) = Version::of(version) else {
         return USAGE;

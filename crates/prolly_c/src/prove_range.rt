@@ -1,5 +1,5 @@
 //! Proofs of what a chunk file has in a range of keys.
-ghost use Rattle.std.specs.Prelude.{◌≡◌, ◌≢◌, ◌⊎◌, ◌<◌, ◌≤◌, length, take};
+ghost use Rattle.std.specs.Prelude.{◌≡◌, ◌≢◌, ◌⊎◌, ◌<◌, ◌≤◌, length, take, drop};
 ghost use Rattle.prolly_entry.specs.Cut.{sha512_cut};
 ghost use Rattle.prolly_entry.specs.Version.{version_byte};
 ghost use Rattle.prolly_tree.specs.File.{root_reference};
@@ -37,19 +37,21 @@ pub extern "C" fn prolly_prove_range(
     ensures proves { result ≡ 0 → ProvesRange version root.now
         (range_of from.now to.now bounded) (take count.new out.new) }
     ensures within { result ≡ 0 → count.new ≤ length out.new }
+    ensures behind { result ≡ 0 → drop count.new out.new ≡ drop count.new out.old }
     ensures room { result ≡ 3 → (length out.new < count.new) ×
         HasRangeProof version root.now
         (range_of from.now to.now bounded) count.new }
     ensures lawful { (content : Content) → IsFileOf bytes.now content →
         version_byte content.version ≡ version →
         root.now ≡ root_reference (sha512_cut content.bits) content.version content.pairs →
-        (result ≡ 0) ⊎ ((result ≡ 2) ⊎ ((result ≡ 3) ⊎ (result ≡ 25))) }
+        (result ≡ 0) ⊎ ((result ≡ 2) ⊎ (result ≡ 3)) }
     ensures refused { (result ≡ 0) ⊎ ((result ≡ 2) ⊎ ((result ≡ 3) ⊎ ((result ≡ 6) ⊎
         TellsFault result chunk.new))) }
     ensures stays { result ≢ 0 → out.new ≡ out.old }
     ensures uncounted { result ≢ 0 → result ≢ 3 → count.new ≡ count.old }
     ensures unnamed { result ≤ 6 → chunk.new ≡ chunk.old }
     ensures usage { result ≡ 6 → (version ≡ 1 → ⊥) × (version ≡ 2 → ⊥) }
+    ensures version { (version ≡ 1) ⊎ ((version ≡ 2) ⊎ (result ≡ 6)) }
 {
     let Some(format) = Version::of(version) else {
         return USAGE;

@@ -1,24 +1,23 @@
 //! Making proofs out of a chunk file in memory.
-ghost use Rattle.std.specs.Prelude.{◌≡◌, IfErr, IfOk};
+ghost use Rattle.std.specs.Prelude.{◌≡◌, ◌≢◌, IfErr, IfOk};
 ghost use Rattle.prolly_entry.specs.Cut.{sha512_cut};
 ghost use Rattle.prolly_tree.specs.File.{root_reference};
 ghost use Rattle.prolly_check.specs.Content.{Content};
 ghost use Rattle.prolly_check.specs.Verdict.{IsFileOf};
 ghost use Rattle.prolly_root.specs.ProofFile.{IsSomeProof};
-ghost use Rattle.prolly_root.specs.RootFault.{MayFail};
+ghost use Rattle.prolly_root.specs.declared.root_fault.RootFault.TheVariants.{Memory, Read};
 ghost use Rattle.prolly_range.specs.KeySet.{set_of};
 ghost use Rattle.prolly_c.specs.RangeProofs.{IsSomeRangeProof};
 
 use crate::gathered::Gathered;
 use prolly_entry::{Ref, Version};
-use prolly_file::FromSeek;
+use prolly_file::InMemory;
 use prolly_range::{KeySet, ProveFault, prove_set};
 use prolly_root::{FileChunks, Reader, RootFault};
 use std::alloc::Global;
-use std::io::Cursor;
 
 /// The proof of what the tree of this version and root has at the key. A lawful file of that tree is
-/// refused for want of memory alone, or for a failed read, of which memory has none.
+/// refused for want of memory alone.
 pub(crate) fn proof_in(
     alloc: Global,
     bytes: &[u8],
@@ -31,9 +30,10 @@ pub(crate) fn proof_in(
     ensures lawful { (content : Content) → IsFileOf bytes.now content →
         content.version ≡ version →
         root.now.0 ≡ root_reference (sha512_cut content.bits) content.version content.pairs →
-        IfErr result MayFail }
+        IfErr result (λ fault. fault ≡ Memory) }
+    ensures unread { IfErr result (λ fault. fault ≢ Read) }
 {
-    let mut chunks = FileChunks::new(FromSeek::new(Cursor::new(bytes)));
+    let mut chunks = FileChunks::new(InMemory::new(bytes));
     match Reader::open(alloc, &mut chunks, version, root) {
         Ok(mut reader) => reader.prove(alloc, &mut chunks, key),
         Err(fault) => Err(fault),
@@ -54,9 +54,10 @@ pub(crate) fn range_proof_in(
     ensures lawful { (content : Content) → IsFileOf bytes.now content →
         content.version ≡ version →
         root.now.0 ≡ root_reference (sha512_cut content.bits) content.version content.pairs →
-        IfErr result MayFail }
+        IfErr result (λ fault. fault ≡ Memory) }
+    ensures unread { IfErr result (λ fault. fault ≢ Read) }
 {
-    let mut chunks = FileChunks::new(FromSeek::new(Cursor::new(bytes)));
+    let mut chunks = FileChunks::new(InMemory::new(bytes));
     let mut sink = Gathered::new(alloc);
     match prove_set(alloc, &mut chunks, version, root, set, &mut sink) {
         Ok(()) => Ok(sink.into_bytes()),

@@ -1,5 +1,5 @@
 //! Writing into the caller's memory.
-ghost use Rattle.std.specs.Prelude.{◌≡◌, ◌≤◌, ◌+◌, ◌++◌, length, take};
+ghost use Rattle.std.specs.Prelude.{◌≡◌, ◌≤◌, ◌+◌, ◌++◌, length, take, drop};
 ghost use Rattle.prolly_entry.specs.Spelling.{pair_spelling};
 
 /// Writes the spelling of a pair behind the first `start` bytes.
@@ -9,6 +9,8 @@ pub(crate) fn put_pair(key: &[u8], value: &[u8], out: &mut [u8], start: usize)
     requires room { start + (6 + length key.now + length value.now) ≤ length out.old }
     ensures written { take (start + (6 + length key.now + length value.now)) out.new ≡
         take start out.old ++ pair_spelling (record { key = key.now; value = value.now }) }
+    ensures behind { drop (start + (6 + length key.now + length value.now)) out.new ≡
+        drop (start + (6 + length key.now + length value.now)) out.old }
     ensures len { length out.new ≡ length out.old }
 {
     let key_start = start + 2;
@@ -24,6 +26,8 @@ pub(crate) fn put_pair(key: &[u8], value: &[u8], out: &mut [u8], start: usize)
 pub(crate) fn put_bytes(bytes: &[u8], out: &mut [u8], start: usize)
     requires { start + length bytes.now ≤ length out.old }
     ensures written { take (start + length bytes.now) out.new ≡ take start out.old ++ bytes.now }
+    ensures behind { drop (start + length bytes.now) out.new ≡
+        drop (start + length bytes.now) out.old }
     ensures len { length out.new ≡ length out.old }
 {
     out[start..start + bytes.len()].copy_from_slice(bytes);

@@ -1,5 +1,5 @@
 //! Writing the records of a record file.
-ghost use Rattle.std.specs.Prelude.{◌≡◌, ◌≢◌, ◌⊎◌, ◌+◌, ◌<◌, ◌++◌, length, take};
+ghost use Rattle.std.specs.Prelude.{◌≡◌, ◌≢◌, ◌⊎◌, ◌+◌, ◌<◌, ◌++◌, length, take, drop};
 ghost use Rattle.prolly_entry.specs.Pair.{IsPair};
 ghost use Rattle.prolly_entry.specs.Spelling.{pair_spelling};
 
@@ -17,6 +17,7 @@ pub extern "C" fn prolly_record(key: &[u8], value: &[u8], out: &mut [u8], at: &m
     ensures pair { result ≡ 0 → IsPair (record { key = key.now; value = value.now }) }
     ensures written { result ≡ 0 → take at.new out.new ≡
         take at.old out.old ++ pair_spelling (record { key = key.now; value = value.now }) }
+    ensures behind { result ≡ 0 → drop at.new out.new ≡ drop at.new out.old }
     ensures at { result ≡ 0 → at.new ≡ at.old + (6 + length key.now + length value.now) }
     ensures room { result ≡ 3 → length out.old < at.old + (6 + length key.now + length value.now) }
     ensures long { result ≡ 6 → IsPair (record { key = key.now; value = value.now }) → ⊥ }

@@ -1,5 +1,5 @@
 //! Building a chunk file of a record file.
-ghost use Rattle.std.specs.Prelude.{◌≡◌, ◌≢◌, ◌⊎◌, ◌<◌, ◌≤◌, length, take};
+ghost use Rattle.std.specs.Prelude.{◌≡◌, ◌≢◌, ◌⊎◌, ◌<◌, ◌≤◌, length, take, drop};
 ghost use Rattle.prolly_c.specs.Built.{HasBuilt, IsBuilt, IsRefusedRecords};
 
 use crate::put::put_bytes;
@@ -31,6 +31,7 @@ pub extern "C" fn prolly_scratch(
     ensures built { result ≡ 0 →
         IsBuilt version bits record_file.now (take count.new out.new) root.new }
     ensures within { result ≡ 0 → count.new ≤ length out.new }
+    ensures behind { result ≡ 0 → drop count.new out.new ≡ drop count.new out.old }
     ensures room { result ≡ 3 → (length out.new < count.new) ×
         HasBuilt version bits record_file.now count.new }
     ensures refused { (result ≡ 0) ⊎ ((result ≡ 2) ⊎ ((result ≡ 3) ⊎ ((result ≡ 6) ⊎
@@ -39,6 +40,8 @@ pub extern "C" fn prolly_scratch(
     ensures uncounted { result ≢ 0 → result ≢ 3 → count.new ≡ count.old }
     ensures unnamed { result ≤ 6 → place.new ≡ place.old }
     ensures usage { result ≡ 6 → (24 < bits) ⊎ ((version ≡ 1 → ⊥) × (version ≡ 2 → ⊥)) }
+    ensures version { (version ≡ 1) ⊎ ((version ≡ 2) ⊎ (result ≡ 6)) }
+    ensures bits { (bits ≤ 24) ⊎ (result ≡ 6) }
 {
     let (Some(cut), Some(format)) = (Sha512Cut::new(bits), Version::of(version)) else {
         return USAGE;

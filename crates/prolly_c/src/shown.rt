@@ -1,6 +1,6 @@
 //! The index of the pairs that the proof of a range shows, over the bytes of the proof.
-ghost use Rattle.std.specs.Prelude.{◌≡◌, ◌≤◌, ◌-◌, ◌++◌, List, ℕ, length, take, IfErr, IfOk, IfSome};
-ghost use Rattle.std.specs.Prelude.{MatchOption, OnErr};
+ghost use Rattle.std.specs.Prelude.{◌≡◌, ◌≤◌, ◌-◌, ◌++◌, List, ℕ, length, take, drop, IfErr, IfOk};
+ghost use Rattle.std.specs.Prelude.{IfSome, MatchOption, OnErr};
 ghost use Rattle.std.specs.Option.{option_copied};
 ghost use Rattle.prolly_entry.specs.Pair.{Pair};
 ghost use Rattle.prolly_entry.specs.declared.version.Version.{Version as VersionValue};
@@ -43,6 +43,7 @@ pub(crate) fn shown_index(
         proof.now out.new) }
     ensures err { IfErr result (IsNoRangeProof version root.now.0
         (Range from.now (option_copied to.entry)) proof.now) }
+    ensures behind { IfOk result (λ runs. drop runs out.new ≡ drop runs out.old) }
     ensures stays { OnErr result (out.new ≡ out.old) }
     ensures room { length out.new ≡ length out.old }
 {
@@ -65,6 +66,7 @@ fn write_shown(proof: &[u8], from: &[u8], to: Option<&[u8]>, out: &mut [Run]) ->
         (p : IsSetProof version root (Range from.now (option_copied to.entry)) proof.now pairs) →
         IfSome result (λ runs. runs ≡
         runs_shown version (Range from.now (option_copied to.entry)) p.chunks) }
+    ensures behind { IfSome result (λ runs. drop runs out.new ≡ drop runs out.old) }
     ensures room { length out.new ≡ length out.old }
 {
     if proof.len() < PROOF_START {
@@ -101,6 +103,8 @@ fn add_shown(
         Shows version (Range from.now (option_copied to.entry)) chunk.now pairs →
         Wrote proof.now out.old written done →
         MatchOption result ⊥ (λ w. WroteChunk proof.now out.new written w done pairs) }
+    ensures more { IfSome result (λ w. written.runs ≤ w.runs) }
+    ensures behind { IfSome result (λ w. drop w.runs out.new ≡ drop w.runs out.old) }
     ensures room { length out.new ≡ length out.old }
 {
     if chunk.is_empty() || chunk[0] != LEAF {

@@ -1,5 +1,5 @@
 //! What the proof of a range shows, for who knows the root alone.
-ghost use Rattle.std.specs.Prelude.{◌≡◌, ◌≢◌, ◌⊎◌, ◌<◌, ◌≤◌, ℕ, List, length, take};
+ghost use Rattle.std.specs.Prelude.{◌≡◌, ◌≢◌, ◌⊎◌, ◌<◌, ◌≤◌, ℕ, List, length, take, drop};
 ghost use Rattle.std.specs.List.{AllByRecursion};
 ghost use Rattle.prolly_entry.specs.Cut.{sha512_cut};
 ghost use Rattle.prolly_entry.specs.Pair.{Pair, IsPair};
@@ -49,6 +49,7 @@ pub extern "C" fn prolly_verify_range(
         ScansOrClash format bits m (range_of from.now to.now bounded) proof.now
         (take count.new index.new) }
     ensures within { result ≡ 0 → count.new ≤ length index.new }
+    ensures behind { result ≡ 0 → drop count.new index.new ≡ drop count.new index.old }
     ensures room { result ≡ 3 → (length index.new < count.new) ×
         ProvesRange version root.now (range_of from.now to.now bounded) proof.now }
     ensures counted { (result ≡ 0) ⊎ (result ≡ 3) →
@@ -62,6 +63,7 @@ pub extern "C" fn prolly_verify_range(
         (index.new ≡ index.old) × (count.new ≡ count.old) }
     ensures unnamed { result ≤ 6 → chunk.new ≡ chunk.old }
     ensures usage { result ≡ 6 → (version ≡ 1 → ⊥) × (version ≡ 2 → ⊥) }
+    ensures version { (version ≡ 1) ⊎ ((version ≡ 2) ⊎ (result ≡ 6)) }
 {
     // By this law such a proof shows what the map with the root has in the range.
     set_proofs_are_right();

@@ -1,5 +1,5 @@
 //! Writing the index of a chunk file. Nothing is believed of the bytes.
-ghost use Rattle.std.specs.Prelude.{◌≡◌, ◌≤◌, ◌<◌, ◌+◌, ◌-◌, ◌++◌, List, ℕ, length, take};
+ghost use Rattle.std.specs.Prelude.{◌≡◌, ◌≤◌, ◌<◌, ◌+◌, ◌-◌, ◌++◌, List, ℕ, length, take, drop};
 ghost use Rattle.std.specs.Prelude.{IfSome, MatchOption};
 ghost use Rattle.prolly_entry.specs.Pair.{Pair};
 ghost use Rattle.prolly_entry.specs.declared.version.Version.{Version};
@@ -35,6 +35,7 @@ pub(crate) fn write_index(bytes: &[u8], out: &mut [Run]) -> Option<usize>
         AreRuns bytes.now 0 (take runs out.new) content.pairs) }
     ensures count { (content : Content) → IsFileOf bytes.now content →
         IfSome result (λ runs. runs ≡ run_count content) }
+    ensures behind { IfSome result (λ runs. drop runs out.new ≡ drop runs out.old) }
     ensures room { length out.new ≡ length out.old }
 {
     // By this law the frames of a file of a map are those of its chunks.
@@ -70,6 +71,8 @@ fn add_chunk(
     ensures wrote { (version : Version) (done pairs : List Pair) → IsEnd bytes.now rest.now →
         Holds version chunk.now pairs → Wrote bytes.now out.old written done →
         MatchOption result ⊥ (λ w. WroteChunk bytes.now out.new written w done pairs) }
+    ensures more { IfSome result (λ w. written.runs ≤ w.runs) }
+    ensures behind { IfSome result (λ w. drop w.runs out.new ≡ drop w.runs out.old) }
     ensures room { length out.new ≡ length out.old }
 {
     if chunk.is_empty() || chunk[0] != LEAF {
@@ -97,6 +100,8 @@ pub(crate) fn add_leaf(
         Spells entries.now pairs tail → length tail ≡ behind →
         Wrote bytes.now out.old written done →
         MatchOption result ⊥ (λ w. WroteChunk bytes.now out.new written w done pairs) }
+    ensures more { IfSome result (λ w. written.runs ≤ w.runs) }
+    ensures behind { IfSome result (λ w. drop w.runs out.new ≡ drop w.runs out.old) }
     ensures room { length out.new ≡ length out.old }
 {
     let mut left = entries;
@@ -126,6 +131,7 @@ fn add_run(out: &mut [Run], written: Written, run: Run, count: u64) -> Written
     ensures wrote { (bytes : List ℕ) (done here : List Pair) → Wrote bytes out.old written done →
         run.first ≡ written.pairs → IsRun bytes run here → count ≡ length here →
         Wrote bytes out.new result (done ++ here) }
+    ensures behind { drop result.runs out.new ≡ drop result.runs out.old }
     ensures room { length out.new ≡ length out.old }
 {
     if written.runs < out.len() {

@@ -13,6 +13,7 @@ use Rattle.prolly_file.specs.Sink.{SinkView, TakesPrefix}
 use Rattle.prolly_root.specs.ChunkSource.{IsChildNumber}
 use Rattle.prolly_root.specs.Descent.{StandsBelow}
 use Rattle.prolly_root.specs.RootFault.{MayFail, TellsFailure}
+use Rattle.prolly_root.specs.declared.root_fault.RootFault.TheVariants.{Memory}
 use Rattle.prolly_tree.specs.Tree.{Tree, bytes_of}
 use Rattle.prolly_range.specs.Children.{SeenMet}
 use Rattle.prolly_range.specs.Dues.{due_of}
@@ -104,3 +105,8 @@ TellsSink old new (Err faults.Write) = new ≡ after_failure old
 abbrev pub MayFailTo : ProveFault → Type 0
 MayFailTo (faults.Chunks fault) = MayFail fault
 MayFailTo faults.Write = Unit {0}
+
+-- There is no fault but a failed write, or want of memory.
+abbrev pub MayStop : ProveFault → Type 0
+MayStop (faults.Chunks fault) = fault ≡ Memory
+MayStop faults.Write = Unit {0}

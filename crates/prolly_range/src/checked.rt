@@ -6,17 +6,16 @@ ghost use Rattle.prolly_entry.specs.Cut.{sha512_cut};
 ghost use Rattle.prolly_file.specs.Sink.{IsSettled};
 ghost use Rattle.prolly_tree.specs.File.{root_reference};
 ghost use Rattle.prolly_range.specs.KeySet.{set_of};
-ghost use Rattle.prolly_range.specs.Prover.{MayFailTo, TellsSink, WritesPart, WritesProof};
+ghost use Rattle.prolly_range.specs.Prover.{MayStop, TellsSink, WritesPart, WritesProof};
 ghost use Rattle.prolly_range.specs.SetProof.{root_due, set_start};
 
 use crate::key_set::KeySet;
 use crate::prove_fault::ProveFault;
 use crate::prover::prove_set;
 use prolly_check::Tree;
-use prolly_file::{FromSeek, Sink};
+use prolly_file::{InMemory, Sink};
 use prolly_root::FileChunks;
 use std::alloc::Global;
-use std::io::Cursor;
 
 /// Writes the proof of what a checked tree has at the keys of the set, and flushes the sink. What a
 /// fault leaves in the sink is a first part of a proof.
@@ -37,9 +36,9 @@ pub fn prove_checked_set<W: Sink>(
         OnErr result (WritesPart content.version (root_due
         (root_reference (sha512_cut content.bits) content.version content.pairs)
         (set_of set.entry) ∷ []) (set_start content.version) (W.seen sink.old) (W.seen sink.new)) }
-    ensures lawful { (content : Content) → IsFileOf tree.now content → IfErr result MayFailTo }
+    ensures lawful { (content : Content) → IsFileOf tree.now content → IfErr result MayStop }
     ensures writes { TellsSink (W.seen sink.old).failures (W.seen sink.new).failures result }
 {
-    let mut chunks = FileChunks::new(FromSeek::new(Cursor::new(tree.bytes())));
+    let mut chunks = FileChunks::new(InMemory::new(tree.bytes()));
     prove_set(alloc, &mut chunks, tree.version(), &tree.root(), set, sink)
 }

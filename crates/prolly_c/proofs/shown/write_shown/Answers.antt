@@ -1,6 +1,7 @@
 use Rattle.std.proofs.Common.{length, refl, ap, arith}
 use Rattle.std.specs.Option.{option_copied}
 use Rattle.prolly_range.specs.KeySet.KeySet.{Range}
+use Rattle.prolly_c.proofs.Behind.{still_behind}
 use Rattle.prolly_c.proofs.Entries.{end_drop}
 use Rattle.prolly_c.proofs.FileFrames.{frame_length}
 use Rattle.prolly_c.proofs.ShownPairs.{has_start, next_shown, shown_all, shown_none}
@@ -20,6 +21,7 @@ loop-chunk-init c =
       few = omega arith;
       fewer = omega arith;
       room = refl;
+      behind = refl;
       indexed = λ version root pairs p. shown_none version root c.args.from.now
           (option_copied c.args.to) c.args.proof.now end.front c.split_at.result.1.now pairs
           c.args.out.now p c.split_at.ensures.back end.is;
@@ -41,6 +43,9 @@ loop-chunk-preserved c = record {
   few = c.in_ok-written.ensures.few;
   fewer = c.in_ok-written.ensures.fewer;
   room = omega (arith, c.in_ok-written.ensures.room);
+  behind = still_behind c.loop-chunk.written.runs c.in_ok-written.written.runs c.args.out.now
+      c.loop-chunk.out c.add_shown.new.out c.in_ok-written.ensures.more
+      c.loop-chunk.invariant.behind c.in_ok-written.ensures.behind;
   indexed = λ version root pairs p.
       let w = c.loop-chunk.invariant.indexed version root pairs p in
       let next = next_shown version c.args.from.now (option_copied c.args.to) c.args.proof.now

@@ -1,4 +1,4 @@
-use Rattle.std.proofs.Common.{◌≡◌, ◌-◌, ◌≤◌, ℕ, List, length}
+use Rattle.std.proofs.Common.{◌≡◌, ◌-◌, ◌≤◌, ℕ, List, length, drop}
 use Rattle.std.specs.Option.{option_copied}
 use Rattle.prolly_entry.specs.Pair.{Pair}
 use Rattle.prolly_entry.specs.declared.version.Version.{Version}
@@ -14,6 +14,7 @@ invariant-loop-chunk l = record {
   few : l.written.pairs ≤ length l.proof - length l.rest;
   fewer : l.written.runs ≤ l.written.pairs;
   room : length l.out ≡ length l.fn.out;
+  behind : drop l.written.runs l.out ≡ drop l.written.runs l.fn.out;
   indexed : (version : Version) (root : List ℕ) (pairs : List Pair) →
       (p : IsSetProof version root (Range l.from (option_copied l.fn.to)) l.proof pairs) →
       IsShownTo version l.from (option_copied l.fn.to) l.proof l.rest pairs l.out l.written

@@ -1,4 +1,5 @@
 use Rattle.std.proofs.Common.{refl, arith}
+use Rattle.prolly_c.proofs.Behind.{still_behind}
 use Rattle.prolly_c.proofs.Writing.{adds_all, adds_none, adds_run}
 use Rattle.prolly_c.proofs.writer.add_leaf.Goals as goal
 
@@ -8,6 +9,8 @@ loop-left-init c = record {
   few = omega (arith, c.requires.few);
   fewer = c.requires.fewer;
   room = omega arith;
+  more = omega arith;
+  behind = refl;
   adds = λ done pairs tail end spells long wrote. adds_none c.args.bytes.now c.args.out.now
       c.args.written pairs tail done c.args.entries.now end spells wrote;
 }
@@ -26,6 +29,10 @@ loop-left-preserved c =
       few = omega (arith, c.add_run-here.ensures.pairs);
       fewer = omega (arith, c.add_run-here.ensures.pairs, c.add_run-here.ensures.runs);
       room = omega (arith, c.add_run-here.ensures.room);
+      more = omega (arith, c.add_run-here.ensures.runs);
+      behind = still_behind c.loop-left.here.runs c.add_run-here.result.runs c.args.out.now
+          c.loop-left.out c.add_run-here.new.out (omega (arith, c.add_run-here.ensures.runs))
+          c.loop-left.invariant.behind c.add_run-here.ensures.behind;
       adds = λ done pairs tail end spells long wrote.
           let a = c.loop-left.invariant.adds done pairs tail end spells long wrote in
           adds_run c.args.bytes.now c.loop-left.out c.add_run-here.new.out c.loop-left.here

@@ -1,4 +1,4 @@
-use Rattle.std.proofs.Common.{◌≡◌, ℕ, ◌-◌, ◌≤◌, List, length}
+use Rattle.std.proofs.Common.{◌≡◌, ℕ, ◌-◌, ◌≤◌, List, length, drop}
 use Rattle.prolly_entry.specs.Pair.{Pair}
 use Rattle.prolly_c.proofs.Writing.{Adds}
 use Rattle.prolly_c.specs.Runs.{IsEnd}
@@ -11,6 +11,8 @@ invariant-loop-left l = record {
   few : l.here.pairs ≤ length l.bytes - length l.left;
   fewer : l.here.runs ≤ l.here.pairs;
   room : length l.out ≡ length l.fn.out;
+  more : l.fn.written.runs ≤ l.here.runs;
+  behind : drop l.here.runs l.out ≡ drop l.here.runs l.fn.out;
   adds : (done pairs : List Pair) (tail : List ℕ) → IsEnd l.bytes l.fn.entries →
       Spells l.fn.entries pairs tail → length tail ≡ l.behind →
       Wrote l.bytes l.fn.out l.fn.written done →

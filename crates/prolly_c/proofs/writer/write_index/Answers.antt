@@ -1,4 +1,5 @@
 use Rattle.std.proofs.Common.{length, refl, ap, arith}
+use Rattle.prolly_c.proofs.Behind.{still_behind}
 use Rattle.prolly_c.proofs.Entries.{end_drop}
 use Rattle.prolly_c.proofs.FileFrames.{frame_length, has_chunks, has_header, next_chunk}
 use Rattle.prolly_c.proofs.FileFrames.{written_all, written_none}
@@ -16,6 +17,7 @@ loop-chunk-init c =
       few = omega arith;
       fewer = omega arith;
       room = refl;
+      behind = refl;
       indexed = λ content f. written_none c.args.bytes.now end.front c.split_at.result.1.now content
           c.args.out.now (has_chunks c.files_are_accepted.ensures.accepted c.args.bytes.now content
           (omega arith) f) c.split_at.ensures.back end.is;
@@ -36,6 +38,9 @@ loop-chunk-preserved c = record {
   few = c.in_ok-written.ensures.few;
   fewer = c.in_ok-written.ensures.fewer;
   room = omega (arith, c.in_ok-written.ensures.room);
+  behind = still_behind c.loop-chunk.written.runs c.in_ok-written.written.runs c.args.out.now
+      c.loop-chunk.out c.add_chunk.new.out c.in_ok-written.ensures.more
+      c.loop-chunk.invariant.behind c.in_ok-written.ensures.behind;
   indexed = λ content f.
       let w = c.loop-chunk.invariant.indexed content f in
       let next = next_chunk c.args.bytes.now c.loop-chunk.rest.now c.in-Some.chunk.now

@@ -1,4 +1,4 @@
-use Rattle.std.proofs.Common.{◌≡◌, ◌-◌, ◌≤◌, length}
+use Rattle.std.proofs.Common.{◌≡◌, ◌-◌, ◌≤◌, length, drop}
 use Rattle.prolly_check.specs.Content.{Content}
 use Rattle.prolly_check.specs.Verdict.{IsFileOf}
 use Rattle.prolly_c.proofs.FileFrames.{IsWrittenTo}
@@ -10,6 +10,7 @@ invariant-loop-chunk l = record {
   few : l.written.pairs ≤ length l.bytes - length l.rest;
   fewer : l.written.runs ≤ l.written.pairs;
   room : length l.out ≡ length l.fn.out;
+  behind : drop l.written.runs l.out ≡ drop l.written.runs l.fn.out;
   indexed : (content : Content) → IsFileOf l.bytes content →
       IsWrittenTo l.bytes l.rest content l.out l.written;
 }
