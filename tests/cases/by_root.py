@@ -352,7 +352,7 @@ def give_other_bytes(place, version):
 
 def reads_in(calls):
     """How many of the calls are reads."""
-    return sum(call.startswith("read ") for call in calls)
+    return sum(call.startswith("pread ") for call in calls)
 
 
 def are_of_another_level(place):
@@ -461,7 +461,7 @@ def print_as_they_go(place):
     place.answers(answer, (4, None, refusal(another(last))[2]))
     if place.path("out").read_bytes() != lines_of(pairs[:-1]):
         place.note("other lines were printed")
-    reads = [number for number, call in enumerate(calls) if call.startswith("read ")]
+    reads = [number for number, call in enumerate(calls) if call.startswith("pread ")]
     if "write 1" not in calls or calls.index("write 1") > reads[-1]:
         place.note("nothing was printed before the last read")
 
@@ -546,7 +546,7 @@ def placed_tests():
     for version in (1, 2):
         yield f"other bytes from read to read, format {version}", partial(give_other_bytes, version=version)
         yield f"are interrupted, format {version}", partial(are_interrupted, version=version)
-        for call in ("read", "lseek"):
+        for call in ("pread",):
             yield f"each {call} fails, format {version}", partial(fail_to_read, call=call, version=version)
         for bits in (0, 2, 12):
             yield f"read little, --bits {bits}, format {version}", partial(read_little, bits=bits, version=version)

@@ -157,6 +157,15 @@ def is_printed_to_itself(place, words):
     place.holds(in_prl=TREE, old_prl=OLD_TREE)
 
 
+def is_printed_to_its_input(place, words):
+    """A standard output that is the file behind standard input."""
+    place.lay(table=TEXT)
+    with open(place.path("table"), "rb") as stdin, open(place.path("table"), "ab") as stdout:
+        answer = place.run(*words, stdin=stdin, stdout=stdout)
+    place.answers(answer, refusal(b"OUT is also an input: standard input"))
+    place.holds(table=TEXT)
+
+
 def keys_are_printed_to(place, words):
     """A standard output that is the file of the keys which are sought."""
     keys = b"61\n62\n"
@@ -185,6 +194,22 @@ def is_standard_output(place, words, mode):
         answer = place.run(*words, stdin=A, stdout=stdout)
     place.answers(answer, refusal(b"OUT is also standard output"))
     place.holds(log=BEFORE if mode == "ab" else b"", **files)
+
+
+def is_the_pipe_of_input(place, words, name):
+    """OUT is the pipe behind standard input, whether that is read or not."""
+    files = laid(place)
+    place.answers(place.run(*words, stdin=A), refusal(b"OUT is also an input: " + name))
+    place.holds(**files)
+
+
+def is_a_named_pipe(place, words):
+    """OUT is a pipe of the file system that is to be read: it is not opened, which would wait for a writer."""
+    files = laid(place)
+    os.mkfifo(place.path("pipe"))
+    place.answers(place.run(*words), refusal(b"OUT is also an input: pipe"))
+    place.path("pipe").unlink()
+    place.holds(**files)
 
 
 def is_read_twice(place, words, name):
@@ -413,12 +438,20 @@ def is_on_the_disk(place, command, flags):
 
 
 def is_not_on_the_disk(place):
-    """What is no file can't be brought to the disk. What is always replaced can't be a device in the first place."""
+    """What is no file can't be brought to the disk, which is told before anything is written. What is always replaced can't be a
+    device in the first place."""
     laid(place)
     for command, (words, given, _, _) in WRITERS.items():
         there = in_place_of_out(words, "/dev/null")
         wanted = refusal(b"cannot replace /dev/null") if command == "pack --sort" else NO_WRITE
-        place.answers(place.run(*there, "--sync", stdin=given or b""), wanted)
+        place.lay(given=given or b"")
+        with open(place.path("given"), "rb") as stdin:
+            answer, calls = place.meddled(*there, "--sync", stdin=stdin)
+        place.answers(answer, wanted)
+        if any(line.startswith("write ") and line != "write 2" for line in calls):
+            place.note(f"{command}: calls {calls}")
+    for words in (["dump", "abc.prl", "/dev/stdout"], ["prove", "abc.prl", "62", "/dev/stdout"]):
+        place.answers(place.run(*words, "--sync"), NO_WRITE)
 
 
 # ---- runs that are ended, and limits
@@ -634,12 +667,24 @@ def inputs_written():
         pairs_of_files = [[file, "old.prl"], ["old.prl", file]]
         for words in (["dump", *flags, file, out], ["prove", *flags, file, "61", out], *(["diff", *flags, *two, "--out", out] for two in pairs_of_files)):
             yield f"OUT is a chunk file: {' '.join(words)}", partial(is_a_chunk_file, words=words, name=file.encode())
-    for words in (["dump", "in.prl"], ["diff", "in.prl", "old.prl"], ["diff", "old.prl", "in.prl"], ["dump", "--hex", "in.prl"], ["diff", "--stat", "in.prl", "old.prl"]):
+    readers = [["dump", "in.prl"], ["diff", "in.prl", "old.prl"], ["diff", "old.prl", "in.prl"], ["dump", "--hex", "in.prl"], ["diff", "--stat", "in.prl", "old.prl"]]
+    readers += [[*words, *flags, "in.prl", "61"] for words in (["get"], ["get", "--raw"]) for flags in ([], ROOT)]
+    readers += [["scan", "in.prl", "61", "1"], ["scan", *ROOT, "in.prl", "61", "1"], ["nth", "in.prl", "0"], ["nth", "--format", "2", *ROOT, "in.prl", "0"]]
+    readers += [["check", "in.prl"], ["check", *ROOT, "in.prl"], ["check", "--quiet", "old.prl", "in.prl"], ["root", "in.prl"], ["stat", "in.prl"], ["explain", "in.prl"], ["verify", root, "61", "in.prl"]]
+    readers += [["build", "new.prl", "/dev/null", "in.prl"], ["apply", *ROOT, "in.prl", "new.prl"], ["apply", "--root", OLD_ROOT, "old.prl", "new.prl", "in.prl"]]
+    for words in readers:
         yield f"standard output is a chunk file: {' '.join(words)}", partial(is_printed_to_itself, words=words)
+    for words in (["pack", "new"], ["pack", "--sort", "new"], ["scratch"], ["scratch", "--out", "new"], ["explain", "--lines"], ["verify", root, "61"]):
+        yield f"standard output is standard input: {' '.join(words)}", partial(is_printed_to_its_input, words=words)
     for words in (["get", "--keys", "keys", "in.prl"], ["get", "--keys", "keys", *ROOT, "in.prl"], ["verify", "--keys", "keys", ROOT[1], "proof"]):
         yield f"standard output is the file of keys: {' '.join(words)}", partial(keys_are_printed_to, words=words)
     for words in (["pack", "in.rec"], ["pack", "--sort", "in.rec"], ["scratch", "--out", "in.rec"], ["scratch", "--atomic", "--out", "in.rec"], ["build", "in.rec", "/dev/stdin"]):
         yield f"OUT is standard input: {' '.join(words)}", partial(is_standard_input, words=words)
+    for words in (["build", stdin], ["build", stdin, "a.rec"], *(in_place_of_out(words, stdin) for words, *_ in WRITERS.values())):
+        yield f"OUT is the pipe of standard input: {' '.join(words)}", partial(is_the_pipe_of_input, words=words, name=b"standard input")
+    yield "OUT is a pipe that is an input", partial(is_the_pipe_of_input, words=["build", stdin, stdin], name=b"/dev/stdin")
+    for words in (["build", "pipe", "a.rec", "pipe"], ["apply", "--root", OLD_ROOT, "old.prl", "pipe", "pipe"], ["dump", "pipe", "pipe"], ["diff", "old.prl", "pipe", "--out", "pipe"], ["prove", "pipe", "61", "pipe"], ["prove", "--keys", "pipe", "abc.prl", "pipe"]):
+        yield f"OUT is a pipe of the file system that is an input: {' '.join(words)}", partial(is_a_named_pipe, words=words)
     for words in (["build", "/dev/stdout", "a.rec"], ["pack", "--atomic", "log"], *(in_place_of_out(words, "log") for words, *_ in WRITERS.values())):
         for mode in ("wb", "ab"):
             yield f"OUT is standard output, {mode}: {' '.join(words)}", partial(is_standard_output, words=words, mode=mode)

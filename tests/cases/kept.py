@@ -19,7 +19,7 @@ from cases.files import FAULTS, WRITERS, in_place_of_out, laid, refusal
 from cases.scratch import ABC
 from oracle.proof import proof_of
 from oracle.trees import chunk_file, records, report, root_text, tree
-from support.place import NOBODY, Place, compiled
+from support.place import NOBODY, Place, compiled, wait_until_there
 
 TABLE = b"apple\t3\npear\t5\n"
 """A table of text, which is no chunk file, no proof and no record file."""
@@ -87,15 +87,35 @@ def is_written_over(place, command, before):
 
 
 def is_not_readable(place):
-    """OUT can't be read, so that no one can tell what it holds."""
+    """OUT can't be read, so that no one can tell what it holds. With --force it is written over, or replaced."""
     files = laid(place)
-    place.lay(out=chunk_file(ABC[:1], 0))
-    place.path("out").chmod(0o222)
     words, _, made, answer = WRITERS["build"]
-    place.answers(place.run(*words, is_nobody=True), refusal(b"cannot open out"))
-    place.answers(place.run(*words, "--force", is_nobody=True), answer)
-    place.path("out").chmod(0o666)
-    place.holds(out=made, **files)
+    for flags in ([], ["--atomic"]):
+        place.lay(out=chunk_file(ABC[:1], 0))
+        place.path("out").chmod(0o222)
+        place.answers(place.run(*words, *flags, is_nobody=True), refusal(b"cannot open out"))
+        place.answers(place.run(*words, *flags, "--force", is_nobody=True), answer)
+        place.path("out").chmod(0o666)
+        place.holds(out=made, **files)
+
+
+def is_a_block_device(place):
+    """A block device is a file of another kind, and is not opened. With --force it is, and this number is no driver's."""
+    files = laid(place)
+    node = place.path("out")
+    try:
+        os.mknod(node, stat.S_IFBLK | 0o600, os.makedev(120, 0))
+    except PermissionError:
+        return
+    for command, (words, given, _, _) in WRITERS.items():
+        given = given or b""
+        place.answers(place.run(*words, stdin=given), refusal(f"OUT is not a {KINDS[command]}: out".encode()))
+        line = b"cannot replace out" if command == "pack --sort" else b"cannot open out"
+        place.answers(place.run(*words, "--force", stdin=given), refusal(line))
+        place.answers(place.run(*words, "--force", "--atomic", stdin=given), refusal(b"cannot replace out"))
+    place.answers(place.run("build", "out"), refusal(b"OUT is not a chunk file: out"))
+    node.unlink()
+    place.holds(**files)
 
 
 def has_no_files(place):
@@ -224,7 +244,10 @@ def is_busy(place):
             pipe.write(records(ABC[:1]))
             wait_until_read(pipe)
             for flags in ([], ["--atomic"]):
-                place.answers(place.run("build", *flags, name, "a.rec"), refusal(b"another run writes OUT: " + name.encode()))
+                line = refusal(b"another run writes OUT: " + name.encode())
+                place.answers(place.run("build", *flags, name, "a.rec"), line)
+                answer, _ = place.meddled("build", *flags, name, "a.rec", meddle={"network": "1"})
+                place.answers(answer, line)
         out, err = process.communicate(timeout=60)
         place.answers((process.returncode, out, err), (0, report(ABC, 0), b""))
     place.holds(a_rec=records(ABC), wait=None, out=chunk_file(ABC, 0), new=chunk_file(ABC, 0))
@@ -233,12 +256,12 @@ def is_busy(place):
 # ---- another file in OUT's place
 
 
-def is_lost(place):
+def is_lost(place, flags):
     """A build in place says that another file took OUT's name, or that OUT was taken away, and touches nothing that came."""
     place.lay(a_rec=records(ABC), out=OLD_FILES["chunk file"])
     os.mkfifo(place.path("wait"))
     for name, comes, line in (("out", True, b"another run writes OUT: out"), ("new", True, b"another run writes OUT: new"), ("gone", False, b"cannot open gone")):
-        process = place.start(["build", "--bits", "0", name, "a.rec", "wait"])
+        process = place.start(["build", *flags, "--bits", "0", name, "a.rec", "wait"])
         with open(place.path("wait"), "wb", buffering=0) as pipe:
             pipe.write(records(ABC[:1]))
             wait_until_read(pipe)
@@ -248,6 +271,30 @@ def is_lost(place):
         out, err = process.communicate(timeout=60)
         place.answers((process.returncode, out, err), refusal(line))
     place.holds(a_rec=records(ABC), wait=None, out=PICTURE, new=PICTURE)
+
+
+def is_swapped(place, command, call, is_device):
+    """Another file comes in OUT's place before a call, each call in turn, from the first look at OUT to the end of the run: it is
+    never written, and where OUT was a file, the run is refused."""
+    words, given, _, _ = WRITERS[command]
+    for number in range(1, 100):
+        files = {**laid(place), "given": given or b"", "comes": PICTURE}
+        place.lay(given=given or b"", comes=PICTURE)
+        if is_device:
+            place.path("out").symlink_to("/dev/null")
+        else:
+            place.lay(out=OLD_FILES[KINDS[command]])
+        meddle = {"before": f"{call} {number} ln -fT comes out"}
+        with open(place.path("given"), "rb") as stdin:
+            answer, calls = place.meddled(*words, stdin=stdin, meddle=meddle)
+        is_met = sum(line.split()[0] == call for line in calls) >= number
+        if is_met and not is_device and answer[0] != 5:
+            place.note(f"{call} {number}: {answer}")
+        place.holds(**files, out=PICTURE if is_met else None)
+        place.path("out").unlink()
+        if not is_met or place.differences:
+            return
+    place.note("too many calls")
 
 
 def is_not_its_own(place):
@@ -261,6 +308,22 @@ def is_not_its_own(place):
         out, err = process.communicate(b"\0", timeout=60)
         place.answers((process.returncode, out, err), (3, b"", b"prolly: file 0: record 0 is cut\n"))
         place.holds(**({"out": OLD_FILES["chunk file"]} if comes else {}))
+
+
+def is_not_its_own_beside(place, words, given, comes, answer):
+    """What came in the place of the file beside OUT is neither renamed nor taken away, after a whole run and after a fault."""
+    files = {"out": OLD_FILES["record file"]}
+    place.lay(**files)
+    process = place.start(words, stdin=subprocess.PIPE)
+    beside = place.path("out.0.tmp")
+    wait_until_there(beside)
+    beside.unlink()
+    if comes:
+        beside.write_bytes(PICTURE)
+        files["out_0_tmp"] = PICTURE
+    out, err = process.communicate(given, timeout=60)
+    place.answers((process.returncode, out, err), answer)
+    place.holds(**files)
 
 
 def is_a_newcomer(place, before, force):
@@ -324,6 +387,57 @@ def has_its_owner(place, command):
         place.holds(out=made, **files)
 
 
+def has_the_rights_of_now(place, before, mode):
+    """What replaces OUT has the rights that OUT has by then: also those of an OUT that came meanwhile, and of one that is gone."""
+    if before is not None:
+        place.lay(out=before)
+        place.path("out").chmod(0o644)
+    process = place.start(["pack", "out"], stdin=subprocess.PIPE)
+    wait_until_there(place.path("out.0.tmp"))
+    if mode is None:
+        place.path("out").unlink()
+    else:
+        place.lay(out=OLD_FILES["record file"])
+        place.path("out").chmod(mode)
+    out, err = process.communicate(lines(ABC), timeout=60)
+    place.answers((process.returncode, out, err), (0, b"3\n", b""))
+    found = stat.S_IMODE(place.path("out").stat().st_mode)
+    if found != (0o644 if mode is None else mode):
+        place.note(f"mode {found:o}")
+    place.holds(out=records(ABC))
+
+
+def keeps_its_attributes(place):
+    """A build in place keeps OUT's extended attributes, as its ACL is one; a file that replaces OUT has none of them."""
+    words, _, made, wanted = WRITERS["build"]
+    files = laid(place)
+    for flags, kept in (([], ["user.kept"]), (["--atomic"], [])):
+        place.lay(out=OLD_FILES["chunk file"])
+        try:
+            os.setxattr(place.path("out"), "user.kept", b"1")
+        except OSError:
+            return
+        place.answers(place.run(*words, *flags), wanted)
+        found = [name for name in os.listxattr(place.path("out")) if name.startswith("user.")]
+        if found != kept:
+            place.note(f"attributes {found}")
+        place.holds(out=made, **files)
+
+
+def has_its_rights_already(place):
+    """What the file beside OUT has already of OUT's owner, group and mode is not given to it: some file systems refuse that."""
+    words, given, made, wanted = WRITERS["pack"]
+    for call in ("fchmod", "fchown"):
+        place.lay(out=OLD_FILES["record file"], given=given)
+        place.path("out").chmod(0o600)
+        with open(place.path("given"), "rb") as stdin:
+            answer, calls = place.meddled(*words, stdin=stdin, meddle={"fail": f"{call} 1 {errno.EPERM}"})
+        place.answers(answer, wanted)
+        if any(line.startswith(call) for line in calls):
+            place.note(f"calls {calls}")
+    place.holds(out=made, given=None)
+
+
 def keeps_its_group(place):
     """Where the owner of OUT can't be given to the file that replaces it, that has OUT's group."""
     if os.geteuid() != 0:
@@ -339,14 +453,6 @@ def keeps_its_group(place):
     if (found.st_uid, found.st_gid, stat.S_IMODE(found.st_mode)) != (0, 1235, 0o640):
         place.note(f"OUT is that of {found.st_uid}, {found.st_gid}, with {stat.S_IMODE(found.st_mode):o}")
     place.holds(out=made, **files)
-
-
-def wait_until_there(path):
-    """Waits, a minute at most, until a file is there."""
-    for _ in range(60_000):
-        if path.exists():
-            return
-        time.sleep(0.001)
 
 
 def wait_until_read(pipe):
@@ -374,12 +480,12 @@ def is_whole_without_its_line(place, command):
 
 
 def is_whole_without_its_folder(place, command):
-    """The folder can't be brought to the disk after the rename: OUT was replaced by then."""
+    """The folder can't be brought to the disk after the rename: OUT was replaced by then. Before it come the file and its rights."""
     words, given, made, _ = WRITERS[command]
     files = laid(place)
     place.lay(out=OLD_FILES[KINDS[command]], given=given or b"")
     with open(place.path("given"), "rb") as stdin:
-        answer, _ = place.meddled(*words, "--atomic", "--sync", stdin=stdin, meddle={"fail": f"fsync 2 {errno.EIO}"})
+        answer, _ = place.meddled(*words, "--atomic", "--sync", stdin=stdin, meddle={"fail": f"fsync 3 {errno.EIO}"})
     place.answers(answer, (5, b"", b"prolly: write failed\n"))
     place.holds(out=made, given=None, **files)
 
@@ -475,7 +581,22 @@ def tests():
     for before in (None, OLD_FILES["record file"]):
         for force in (False, True):
             yield f"a newcomer, {'forced' if force else 'not forced'}", partial(is_a_newcomer, before=before, force=force)
-    for test in (is_not_readable, has_no_files, names_all_files, stays_before_the_header, is_made_early, is_busy, is_lost, is_not_its_own, is_behind_a_link, is_a_new_folder, keeps_its_group):
+    for call in ("open", "statx", "flock", "ftruncate"):
+        for command in IN_PLACE:
+            yield f"{command}: OUT is swapped before {call}", partial(is_swapped, command=command, call=call, is_device=False)
+        for command in KINDS:
+            yield f"{command}: a device is swapped before {call}", partial(is_swapped, command=command, call=call, is_device=True)
+    bad = (3, b"", b"prolly: line 0: not a pair in hexadecimal\n")
+    for words in (["pack", "out"], ["pack", "--sync", "out"], ["pack", "--sort", "out"]):
+        for comes in (False, True):
+            for given, answer in ((lines(ABC), refusal(b"cannot replace out")), (b"6\n", bad)):
+                name = f"{' '.join(words)}: the file beside is {'another' if comes else 'gone'}, status {answer[0]}"
+                yield name, partial(is_not_its_own_beside, words=words, given=given, comes=comes, answer=answer)
+    for before, mode in ((OLD_FILES["record file"], 0o600), (None, 0o600), (OLD_FILES["record file"], None)):
+        yield f"the rights of now, {'new' if before is None else 'old'}, {mode}", partial(has_the_rights_of_now, before=before, mode=mode)
+    for flags in ([], ["--sync"]):
+        yield f"is lost {' '.join(flags)}", partial(is_lost, flags=flags)
+    for test in (is_not_readable, is_a_block_device, has_no_files, names_all_files, stays_before_the_header, is_made_early, is_busy, is_not_its_own, is_behind_a_link, is_a_new_folder, keeps_its_group, has_its_rights_already, keeps_its_attributes):
         yield test.__name__.replace("_", " "), test
     yield from failing()
 

@@ -6,6 +6,7 @@ import os
 import random
 import resource
 import signal
+import subprocess
 import tempfile
 import time
 from dataclasses import dataclass
@@ -22,7 +23,7 @@ from oracle.sorting import BYTE_ORDER_MARK, LONGEST_LINE, latest, packed_in_orde
 from oracle.trees import REMOVED, record, records
 from support.harness import FOLDER, Case
 from support.measured import Measured
-from support.place import Place, compiled
+from support.place import Place, compiled, wait_until_there
 
 SEED, TABLES = 20_261_128, 300
 """The random tables of the gate."""
@@ -479,6 +480,32 @@ def passes_names(place):
     place.holds(out=None, out_0_tmp=b"0", out_1_tmp=b"1")
 
 
+def is_moved_away(place):
+    """OUT is moved away while a sort of several runs goes on: further files are made all the same, and the last one becomes OUT."""
+    place.lay(out=BEFORE)
+    process = place.start([*WORDS, "--text", "out"], stdin=subprocess.PIPE)
+    wait_until_there(place.path("out.0.tmp"))
+    place.path("out").rename(place.path("old"))
+    count, digest = several_runs().told()
+    out, err = process.communicate(b"".join(several_runs().lines()), timeout=300)
+    place.answers((process.returncode, out, err), (0, b"%d\n" % count, b""))
+    if sha256_of(place.path("out")) != digest:
+        place.note("OUT is not what the lines come to")
+    place.holds(out=None, old=BEFORE)
+
+
+def is_not_its_own(place):
+    """The file of a run whose name another file took: that stays, also where the run is to be read back."""
+    place.lay(out=BEFORE)
+    process = place.start([*WORDS, "--text", "out"], stdin=subprocess.PIPE)
+    wait_until_there(place.path("out.0.tmp"))
+    place.path("out.0.tmp").unlink()
+    place.path("out.0.tmp").write_bytes(b"another's")
+    out, err = process.communicate(b"".join(several_runs().lines()), timeout=300)
+    place.answers((process.returncode, out, err), (5, b"", b"prolly: the file of a run can't be read\n"))
+    place.holds(out=BEFORE, out_0_tmp=b"another's")
+
+
 # ---- devices at fault
 
 
@@ -665,7 +692,7 @@ def tests():
     yield "lines in order make one file, as `pack` makes it", is_as_packed
     for name, changed, wanted, *flags in bad_lines():
         yield f"several runs: {name}", partial(is_refused, changed=changed, wanted=wanted, flags=flags)
-    for test in (is_unique, is_the_input, is_a_pipe, needs_its_folder, passes_names):
+    for test in (is_unique, is_the_input, is_a_pipe, needs_its_folder, passes_names, is_moved_away, is_not_its_own):
         yield test.__name__.replace("_", " "), test
     for most in (0, 1_000_000, 8_000_000):
         yield f"no file of more than {most} bytes", partial(is_full, most=most)

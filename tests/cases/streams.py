@@ -1,5 +1,6 @@
 """Standard streams that are closed, that are one with OUT, that are a terminal, or that do not wait."""
 
+import errno
 import os
 import pty
 import subprocess
@@ -54,6 +55,16 @@ def has_closed_streams(place):
     done = subprocess.run(["bash", "-c", f"'{place.program}' pack in.txt <&-"], cwd=place.folder, capture_output=True, check=False)
     place.answers((done.returncode, done.stdout, done.stderr), refusal(b"file 0: read failed"))
     place.holds(in_prl=chunk_file(ABC, 0), **files)
+
+
+def has_no_root_folder(place):
+    """The same where the root folder, which is to hold the numbers of closed streams, can't be opened, here for the first one."""
+    place.lay(given=lines(ABC), in_prl=chunk_file(ABC, 0))
+    for closed, words, line in (("<&-", "pack in.prl --force", b"file 0: read failed"), (">&-", "pack out < given", b"write failed"), (">&-", "get in.prl 61", b"write failed")):
+        program = f"LD_PRELOAD='{place.meddler}' FAIL='open 1 {errno.EACCES}' '{place.program}'"
+        done = subprocess.run(["bash", "-c", f"{program} {words} {closed}"], cwd=place.folder, capture_output=True, check=False)
+        place.answers((done.returncode, done.stdout, done.stderr), refusal(line))
+    place.holds(given=lines(ABC), in_prl=chunk_file(ABC, 0), out=records(ABC))
 
 
 def tells_a_terminal(place):
@@ -117,7 +128,7 @@ def waits_for_output(place):
 def all_runs(program, folder):
     """Runs all tests, each in a folder of its own, and gives for each its name and its differences."""
     meddler = compiled("meddle", folder)
-    for test in (is_the_same_pipe, has_closed_streams, tells_a_terminal, waits_for_input, waits_for_output):
+    for test in (is_the_same_pipe, has_closed_streams, has_no_root_folder, tells_a_terminal, waits_for_input, waits_for_output):
         with tempfile.TemporaryDirectory() as above:
             inside = Path(above) / "place"
             inside.mkdir()

@@ -4,6 +4,9 @@
  *                           a number, and is not made. Calls are counted by their name.
  * INTERRUPT=N               every read and write but each Nth fails with EINTR, and is not made; N is at least 2.
  * SHORT=N                   each read and write moves at most N bytes.
+ * NETWORK=1                 locks are as over NFS: a shared one wants a file that may be read, and one that keeps all others
+ *                           out a file that may be written.
+ * BEFORE="CALL NUMBER LINE" before the call of this name whose number, counted from 1, is NUMBER the shell does this line.
  * TURN="NUMBER PLACE BITS"  of what the read whose number, counted from 1, is NUMBER gives, the byte at PLACE, if there is
  *                           one, is another: these bits of it, a number, are turned.
  * TELL=DESCRIPTOR           each call that is made or made to fail is written there, a line: its name, and for one on a
@@ -22,21 +25,27 @@
 #include <sys/stat.h>
 #include <sys/syscall.h>
 #include <sys/types.h>
+#include <sys/wait.h>
 #include <unistd.h>
 
-static char call_to_fail[16];
-static long number_to_fail, error_to_give, interrupt_but, number_to_turn, place_to_turn, bits_to_turn;
+static char call_to_fail[16], call_to_await[16];
+static const char *line_to_do;
+static long number_to_await, number_to_fail, error_to_give, interrupt_but, number_to_turn, place_to_turn, bits_to_turn;
 static size_t most_to_move;
-static int told = -1;
-static atomic_long count_of_named, count_of_moves, count_of_reads;
+static int told = -1, is_network;
+static atomic_long count_of_named, count_of_awaited, count_of_moves, count_of_reads;
 
 __attribute__((constructor)) static void begin(void) {
     const char *fail = getenv("FAIL"), *interrupt = getenv("INTERRUPT"), *tell = getenv("TELL"), *turn = getenv("TURN");
-    const char *most = getenv("SHORT");
+    const char *most = getenv("SHORT"), *before = getenv("BEFORE");
+    int at = 0;
     if (fail && sscanf(fail, "%15s %ld %ld", call_to_fail, &number_to_fail, &error_to_give) != 3) abort();
+    is_network = getenv("NETWORK") != NULL;
     if (interrupt) interrupt_but = atol(interrupt);
     if (most) most_to_move = atol(most);
     if (tell) told = atoi(tell);
+    if (before && sscanf(before, "%15s %ld %n", call_to_await, &number_to_await, &at) != 2) abort();
+    line_to_do = before + at;
     if (turn && sscanf(turn, "%ld %ld %ld", &number_to_turn, &place_to_turn, &bits_to_turn) != 3) abort();
 }
 
@@ -46,8 +55,22 @@ static void tell(const char *name, int descriptor) {
     if (told >= 0 && syscall(SYS_write, told, line, length) != length) abort();
 }
 
+/* Does the line that is to be done before this call, if there is one. */
+static void await(const char *name) {
+    if (strcmp(name, call_to_await) != 0 || atomic_fetch_add(&count_of_awaited, 1) + 1 != number_to_await) return;
+    pid_t shell = fork();
+    if (shell == 0) {
+        unsetenv("LD_PRELOAD");
+        execl("/bin/sh", "sh", "-c", line_to_do, (char *)NULL);
+        _exit(127);
+    }
+    int status;
+    if (waitpid(shell, &status, 0) != shell || status != 0) abort();
+}
+
 /* Whether the call is to fail; errno says how. */
 static int is_to_fail(const char *name, int descriptor) {
+    await(name);
     tell(name, descriptor);
     if (strcmp(name, call_to_fail) != 0 || atomic_fetch_add(&count_of_named, 1) + 1 != number_to_fail) return 0;
     errno = error_to_give;
@@ -62,12 +85,15 @@ static int is_interrupted(void) {
 
 static size_t moved(size_t count) { return most_to_move != 0 && count > most_to_move ? most_to_move : count; }
 
-ssize_t read(int descriptor, void *bytes, size_t count) {
-    if (is_interrupted() || is_to_fail("read", descriptor)) return -1;
-    ssize_t given = syscall(SYS_read, descriptor, bytes, moved(count));
+static ssize_t turned(void *bytes, ssize_t given) {
     if (atomic_fetch_add(&count_of_reads, 1) + 1 == number_to_turn && place_to_turn < given)
         ((unsigned char *)bytes)[place_to_turn] ^= bits_to_turn;
     return given;
+}
+
+ssize_t read(int descriptor, void *bytes, size_t count) {
+    if (is_interrupted() || is_to_fail("read", descriptor)) return -1;
+    return turned(bytes, syscall(SYS_read, descriptor, bytes, moved(count)));
 }
 
 ssize_t write(int descriptor, const void *bytes, size_t count) {
@@ -102,8 +128,18 @@ int ftruncate(int descriptor, off_t length) {
     return is_to_fail("ftruncate", descriptor) ? -1 : (int)syscall(SYS_ftruncate, descriptor, length);
 }
 
+/* Whether the file is open for what its lock wants over NFS; errno says that it is not. */
+static int may_lock(int descriptor, int operation) {
+    int mode = fcntl(descriptor, F_GETFL) & O_ACCMODE;
+    int lacks = operation & LOCK_SH ? O_WRONLY : operation & LOCK_EX ? O_RDONLY : -1;
+    if (!is_network || mode != lacks) return 1;
+    errno = EBADF;
+    return 0;
+}
+
 int flock(int descriptor, int operation) {
-    return is_to_fail("flock", descriptor) ? -1 : (int)syscall(SYS_flock, descriptor, operation);
+    if (is_to_fail("flock", descriptor) || !may_lock(descriptor, operation)) return -1;
+    return (int)syscall(SYS_flock, descriptor, operation);
 }
 
 int statx(int folder, const char *restrict path, int flags, unsigned mask, struct statx *restrict found) {
@@ -115,7 +151,8 @@ ssize_t readlink(const char *restrict path, char *restrict named, size_t size) {
 }
 
 ssize_t pread(int descriptor, void *bytes, size_t count, off_t offset) {
-    return is_to_fail("pread", descriptor) ? -1 : syscall(SYS_pread64, descriptor, bytes, count, offset);
+    if (is_interrupted() || is_to_fail("pread", descriptor)) return -1;
+    return turned(bytes, syscall(SYS_pread64, descriptor, bytes, moved(count), offset));
 }
 
 ssize_t pread64(int descriptor, void *bytes, size_t count, off_t offset) { return pread(descriptor, bytes, count, offset); }

@@ -4,6 +4,7 @@ import os
 import resource
 import shutil
 import subprocess
+import time
 from concurrent.futures import ThreadPoolExecutor
 from pathlib import Path
 
@@ -108,6 +109,14 @@ def prepare(limits, is_nobody):
         os.setgroups([])
         os.setgid(NOBODY)
         os.setuid(NOBODY)
+
+
+def wait_until_there(path):
+    """Waits, a minute at most, until a file is there."""
+    for _ in range(60_000):
+        if path.exists():
+            return
+        time.sleep(0.001)
 
 
 def compiled(name, folder):

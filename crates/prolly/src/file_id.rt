@@ -18,9 +18,11 @@ pub enum Found {
     Nothing,
     /// A regular file, which keeps what is written to it, of so many bytes.
     Regular(FileId, u64),
+    /// A block device of this number, which keeps what is written to it, too.
+    Block(u64),
     /// A pipe.
     Pipe(FileId),
-    /// A terminal, a device, a socket or a folder.
+    /// A terminal, another device, a socket or a folder.
     Other,
 }
 
@@ -33,6 +35,8 @@ impl Found {
         };
         if metadata.is_file() {
             Found::Regular(id, metadata.len())
+        } else if metadata.file_type().is_block_device() {
+            Found::Block(metadata.rdev())
         } else if metadata.file_type().is_fifo() {
             Found::Pipe(id)
         } else {
@@ -50,10 +54,25 @@ impl Found {
         }
     }
 
-    /// Whether both are one regular file.
+    /// Whether a name that the file was given is its own still: no other file has come in its place,
+    /// and no link.
+    pub fn has_name(self, rt: &HostRuntime, name: &str) -> bool {
+        match fs::symlink_metadata(rt, name) {
+            Ok(metadata) => Found::of(&metadata).is_same_file(self),
+            Err(_) => false,
+        }
+    }
+
+    /// Whether it keeps what is written to it.
+    pub fn keeps_bytes(self) -> bool {
+        matches!(self, Found::Regular(..) | Found::Block(_))
+    }
+
+    /// Whether both are one regular file, or one block device.
     pub fn is_same_file(self, other: Found) -> bool {
         match (self, other) {
             (Found::Regular(one, _), Found::Regular(another, _)) => one == another,
+            (Found::Block(one), Found::Block(another)) => one == another,
             _ => false,
         }
     }
@@ -66,7 +85,21 @@ impl Found {
         }
     }
 
-    /// How many bytes it has, where it is a file that keeps them.
+    /// Whether what is written to the one may be read from the other: both are one file, or one pipe.
+    pub fn is_same(self, other: Found) -> bool {
+        self.is_same_file(other) || self.is_same_pipe(other)
+    }
+
+    /// Whether it is what a look at its name has found before. Terminals and devices that keep nothing
+    /// are not told apart.
+    pub fn is_still(self, before: Found) -> bool {
+        match (self, before) {
+            (Found::Other, Found::Other) => true,
+            _ => self.is_same(before),
+        }
+    }
+
+    /// How many bytes it has, where it is a regular file.
     pub fn size(self) -> Option<u64> {
         match self {
             Found::Regular(_, size) => Some(size),

@@ -1,9 +1,10 @@
 //! The files that a command reads.
 use crate::file_id::Found;
 use crate::refusal::Refusal;
+use crate::streams::Stream;
 use prolly_answer::{Fault, INPUT_LIMIT, NameFault, Notation, read_keys};
 use prolly_check::CheckFault;
-use prolly_file::{Blocks, FromRead, FromSeek};
+use prolly_file::{Blocks, FromFile, FromRead};
 use prolly_root::FileChunks;
 use std::fs;
 use std::fs::File;
@@ -17,13 +18,15 @@ pub struct Input {
 }
 
 impl Input {
-    /// The file of this name.
+    /// The file of this name, where it is not the one to which is printed.
     pub fn open(rt: &HostRuntime, name: &str) -> Result<Input, Refusal> {
         Input::open_beside(rt, name, Found::Nothing)
     }
 
-    /// The file of this name, where it is not the one that is to be written.
+    /// The file of this name, where it is neither the one that is to be written nor the one to which
+    /// is printed.
     pub fn open_beside(rt: &HostRuntime, name: &str, output: Found) -> Result<Input, Refusal> {
+        refuse_output_pipe(rt, name, output)?;
         let Ok(file) = fs::open(rt, name) else {
             return Err(Refusal::of_name(rt, NameFault::CannotOpen, name));
         };
@@ -31,7 +34,7 @@ impl Input {
             return Err(Refusal::of_name(rt, NameFault::CannotOpen, name));
         };
         let found = Found::of(&metadata);
-        if found.is_same_file(output) {
+        if found.is_same(output) || found.is_same(Stream::Output.seen(rt)) {
             return Err(Refusal::of_name(rt, NameFault::IsInput, name));
         }
         Ok(Input { file, found })
@@ -47,9 +50,14 @@ impl Input {
         self.found.size()
     }
 
-    /// The file, of which any part can be read.
+    /// The file as the system gives it.
     pub fn into_file(self) -> File {
         self.file
+    }
+
+    /// The file, of which any part can be read.
+    pub fn into_device(self) -> FromFile {
+        FromFile::new(self.file)
     }
 
     /// The file, to be read from its beginning on.
@@ -82,6 +90,28 @@ impl Input {
 /// The chunk file of this name, to be read whole.
 pub fn chunk_file(rt: &HostRuntime, name: &str) -> Result<FromRead<File>, Refusal> {
     Input::open(rt, name)?.into_chunk_file(rt)
+}
+
+/// Refuses a standard input that is the file to which is printed.
+pub fn refuse_printed_input(rt: &HostRuntime) -> Result<(), Refusal> {
+    if Stream::Input.seen(rt).is_same(Stream::Output.seen(rt)) {
+        return Err(Refusal::of_name(rt, NameFault::IsInput, Stream::Input.name()));
+    }
+    Ok(())
+}
+
+/// Refuses the name of the pipe that is to be written, without opening it: that would wait until
+/// someone writes it.
+fn refuse_output_pipe(rt: &HostRuntime, name: &str, output: Found) -> Result<(), Refusal> {
+    if let Found::Pipe(_) = output {
+        match Found::at(rt, name) {
+            Ok(found) if found.is_same_pipe(output) => {
+                return Err(Refusal::of_name(rt, NameFault::IsInput, name));
+            }
+            _ => {}
+        }
+    }
+    Ok(())
 }
 
 /// Refuses a pipe that is one of the inputs that were named before: it gives its bytes once.
@@ -117,10 +147,10 @@ pub fn listed_keys(
 }
 
 /// The chunks of a file of which any part is read, by blocks where the parts are short.
-pub type Chunks = FileChunks<Blocks<FromSeek<File>>>;
+pub type Chunks = FileChunks<Blocks<FromFile>>;
 
 /// The chunks of this file.
 pub fn chunks_of(rt: &HostRuntime, input: Input) -> Result<Chunks, Refusal> {
-    let blocks = Blocks::new(rt.alloc(), FromSeek::new(input.into_file()))?;
+    let blocks = Blocks::new(rt.alloc(), input.into_device())?;
     Ok(FileChunks::new(blocks))
 }

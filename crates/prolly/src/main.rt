@@ -2,11 +2,13 @@
 //! the answer. What it says, and the status with which it ends, are those of `prolly_answer`.
 #![tactic(auto)]
 
+mod access;
 mod commands;
 mod file_id;
 mod hashing;
 mod inputs;
 mod links;
+mod named_file;
 mod output;
 mod output_kind;
 mod patient;

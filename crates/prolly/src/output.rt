@@ -1,12 +1,15 @@
 //! The file that a command writes.
+use crate::access::Access;
 use crate::file_id::Found;
-use crate::place::Place;
+use crate::named_file::NamedFile;
+use crate::place::{Place, Replaced, Replacement};
 use crate::refusal::Refusal;
 use crate::target::Target;
 use prolly_answer::{Answer, Fault, NameFault};
 use std::alloc::AllocError;
 use std::fs::File;
 use std::io::{ErrorKind, Seek, SeekFrom, Write};
+use std::path::PathBuf;
 use std::{fs, io};
 
 /// How many bytes are written to an output at once.
@@ -30,8 +33,9 @@ pub struct Output<'a> {
 
 impl<'a> Output<'a> {
     /// Opens or makes the output of a command that prints nothing where it is done. An output that
-    /// is the file behind standard output is refused.
+    /// is the file behind standard output, or the pipe behind standard input, is refused.
     pub fn open(rt: &HostRuntime, target: Target<'a>) -> Result<Output<'a>, Refusal> {
+        target.refuse_input_pipe(rt)?;
         target.refuse_printed(rt)?;
         let (file, place) = target.made(rt)?;
         Ok(Output {
@@ -47,6 +51,30 @@ impl<'a> Output<'a> {
     pub fn open_beside_answer(rt: &HostRuntime, target: Target<'a>) -> Result<Output<'a>, Refusal> {
         target.refuse_printed_pipe(rt)?;
         Output::open(rt, target)
+    }
+
+    /// Makes a further file beside the output. What that is, and what standard output is, was looked at
+    /// for the first one.
+    pub fn beside(
+        rt: &HostRuntime,
+        target: Target<'a>,
+        replaced: Replaced,
+    ) -> Result<Output<'a>, Refusal> {
+        let (file, place) = target.make_beside(rt, replaced, NameFault::CannotReplace)?;
+        Ok(Output {
+            target,
+            file,
+            place,
+            has_begun: false,
+        })
+    }
+
+    /// The file that this one is to replace. One that is written in its place replaces none.
+    pub fn replaced(&self, rt: &HostRuntime) -> Result<Replaced, Refusal> {
+        match &self.place {
+            Place::Beside(replacement) => Ok(replacement.replaced.copied(rt)?),
+            _ => Err(self.target.refused(rt, NameFault::CannotReplace)),
+        }
     }
 
     /// Keeps the file where the command's answer is that it is done. Else nothing stays beside the
@@ -69,6 +97,16 @@ impl<'a> Output<'a> {
         }
     }
 
+    /// The name of the file, and what that is, where it stands beside the output.
+    pub fn named_beside(&self, rt: &HostRuntime) -> Result<Option<NamedFile>, Refusal> {
+        let Some(name) = self.name_beside() else {
+            return Ok(None);
+        };
+        let found = self.told(rt, self.found())?;
+        let name = PathBuf::from(format!(in rt.alloc(); "{name}")?);
+        Ok(Some(NamedFile { name, found }))
+    }
+
     /// The name of the file, where that stands beside the output.
     pub fn name_beside(&self) -> Option<&str> {
         match &self.place {
@@ -77,11 +115,15 @@ impl<'a> Output<'a> {
         }
     }
 
-    /// The file, where it stands beside the output, to be read from its start. It loses its name.
+    /// The file, where it stands beside the output, to be read from its start. It loses its name, which
+    /// has to be its own still.
     pub fn read_back(&self, rt: &HostRuntime) -> Option<File> {
         let name = self.name_beside()?;
         let file = self.file.try_clone().ok()?;
         (&file).seek(SeekFrom::Start(0)).ok()?;
+        if !self.is_own(rt, name) {
+            return None;
+        }
         fs::remove_file(rt, name).ok()?;
         Some(file)
     }
@@ -100,47 +142,71 @@ impl<'a> Output<'a> {
 
     /// Puts the file in its place. Gives its folder, where that is to be brought to the disk.
     fn put(&self, rt: &HostRuntime) -> Result<Option<File>, Refusal> {
+        self.told(rt, self.bring_to_disk())?;
+        self.refuse_lost(rt)?;
         let Place::Beside(replacement) = &self.place else {
-            let folder = self.told(rt, self.on_disk(rt, self.target.name()))?;
-            self.refuse_lost(rt)?;
-            return Ok(folder);
+            return self.told(rt, self.folder_of(rt, self.target.name()));
         };
-        if let Some(access) = replacement.old {
-            if access.give_to(&self.file).is_err() {
-                return Err(self.target.refused(rt, NameFault::CannotReplace));
-            }
-        }
-        let folder = self.told(rt, self.on_disk(rt, replacement.beside.as_str()))?;
-        self.target
-            .refuse_newcomer(rt, replacement.target.as_str())?;
-        if fs::rename(rt, &replacement.beside, &replacement.target).is_err() {
-            return Err(self.target.refused(rt, NameFault::CannotReplace));
-        }
+        let folder = self.told(rt, self.folder_of(rt, replacement.beside.as_str()))?;
+        self.replace(rt, replacement)?;
         Ok(folder)
     }
 
-    /// Refuses where the file was written in its place, and the name does not lead to it any more.
-    fn refuse_lost(&self, rt: &HostRuntime) -> Result<(), Refusal> {
-        if let Place::Stream = self.place {
-            return Ok(());
+    /// Gives the file the name of the one that it is to replace, and its rights as they are by now.
+    /// Where that is gone, they are those that it had.
+    fn replace(&self, rt: &HostRuntime, replacement: &Replacement) -> Result<(), Refusal> {
+        let replaced = &replacement.replaced;
+        let now = self.target.refuse_newcomer(rt, replaced.path.as_str())?;
+        if let Some(access) = now.or(replaced.access) {
+            self.give(rt, access)?;
         }
-        let metadata = self.told(rt, self.metadata())?;
-        self.target.refuse_other_file(rt, metadata)
+        self.refuse_lost(rt)?;
+        if fs::rename(rt, &replacement.beside, &replaced.path).is_err() {
+            return Err(self.target.refused(rt, NameFault::CannotReplace));
+        }
+        Ok(())
+    }
+
+    /// Gives the file these rights, on the disk, too, where that was asked for.
+    fn give(&self, rt: &HostRuntime, access: Access) -> Result<(), Refusal> {
+        match access.give_to(&self.file) {
+            Ok(()) => self.told(rt, self.bring_to_disk()),
+            Err(_) => Err(self.target.refused(rt, NameFault::CannotReplace)),
+        }
+    }
+
+    /// Refuses where the file has lost its name: that of the output, or the one beside it.
+    fn refuse_lost(&self, rt: &HostRuntime) -> Result<(), Refusal> {
+        match &self.place {
+            Place::Stream => Ok(()),
+            Place::Beside(replacement) if self.is_own(rt, replacement.beside.as_str()) => Ok(()),
+            Place::Beside(_) => Err(self.target.refused(rt, NameFault::CannotReplace)),
+            _ => {
+                let found = self.told(rt, self.found())?;
+                self.target.refuse_other_file(rt, found)
+            }
+        }
     }
 
     /// What the file is.
-    fn metadata(&self) -> Result<Found, Lost> {
+    fn found(&self) -> Result<Found, Lost> {
         Ok(Found::of(&self.file.metadata()?))
     }
 
-    /// Brings the file of this name to the disk where that was asked for, and opens its folder,
-    /// which has its name. The folder is opened before the file takes its place, since after that
-    /// nothing may want memory.
-    fn on_disk(&self, rt: &HostRuntime, name: &str) -> Result<Option<File>, Lost> {
+    /// Brings the file to the disk where that was asked for.
+    fn bring_to_disk(&self) -> Result<(), Lost> {
+        if self.target.mode().sync {
+            synced(&self.file)?;
+        }
+        Ok(())
+    }
+
+    /// Opens the folder which has this name, where the file was to be brought to the disk. That is
+    /// done before the file takes its place, since after that nothing may want memory.
+    fn folder_of(&self, rt: &HostRuntime, name: &str) -> Result<Option<File>, Lost> {
         if !self.target.mode().sync {
             return Ok(None);
         }
-        synced(&self.file)?;
         let path = fs::canonicalize(rt, name)?;
         match path.parent() {
             Some(folder) => Ok(Some(fs::open(rt, folder)?)),
@@ -148,11 +214,11 @@ impl<'a> Output<'a> {
         }
     }
 
-    /// Removes the file where it stands beside its name, or is new and has no byte. Where that
-    /// fails, it stays: the fault that led here is the one to tell.
-    fn remove(&self, rt: &HostRuntime) {
+    /// Removes the file where it stands beside its name, or is new and has no byte, and the name is
+    /// its own still. Where that fails, it stays: the fault that led here is the one to tell.
+    pub fn remove(&self, rt: &HostRuntime) {
         match &self.place {
-            Place::Beside(replacement) => {
+            Place::Beside(replacement) if self.is_own(rt, replacement.beside.as_str()) => {
                 let _ = fs::remove_file(rt, &replacement.beside);
             }
             Place::New(path) if !self.has_begun && self.is_own(rt, path.as_str()) => {
@@ -162,11 +228,11 @@ impl<'a> Output<'a> {
         }
     }
 
-    /// Whether the name leads to the file, and not to one that came in its place meanwhile.
+    /// Whether the name is the file's own still.
     fn is_own(&self, rt: &HostRuntime, name: &str) -> bool {
-        match (Found::at(rt, name), self.metadata()) {
-            (Ok(found), Ok(file)) => found.is_same_file(file),
-            _ => false,
+        match self.found() {
+            Ok(found) => found.has_name(rt, name),
+            Err(_) => false,
         }
     }
 

@@ -1,14 +1,15 @@
 //! Where the file of an output stands, and how it is opened or made.
+use crate::access::Access;
 use crate::file_id::Found;
 use crate::links::path_behind;
 use crate::output_kind::OutputKind;
 use crate::refusal::Refusal;
 use crate::target::Target;
-use prolly_answer::NameFault;
-use std::fs::{File, Metadata, OpenOptions, Permissions, TryLockError};
-use std::io;
+use prolly_answer::{Fault, NameFault};
+use std::alloc::AllocError;
+use std::fs::{File, OpenOptions, TryLockError};
 use std::io::ErrorKind;
-use std::os::unix::fs::{MetadataExt, OpenOptionsExt, PermissionsExt, fchown};
+use std::os::unix::fs::OpenOptionsExt;
 use std::path::PathBuf;
 
 /// How many names are tried for a file beside the output. One that is taken is that of a run that
@@ -21,9 +22,6 @@ const OWN_MODE: u32 = 0o600;
 
 /// The mode of a new output, of which the system takes what the user's mask takes.
 const NEW_MODE: u32 = 0o666;
-
-/// The bits of a mode that are for the members of the file's group.
-const GROUP_BITS: u32 = 0o070;
 
 /// Where the file of an output stands.
 #[derive(Drop)]
@@ -38,53 +36,29 @@ pub enum Place {
     Beside(Replacement),
 }
 
-/// The name of a file, that of the file which it is to replace, and who may use that, where it is
-/// there.
+/// A file that is to be replaced: its path, and who may use it, where it is there.
+#[derive(Drop)]
+pub struct Replaced {
+    pub path: PathBuf,
+    pub access: Option<Access>,
+}
+
+impl Replaced {
+    /// The same once more.
+    pub fn copied(&self, rt: &HostRuntime) -> Result<Replaced, AllocError> {
+        let path = self.path.as_str();
+        Ok(Replaced {
+            path: PathBuf::from(format!(in rt.alloc(); "{path}")?),
+            access: self.access,
+        })
+    }
+}
+
+/// The name of a file, and the file which that is to replace.
 #[derive(Drop)]
 pub struct Replacement {
     pub beside: PathBuf,
-    pub target: PathBuf,
-    pub old: Option<Access>,
-}
-
-/// Whose a file is, and who may use it.
-#[derive(Clone, Copy)]
-pub struct Access {
-    owner: u32,
-    group: u32,
-    mode: u32,
-}
-
-impl Access {
-    /// What this metadata says of it.
-    fn of(metadata: &Metadata) -> Access {
-        Access {
-            owner: metadata.uid(),
-            group: metadata.gid(),
-            mode: metadata.mode(),
-        }
-    }
-
-    /// Gives a file the same owner, group and mode. Only the superuser may give a file away, so another
-    /// user's file keeps its group alone. Where that can't be given either, no group may use the file.
-    pub fn give_to(self, file: &File) -> io::Result<()> {
-        let mode = if self.give_owner(file)? {
-            self.mode
-        } else {
-            self.mode & !GROUP_BITS
-        };
-        file.set_permissions(Permissions::from_mode(mode))
-    }
-
-    /// Gives the file the owner and the group, or else the group. Answers whether it has the group.
-    fn give_owner(self, file: &File) -> io::Result<bool> {
-        let now = Access::of(&file.metadata()?);
-        Ok(
-            (now.owner == self.owner && now.group == self.group)
-                || fchown(file, Some(self.owner), Some(self.group)).is_ok()
-                || fchown(file, None, Some(self.group)).is_ok(),
-        )
-    }
+    pub replaced: Replaced,
 }
 
 impl Target<'_> {
@@ -98,9 +72,30 @@ impl Target<'_> {
             Found::Nothing if is_whole => self.beside(rt, NameFault::CannotOpen),
             Found::Nothing => self.new_file(rt),
             Found::Regular(..) if is_whole => self.beside_old(rt),
-            Found::Regular(..) => Ok((self.locked(rt, self.opened(rt)?)?, Place::Old)),
+            Found::Regular(..) => Ok((self.locked(rt, self.opened_as_found(rt)?)?, Place::Old)),
             _ if is_atomic => Err(self.refused(rt, NameFault::CannotReplace)),
-            _ => Ok((self.opened(rt)?, Place::Stream)),
+            _ => Ok((self.stream(rt)?, Place::Stream)),
+        }
+    }
+
+    /// The pipe or the device that was found, to be written as it is. One that can't be brought to the
+    /// disk, where that is asked for, is refused before anything is written.
+    fn stream(self, rt: &HostRuntime) -> Result<File, Refusal> {
+        let file = self.opened_as_found(rt)?;
+        if self.mode().sync && file.sync_all().is_err() {
+            return Err(Refusal::of_fault(rt, Fault::Write));
+        }
+        Ok(file)
+    }
+
+    /// The file that was found, to be written as it is. One that came in its place meanwhile may be
+    /// another run's, or an input, and is refused.
+    fn opened_as_found(self, rt: &HostRuntime) -> Result<File, Refusal> {
+        let file = self.opened(rt)?;
+        match file.metadata() {
+            Ok(metadata) if Found::of(&metadata).is_still(self.found()) => Ok(file),
+            Ok(_) => Err(self.refused(rt, NameFault::IsBusy)),
+            Err(_) => Err(self.refused(rt, NameFault::CannotOpen)),
         }
     }
 
@@ -109,6 +104,19 @@ impl Target<'_> {
         match OpenOptions::new().write(true).open(rt, self.name()) {
             Ok(file) => Ok(file),
             Err(_) => Err(self.refused(rt, NameFault::CannotOpen)),
+        }
+    }
+
+    /// The same, to be read, too, where that is allowed: a network's file system gives a shared lock
+    /// only then.
+    fn opened_to_look(self, rt: &HostRuntime) -> Result<File, Refusal> {
+        match OpenOptions::new()
+            .read(true)
+            .write(true)
+            .open(rt, self.name())
+        {
+            Ok(file) => Ok(file),
+            Err(_) => self.opened(rt),
         }
     }
 
@@ -134,15 +142,15 @@ impl Target<'_> {
     /// it is, and that no other run writes. The lock ends here: a file that is written beside the
     /// output does not hinder another one.
     fn beside_old(self, rt: &HostRuntime) -> Result<(File, Place), Refusal> {
-        let old = self.opened(rt)?;
+        let old = self.opened_to_look(rt)?;
         if let Err(TryLockError::WouldBlock) = old.try_lock_shared() {
             return Err(self.refused(rt, NameFault::IsBusy));
         }
         match old.metadata() {
             Ok(metadata) => {
                 let path = path_behind(rt, self.name(), self.found())?;
-                let access = Access::of(&metadata);
-                self.make_beside(rt, path, Some(access), NameFault::CannotReplace)
+                let access = Some(Access::of(&metadata));
+                self.make_beside(rt, Replaced { path, access }, NameFault::CannotReplace)
             }
             Err(_) => Err(self.refused(rt, NameFault::CannotOpen)),
         }
@@ -152,29 +160,28 @@ impl Target<'_> {
     /// fault.
     fn beside(self, rt: &HostRuntime, fault: NameFault) -> Result<(File, Place), Refusal> {
         let path = path_behind(rt, self.name(), self.found())?;
-        self.make_beside(rt, path, None, fault)
+        self.make_beside(rt, Replaced { path, access: None }, fault)
     }
 
-    /// Makes a file of a new name beside this path: `.0.tmp` behind its name, or the next number
-    /// that is free.
-    fn make_beside(
+    /// Makes a file of a new name beside the one that is to be replaced: `.0.tmp` behind its name, or
+    /// the next number that is free. Where it can't be made, it is this fault.
+    pub fn make_beside(
         self,
         rt: &HostRuntime,
-        target: PathBuf,
-        old: Option<Access>,
+        replaced: Replaced,
         fault: NameFault,
     ) -> Result<(File, Place), Refusal> {
-        let mode = if old.is_some() { OWN_MODE } else { NEW_MODE };
+        let mode = if replaced.access.is_some() {
+            OWN_MODE
+        } else {
+            NEW_MODE
+        };
         for number in 0..MOST_NAMES {
-            let name = target.as_str();
+            let name = replaced.path.as_str();
             let beside = PathBuf::from(format!(in rt.alloc(); "{name}.{number}.tmp")?);
             match new_options(mode).open(rt, &beside) {
                 Ok(file) => {
-                    let replacement = Replacement {
-                        beside,
-                        target,
-                        old,
-                    };
+                    let replacement = Replacement { beside, replaced };
                     return Ok((file, Place::Beside(replacement)));
                 }
                 Err(error) if error.kind() == ErrorKind::AlreadyExists => {}

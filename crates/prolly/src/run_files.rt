@@ -1,15 +1,14 @@
 //! The files in which sorted runs wait: beside the output, as long as they have a name.
 ghost use Rattle.std.specs.Prelude.{false};
 
+use crate::named_file::NamedFile;
 use crate::output::{OUTPUT_BYTES, Output};
+use crate::place::Replaced;
 use crate::refusal::Refusal;
 use crate::target::Target;
 use prolly_file::{Buffered, FromRead, ToWrite};
 use prolly_sort::{RunStore, StoreFault};
-use std::alloc::AllocError;
-use std::fs;
 use std::fs::File;
-use std::path::PathBuf;
 
 /// A run that is written. The last one takes the output's place.
 pub type RunFile<'a> = Buffered<ToWrite<Output<'a>>>;
@@ -20,61 +19,84 @@ pub type RunFile<'a> = Buffered<ToWrite<Output<'a>>>;
 pub struct RunFiles<'a> {
     rt: &'a HostRuntime,
     target: Target<'a>,
+    /// What each of the files may replace.
+    replaced: Replaced,
     /// The first file, until it is asked for.
     first: Option<Output<'a>>,
-    /// The names of the files that were made. Those that were read back have lost theirs.
-    names: Vec<PathBuf>,
+    /// The files that were made, but for those that were read back: they have lost their names.
+    named: Vec<NamedFile>,
 }
 
 impl<'a> RunFiles<'a> {
     /// Files beside this output. The first one is made here, so that an output that can't be made is
     /// told before the input is read.
     pub fn new(rt: &'a HostRuntime, target: Target<'a>) -> Result<RunFiles<'a>, Refusal> {
+        let first = Output::open_beside_answer(rt, target)?;
+        match RunFiles::beside(rt, target, &first) {
+            Ok(mut files) => {
+                files.first = Some(first);
+                Ok(files)
+            }
+            Err(refusal) => {
+                first.remove(rt);
+                Err(refusal)
+            }
+        }
+    }
+
+    /// Files beside this one, which was the first.
+    fn beside(
+        rt: &'a HostRuntime,
+        target: Target<'a>,
+        first: &Output<'_>,
+    ) -> Result<RunFiles<'a>, Refusal> {
         let mut files = RunFiles {
             rt,
             target,
+            replaced: first.replaced(rt)?,
             first: None,
-            names: Vec::new(rt.alloc()),
+            named: Vec::new(rt.alloc()),
         };
-        let first = files.made()?;
-        files.first = Some(first);
+        files.note(first)?;
         Ok(files)
     }
 
-    /// Makes a file, and notes its name.
+    /// Makes a further file, and notes its name.
     fn made(&mut self) -> Result<Output<'a>, Refusal> {
-        let output = Output::open_beside_answer(self.rt, self.target)?;
-        if let Some(name) = output.name_beside() {
-            if let Err(AllocError) = self.note(name) {
-                let _ = fs::remove_file(self.rt, name);
-                return Err(Refusal::Memory);
-            }
+        let replaced = self.replaced.copied(self.rt)?;
+        let output = Output::beside(self.rt, self.target, replaced)?;
+        if let Err(refusal) = self.note(&output) {
+            output.remove(self.rt);
+            return Err(refusal);
         }
         Ok(output)
     }
 
-    /// Notes a name.
-    fn note(&mut self, name: &str) -> Result<(), AllocError> {
-        let name = PathBuf::from(format!(in self.rt.alloc(); "{name}")?);
-        match self.names.push(name) {
-            Ok(()) => Ok(()),
-            Err(_) => Err(AllocError),
+    /// Notes the name of a file.
+    fn note(&mut self, output: &Output<'_>) -> Result<(), Refusal> {
+        if let Some(file) = output.named_beside(self.rt)? {
+            self.named.push(file)?;
         }
+        Ok(())
     }
 
     /// Removes all files that have a name but the one of this name.
     pub fn remove_but(&self, kept: Option<&str>) {
-        for name in &self.names {
-            if Some(name.as_str()) != kept {
-                let _ = fs::remove_file(self.rt, name);
+        for file in &self.named {
+            if Some(file.name.as_str()) != kept {
+                file.remove(self.rt);
             }
         }
     }
 
     /// Forgets the name of a file that has lost it.
     fn forget(&mut self, lost: &str) {
-        if let Some(at) = self.names.iter().position(|name| name.as_str() == lost) {
-            drop(self.names.swap_remove(at));
+        if let Some(at) = self
+            .named
+            .iter()
+            .position(|file| file.name.as_str() == lost)
+        {
+            drop(self.named.swap_remove(at));
         }
     }
 }

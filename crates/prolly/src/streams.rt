@@ -3,7 +3,7 @@ use crate::file_id::Found;
 use crate::refusal::Refusal;
 use prolly_answer::NameFault;
 use std::fs;
-use std::fs::File;
+use std::fs::{File, OpenOptions};
 use std::os::fd::AsRawFd;
 
 /// The folder in which the system has a name for each open file of a process.
@@ -26,6 +26,14 @@ impl Stream {
             Err(_) => {}
         }
         Err(Refusal::of_name(rt, NameFault::CannotOpen, self.name()))
+    }
+
+    /// What the stream is, where the system tells that, for a command that prints only its answer.
+    pub fn seen(self, rt: &HostRuntime) -> Found {
+        match Found::at(rt, self.path()) {
+            Ok(found) => found,
+            Err(_) => Found::Nothing,
+        }
     }
 
     /// The name by which a fault tells of it.
@@ -55,8 +63,8 @@ pub struct ClosedStreams {
 }
 
 impl ClosedStreams {
-    /// Takes the numbers. What stands behind them is a folder: it can be neither read nor written,
-    /// as the closed stream could not.
+    /// Takes the numbers. What stands behind them is a folder, or else a device that is opened in the
+    /// wrong way: it can't be used, as the closed stream could not.
     pub fn hold(rt: &HostRuntime) -> ClosedStreams {
         ClosedStreams {
             _held: [held(rt), held(rt), held(rt)],
@@ -66,8 +74,23 @@ impl ClosedStreams {
 
 /// The next number that is free, where it is that of a standard stream.
 fn held(rt: &HostRuntime) -> Option<File> {
-    match fs::open(rt, "/") {
-        Ok(folder) if folder.as_raw_fd() <= 2 => Some(folder),
-        _ => None,
+    let file = match fs::open(rt, "/") {
+        Ok(folder) => folder,
+        Err(_) => unusable_device(rt)?,
+    };
+    if file.as_raw_fd() <= 2 {
+        Some(file)
+    } else {
+        None
     }
+}
+
+/// The device that has nothing, opened to be written where it is standard input, and else to be read.
+fn unusable_device(rt: &HostRuntime) -> Option<File> {
+    let device = fs::open(rt, "/dev/null").ok()?;
+    if device.as_raw_fd() != 0 {
+        return Some(device);
+    }
+    drop(device);
+    OpenOptions::new().write(true).open(rt, "/dev/null").ok()
 }

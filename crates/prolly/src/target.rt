@@ -1,9 +1,12 @@
 //! The output that the words name, before it is opened.
+use crate::access::Access;
 use crate::file_id::Found;
 use crate::output_kind::{LookFault, OutputKind};
 use crate::refusal::Refusal;
 use crate::streams::Stream;
 use prolly_answer::{Fault, NameFault, WriteMode};
+use std::fs;
+use std::io::ErrorKind;
 
 /// The output that the words name: what is there now, what is to be written, and how.
 #[derive(Clone, Copy)]
@@ -56,11 +59,21 @@ impl<'a> Target<'a> {
 
     /// Refuses an output that is the file behind standard input.
     pub fn refuse_input(self, rt: &HostRuntime) -> Result<(), Refusal> {
-        if !matches!(self.found, Found::Regular(..)) {
-            return Ok(());
+        if self.found.keeps_bytes() {
+            if self.found.is_same_file(Stream::Input.found(rt)?) {
+                return Err(Refusal::of_name(rt, NameFault::IsInput, Stream::Input.name()));
+            }
         }
-        if self.found.is_same_file(Stream::Input.found(rt)?) {
-            return Err(Refusal::of_name(rt, NameFault::IsInput, Stream::Input.name()));
+        Ok(())
+    }
+
+    /// Refuses an output that is the pipe behind standard input, also of a command that does not read
+    /// that: what is written would wait there for whoever reads it.
+    pub fn refuse_input_pipe(self, rt: &HostRuntime) -> Result<(), Refusal> {
+        if matches!(self.found, Found::Pipe(_)) {
+            if self.found.is_same_pipe(Stream::Input.found(rt)?) {
+                return Err(Refusal::of_name(rt, NameFault::IsInput, Stream::Input.name()));
+            }
         }
         Ok(())
     }
@@ -77,7 +90,7 @@ impl<'a> Target<'a> {
 
     /// Refuses an output that is the file behind standard output.
     pub fn refuse_printed(self, rt: &HostRuntime) -> Result<(), Refusal> {
-        if matches!(self.found, Found::Regular(..)) {
+        if self.found.keeps_bytes() {
             if self.found.is_same_file(Stream::Output.found(rt)?) {
                 return Err(Refusal::of_fault(rt, Fault::OutIsStdout));
             }
@@ -101,10 +114,14 @@ impl<'a> Target<'a> {
         self.refuse_other_kind_at(rt, self.name)
     }
 
-    /// The same of the file of this path, to which the name leads.
+    /// The same of the file of this path, to which the name leads. A block device is of no kind: its
+    /// first bytes do not tell what stands behind them.
     fn refuse_other_kind_at(self, rt: &HostRuntime, path: &str) -> Result<(), Refusal> {
         if !self.is_kept() {
             return Ok(());
+        }
+        if let Found::Block(_) = self.found {
+            return Err(self.refused(rt, self.kind.fault()));
         }
         match self.kind.is_that_of(rt, path) {
             Ok(true) => Ok(()),
@@ -115,22 +132,25 @@ impl<'a> Target<'a> {
     }
 
     /// Refuses to replace what stands by now at this path, to which the name led, where that may not be
-    /// written over. Whether it is another file than before can't be told: a new file may have the
-    /// number of one that is gone.
-    pub fn refuse_newcomer(self, rt: &HostRuntime, path: &str) -> Result<(), Refusal> {
-        let Ok(found) = Found::at(rt, path) else {
-            return Err(self.refused(rt, NameFault::CannotOpen));
+    /// written over; else gives its rights, where it is there. Whether it is another file than before
+    /// can't be told: a new file may have the number of one that is gone.
+    pub fn refuse_newcomer(self, rt: &HostRuntime, path: &str) -> Result<Option<Access>, Refusal> {
+        let metadata = match fs::metadata(rt, path) {
+            Ok(metadata) => metadata,
+            Err(error) if error.kind() == ErrorKind::NotFound => return Ok(None),
+            Err(_) => return Err(self.refused(rt, NameFault::CannotOpen)),
         };
         let now = Target {
             name: self.name,
-            found,
+            found: Found::of(&metadata),
             kind: self.kind,
             mode: self.mode,
         };
-        match found {
-            Found::Nothing | Found::Regular(..) => now.refuse_other_kind_at(rt, path),
-            _ => Err(self.refused(rt, NameFault::CannotReplace)),
+        if !metadata.is_file() {
+            return Err(self.refused(rt, NameFault::CannotReplace));
         }
+        now.refuse_other_kind_at(rt, path)?;
+        Ok(Some(Access::of(&metadata)))
     }
 
     /// Refuses where the name does not lead to this file any more: it was taken away, or another run
@@ -146,7 +166,7 @@ impl<'a> Target<'a> {
 
     /// Whether the output holds something that is to be kept.
     fn is_kept(&self) -> bool {
-        matches!(self.found, Found::Regular(_, 1..)) && !self.mode.force
+        matches!(self.found, Found::Regular(_, 1..) | Found::Block(_)) && !self.mode.force
     }
 
     /// The fault of the output's name.

@@ -8,7 +8,7 @@ use crate::target::Target;
 use prolly_answer::{Answer, Fault, WriteMode, agreed_header, answer_apply};
 use prolly_build::{ApplyFault, CHANGES_LIMIT, Config, ConfigFault, Report, apply_changes};
 use prolly_entry::{Ref, Version};
-use prolly_file::{Blocks, Buffered, FromRead, FromSeek, Header, Sink, ToWrite};
+use prolly_file::{Blocks, Buffered, FromFile, FromRead, Header, Sink, ToWrite};
 use prolly_link::RunFault;
 use prolly_progress::{CountedSink, CountedSource, CountingGate, Counts, watched};
 use prolly_root::{FileChunks, RootFault, named_header};
@@ -59,7 +59,7 @@ pub fn apply_to<T: Wait + Threads + Clock + Sync>(
         target.refuse_full(rt)?;
     }
     let old = Input::open_beside(rt, old, target.found())?;
-    let old = Blocks::new(rt.alloc(), FromSeek::new(old.into_file()))?;
+    let old = Blocks::new(rt.alloc(), old.into_device())?;
     let counts = Counts::new();
     let (mut sources, _) = sources_of(rt, changes, target.found(), &counts)?;
     let mut output = Output::open_beside_answer(rt, target)?;
@@ -83,7 +83,7 @@ fn apply_or_refuse<T: Wait + Threads + Clock + Sync>(
     rt: &HostRuntime,
     threads: &T,
     run: Run<'_>,
-    mut old: Blocks<FromSeek<File>>,
+    mut old: Blocks<FromFile>,
     sources: &mut Vec<CountedSource<'_, FromRead<File>>>,
     output: &mut Output<'_>,
 ) -> Result<Answer, AllocError> {
@@ -100,7 +100,7 @@ fn apply_into<T: Wait + Threads + Clock + Sync>(
     threads: &T,
     run: Run<'_>,
     header: Header,
-    old: Blocks<FromSeek<File>>,
+    old: Blocks<FromFile>,
     sources: &mut Vec<CountedSource<'_, FromRead<File>>>,
     output: &mut Output<'_>,
 ) -> Result<Answer, AllocError> {
@@ -134,7 +134,7 @@ fn shown_run<T: Wait + Threads + Clock + Sync, W: Sink>(
     threads: &T,
     run: Run<'_>,
     config: &Config,
-    old: Blocks<FromSeek<File>>,
+    old: Blocks<FromFile>,
     sources: &mut Vec<CountedSource<'_, FromRead<File>>>,
     sink: &mut W,
 ) -> Result<Report, ApplyFault> {

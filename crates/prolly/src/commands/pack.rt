@@ -1,4 +1,5 @@
 //! The command `pack`.
+use crate::inputs::refuse_printed_input;
 use crate::output::Output;
 use crate::output_kind::OutputKind;
 use crate::patient::{Patient, tell_of_terminal};
@@ -18,6 +19,7 @@ pub fn pack(
 ) -> Result<Answer, Refusal> {
     let target = Target::look(rt, out, OutputKind::RecordFile, mode)?;
     target.refuse_input(rt)?;
+    refuse_printed_input(rt)?;
     let mut output = Output::open_beside_answer(rt, target)?;
     tell_of_terminal(rt);
     let answer = answer_pack_in(
@@ -49,6 +51,7 @@ pub fn pack_sorted<'a, R: Wait>(
     };
     let target = Target::look(rt, out, OutputKind::RecordFile, mode)?;
     target.refuse_input(rt)?;
+    refuse_printed_input(rt)?;
     let mut files = RunFiles::new(rt, target)?;
     tell_of_terminal(rt);
     let sorted = answer_pack_sorted(

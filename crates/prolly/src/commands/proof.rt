@@ -1,6 +1,6 @@
 //! The commands `prove` and `verify`.
 use crate::file_id::Found;
-use crate::inputs::{Input, chunks_of, listed_keys, refuse_read_twice};
+use crate::inputs::{Input, chunks_of, listed_keys, refuse_printed_input, refuse_read_twice};
 use crate::output::{OUTPUT_BYTES, Output};
 use crate::output_kind::OutputKind;
 use crate::patient::Patient;
@@ -17,6 +17,7 @@ use prolly_file::{Buffered, FromRead, Source, ToWrite};
 use prolly_range::{KeySet, SortedKeys};
 use prolly_root::ChunkSource;
 use std::alloc::AllocError;
+use std::io::{BufReader, Read};
 
 /// The keys from the one on, before the other one.
 fn range_between<'a>(from: &'a Vec<u8>, to: &'a Option<Vec<u8>>) -> KeySet<'a> {
@@ -196,14 +197,11 @@ fn verify_key(
     notation: Notation,
 ) -> Result<Answer, Refusal> {
     let answer = match proof {
-        None => answer_verify(
-            rt.alloc(),
-            &mut FromRead::new(Patient::new(rt, rt.stdin())),
-            notation,
-            version,
-            &root,
-            key,
-        ),
+        None => {
+            refuse_printed_input(rt)?;
+            let mut source = FromRead::new(Patient::new(rt, rt.stdin()));
+            answer_verify(rt.alloc(), &mut source, notation, version, &root, key)
+        }
         Some(proof) => {
             let mut source = Input::open(rt, &proof)?.into_whole(rt, Fault::InputTooLong)?;
             answer_verify(rt.alloc(), &mut source, notation, version, &root, key)
@@ -227,33 +225,47 @@ fn verify_set(
     let answer = match proof {
         None => {
             let (found, name) = (Stream::Input.found(rt)?, Stream::Input.name());
-            if printed.is_same_file(found) {
+            if printed.is_same(found) {
                 return Err(Refusal::of_name(rt, NameFault::IsInput, name));
             }
             refuse_read_twice(rt, found, &[listed], name)?;
-            let mut source = FromRead::new(Patient::new(rt, rt.stdin()));
-            print_set(rt, &mut source, notation, version, &root, set)
+            let input = Patient::new(rt, rt.stdin());
+            print_set(rt, input, notation, version, &root, set)
         }
         Some(proof) => {
             let input = Input::open_beside(rt, &proof, printed)?;
             refuse_read_twice(rt, input.found(), &[listed], &proof)?;
-            let mut source = input.into_source();
-            print_set(rt, &mut source, notation, version, &root, set)
+            print_set(rt, input.into_file(), notation, version, &root, set)
         }
     };
     Ok(answer?)
 }
 
-/// Prints what a set of keys has, of which the source has the proof.
-fn print_set<S: Source>(
+/// How many bytes of a proof are read at a time: many frames, where they are short.
+const PROOF_BYTES: usize = 65_536;
+
+/// Prints what a set of keys has, of which the reader gives the proof.
+fn print_set<R: Read + Drop>(
     rt: &HostRuntime,
-    source: &mut S,
+    reader: R,
     notation: Notation,
     version: Version,
     root: &Ref,
     set: KeySet<'_>,
 ) -> Result<Answer, AllocError> {
+    let Ok(reader) = BufReader::with_capacity(rt.alloc(), PROOF_BYTES, reader) else {
+        return Err(AllocError);
+    };
+    let mut source = FromRead::new(reader);
     let out = ToWrite::new(Patient::new(rt, rt.stdout()));
     let mut sink = Buffered::with_capacity(rt.alloc(), OUTPUT_BYTES, out)?;
-    answer_verify_set(rt.alloc(), source, notation, version, root, set, &mut sink)
+    answer_verify_set(
+        rt.alloc(),
+        &mut source,
+        notation,
+        version,
+        root,
+        set,
+        &mut sink,
+    )
 }

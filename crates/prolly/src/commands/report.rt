@@ -1,5 +1,5 @@
 //! The commands that say how a file is: `explain`, of lines too, `check`, `root` and `stat`.
-use crate::inputs::Input;
+use crate::inputs::{Input, refuse_printed_input};
 use crate::patient::{Patient, tell_of_terminal};
 use crate::refusal::{Refusal, told};
 use crate::streams::Stream;
@@ -9,7 +9,7 @@ use prolly_answer::{
 };
 use prolly_check::ChunkHasher;
 use prolly_entry::{Ref, Version};
-use prolly_file::{FromRead, FromSeek};
+use prolly_file::FromRead;
 use std::io::Write;
 
 /// `explain [--text] FILE`
@@ -20,6 +20,7 @@ pub fn explain(rt: &HostRuntime, file: String, notation: Notation) -> Result<Ans
 
 /// `explain --lines [--text] [--removals] [--all]`. The lines are standard input, of any size.
 pub fn explain_lines(rt: &HostRuntime, form: LineForm, all: bool) -> Result<Answer, Refusal> {
+    refuse_printed_input(rt)?;
     tell_of_terminal(rt);
     let mut source = FromRead::new(Patient::new(rt, rt.stdin()));
     Ok(answer_explain_lines(rt.alloc(), &mut source, form, all)?)
@@ -106,7 +107,7 @@ fn print(rt: &HostRuntime, answer: &Answer) -> Result<(), Refusal> {
 
 /// `root FILE`. The file may be of any size.
 pub fn root(rt: &HostRuntime, file: &str) -> Result<Answer, Refusal> {
-    let mut device = FromSeek::new(Input::open(rt, file)?.into_file());
+    let mut device = Input::open(rt, file)?.into_device();
     Ok(answer_root(rt.alloc(), &mut device)?)
 }
 

@@ -2,6 +2,7 @@
 ghost use Rattle.std.specs.Prelude.{◌≤◌};
 
 use crate::commands::bits::chosen_bits;
+use crate::inputs::refuse_printed_input;
 use crate::output::Output;
 use crate::output_kind::OutputKind;
 use crate::patient::Patient;
@@ -24,6 +25,7 @@ pub fn scratch(
 ) -> Result<Answer, Refusal>
     requires bits { bits ≤ 24 }
 {
+    refuse_printed_input(rt)?;
     let Some(out) = out else {
         let mut sink: Option<ToWrite<&File>> = None;
         return Ok(scratch_into(rt, bits, chunk_bytes, version, &mut sink)?);
