@@ -4,7 +4,7 @@
 
 pub mod applying;
 pub mod differences;
-mod entries;
+pub mod entries;
 pub mod examples;
 pub mod merging;
 pub mod passing;
