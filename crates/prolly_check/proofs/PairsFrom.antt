@@ -2,7 +2,10 @@
 use mathlib.Core.List.{cons≢nil}
 use Rattle.std.proofs.Common.{rules, ◌≡◌, ℕ, zero, suc, ◌<◌, false, cond, List, [], ◌∷◌, ◌++◌}
 use Rattle.std.proofs.Common.{length, Ordering, refl, sym, ap, ◌∙◌, subst, arith, ◌≤◌, Bool}
-use Rattle.std.proofs.Common.{true, not, take, inl, inr, ◌⊎◌, append_assoc, append-nil}
+use Rattle.std.proofs.Common.{true, not, take, inl, inr, ◌⊎◌, append_assoc, append-nil, drop, ◌-◌}
+use Rattle.std.proofs.Math.Seq.{drop-append_seam}
+use Rattle.std.proofs.lemmas.List.{length-append}
+use Rattle.std.proofs.lemmas.List.Concat.{flat_map-append}
 use Rattle.std.specs.List.{AllByRecursion}
 use Rattle.std.specs.Ordering.{is_lt, nat_cmp, ordering_reverse, ordering_then}
 use Rattle.std.specs.declared.cmp.Ordering.TheVariants.{Less, Equal, Greater}
@@ -10,16 +13,22 @@ use Rattle.std.proofs.lemmas.Bool.{cases_Bool, cond_both}
 use Rattle.std.proofs.lemmas.Cmp.{nat_cmp_total}
 use Rattle.std.proofs.lemmas.Grind.{common_steps}
 use Rattle.prolly_entry.specs.Keys.{key_order, KeyBelow, Rising, RisingFrom}
-use Rattle.prolly_entry.specs.Pair.{Pair}
+use Rattle.prolly_entry.specs.Pair.{IsPair, Pair}
+use Rattle.prolly_entry.specs.Spelling.{pair_spelling}
+use Rattle.prolly_entry.specs.declared.version.Version.{Version}
 use Rattle.prolly_entry.specs.lemmas.Lists.{all_append, all_back}
 use Rattle.prolly_entry.specs.lemmas.Orders.{order_trans}
 use Rattle.prolly_tree.specs.LookUp.{find}
+use Rattle.prolly_tree.specs.RecordFile.{record_file}
 use Rattle.prolly_tree.specs.Tree.{last_key}
 use Rattle.prolly_tree.specs.lemmas.Maps.{Above, Rises, rises_front, rises_back}
 use Rattle.prolly_tree.specs.lemmas.Maps.{above_last, find_above}
 use Rattle.prolly_file.specs.Scratch.{keys_in}
-use Rattle.prolly_check.specs.Leaves.{pairs_from}
+use Rattle.prolly_check.specs.Entries.{IsLeaf, IsWhole}
+use Rattle.prolly_check.specs.HeldPairs.{pairs_held}
+use Rattle.prolly_check.specs.Leaves.{IsLeft, pairs_from}
 use Rattle.prolly_check.specs.ScanWay.{next_key, AreFirstFrom}
+use Rattle.prolly_check.specs.lemmas.Held.{held_lawful}
 pub use Rattle.prolly_check.specs.lemmas.PairLists.{above_not, find_first, find_over, from_all}
 pub use Rattle.prolly_check.specs.lemmas.PairLists.{from_first, none_from, nth_back, nth_front}
 pub use Rattle.prolly_check.specs.lemmas.PairLists.{pairs_from-append}
@@ -52,6 +61,33 @@ some_from from (p ∷ q ∷ ps) some h e =
     let rest = pairs_from from (q ∷ ps) in
     cond_both (not (is_lt (key_order p.key from))) (p ∷ rest) rest (λ found. found ≡ [] → ⊥)
     (λ here f. cons≢nil f) (λ past f. some_from from (q ∷ ps) (omega arith) h f) e
+
+-- where a pair is less than the key, those before it do not count
+pub from_behind : (key : List ℕ) (before : List Pair) (p : Pair) (rest : List Pair) →
+    Rises (before ++ p ∷ rest) → KeyBelow p.key key →
+    pairs_from key (before ++ p ∷ rest) ≡ pairs_from key (p ∷ rest)
+from_behind key [] p rest r less = refl
+from_behind key (q ∷ before) p rest r less =
+    let below = order_trans q.key p.key key
+    (all_back (λ x. KeyBelow q.key x.key) before (p ∷ rest) r.0).0 less in
+    search (rules, from_behind key before p rest r.1 less)
+
+-- the bytes of the last pairs are those of a leaf
+pub left_leaf : (version : Version) (chunk : List ℕ) → IsWhole version chunk → (left : ℕ)
+    (l : IsLeft (pairs_held chunk) left) (entries : List ℕ) →
+    entries ≡ record_file (pairs_held chunk) → IsLeaf (drop (length entries - left) entries) l.rest
+left_leaf version chunk whole left l entries are =
+    let front = record_file l.before in
+    let back = record_file l.rest in
+    let all : entries ≡ front ++ back = are ∙ ap record_file l.are ∙
+    flat_map-append pair_spelling l.before l.rest in
+    let start : length entries - left ≡ length front =
+    omega (arith, l.is, ap length all, length-append front back) in record {
+      is = ap (λ n. drop n entries) start ∙ ap (drop (length front)) all ∙
+          drop-append_seam front back;
+      lawful = all_back IsPair l.before l.rest
+          (subst (AllByRecursion IsPair) l.are (held_lawful version chunk whole));
+    }
 
 -- ---- in a map
 

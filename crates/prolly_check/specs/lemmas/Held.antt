@@ -1,14 +1,17 @@
 -- The pairs that chunks hold, and chunks that do not differ.
 use Rattle.std.proofs.Common.{◌≡◌, ℕ, zero, suc, List, [], ◌∷◌, refl, sym, ap, ◌∙◌, cond, true, false}
-use Rattle.std.proofs.Common.{Bool, Option, Some, None}
+use Rattle.std.proofs.Common.{Bool, Option, Some, None, subst}
+use Rattle.std.specs.List.{AllByRecursion}
 use Rattle.std.proofs.lemmas.Slice.Eq.{bytes_eq-Decides}
 use Rattle.std.specs.Str.{bytes_eq}
 use Rattle.prolly_entry.specs.Overlay.{or_else}
-use Rattle.prolly_entry.specs.Pair.{Pair}
+use Rattle.prolly_entry.specs.Pair.{Pair, IsPair}
 use Rattle.prolly_entry.specs.declared.version.Version.{Version}
-use Rattle.prolly_check.specs.Entries.{Holds}
+use Rattle.prolly_tree.specs.Difference.{IsMap}
+use Rattle.prolly_check.specs.Entries.{Holds, IsWhole}
 use Rattle.prolly_check.specs.FirstFault.{difference}
 use Rattle.prolly_check.specs.HeldPairs.{pairs_held}
+use Rattle.prolly_check.specs.Way.{IsOrdered}
 use Rattle.prolly_check.specs.declared.verdict.fault.CheckFault.TheVariants.{NotCanonical}
 use Rattle.prolly_check.specs.lemmas.ReadEntries.{leaf_pairs}
 
@@ -18,6 +21,20 @@ pub held_is : (version : Version) (chunk : List ℕ) (held : List Pair) → Hold
 held_is version [] held h = absurd h
 held_is version (zero ∷ entries) held h = sym (leaf_pairs entries held h)
 held_is version (suc level ∷ entries) held h = h.none
+
+-- They are lawful, and rise where the chunk's keys do.
+pub held_lawful : (version : Version) (chunk : List ℕ) → IsWhole version chunk →
+    AllByRecursion IsPair (pairs_held chunk)
+held_lawful version [] whole = tt
+held_lawful version (zero ∷ entries) whole = subst (AllByRecursion IsPair)
+    (sym (leaf_pairs entries whole.pairs whole.holds)) whole.holds.lawful
+held_lawful version (suc level ∷ entries) whole = tt
+
+pub held_rise : (version : Version) (chunk : List ℕ) → IsOrdered version chunk →
+    IsMap (pairs_held chunk)
+held_rise version [] ordered = tt
+held_rise version (zero ∷ entries) ordered = ordered.rising
+held_rise version (suc level ∷ entries) ordered = tt
 
 -- Where there is no first fault, there is none of either kind.
 pub or_none : {A : Type 0} (a b : Option A) → or_else a b ≡ None → (a ≡ None) × (b ≡ None)

@@ -1,6 +1,6 @@
 -- What is found in lists that stand one behind another: at a key, at a number, from a key on.
 use Rattle.std.proofs.Common.{rules, ◌≡◌, ℕ, zero, suc, ◌+◌, ◌<◌, List, [], ◌∷◌, ◌++◌, length, None}
-use Rattle.std.proofs.Common.{Ordering, refl, sym, subst, arith, not, false}
+use Rattle.std.proofs.Common.{Ordering, refl, sym, subst, arith, not, false, append-nil}
 use Rattle.std.specs.List.{slice_get, AllByRecursion}
 use Rattle.std.specs.Ordering.{is_lt}
 use Rattle.std.specs.declared.cmp.Ordering.TheVariants.{Less, Equal, Greater}
@@ -11,7 +11,7 @@ use Rattle.prolly_entry.specs.Pair.{Pair}
 use Rattle.prolly_entry.specs.lemmas.Orders.{below_greater, greater_below, order_same}
 use Rattle.prolly_tree.specs.LookUp.{find}
 use Rattle.prolly_tree.specs.lemmas.Maps.{Above, Rises, above_more}
-use Rattle.prolly_check.specs.Leaves.{pairs_from}
+use Rattle.prolly_check.specs.Leaves.{IsLeft, pairs_from}
 
 -- Behind keys that are below it a key is found as if they were not there.
 pub find_over : (xs ys : List Pair) (key : List ℕ) → AllByRecursion (λ p. KeyBelow p.key key) xs →
@@ -68,3 +68,7 @@ above_not x key ps h k = go (key_order x key) refl h
 pub from_first : (key : List ℕ) (p : Pair) (ps : List Pair) → Rises (p ∷ ps) →
     is_lt (key_order p.key key) ≡ false → pairs_from key (p ∷ ps) ≡ p ∷ ps
 from_first key p ps h here = grind (arith, from_all, above_not)
+
+-- No bytes are left behind all of them.
+pub none_left : (all : List Pair) → IsLeft all 0
+none_left all = record { before = all; rest = []; are = sym (append-nil all); is = refl }

@@ -6,13 +6,14 @@ ghost use Rattle.prolly_entry.specs.Pair.{Pair as PairValue};
 ghost use Rattle.prolly_tree.specs.Difference.{IsMap};
 ghost use Rattle.prolly_check.specs.Chunks.{HasFile, chunks_of};
 ghost use Rattle.prolly_check.specs.HeldPairs.{pairs_held};
-ghost use Rattle.prolly_check.specs.Leaves.{pairs_from};
+ghost use Rattle.prolly_check.specs.Leaves.{IsLeft, pairs_from};
+ghost use Rattle.prolly_check.specs.Way.{IsOrdered};
 
-use crate::entries::Pairs;
+use crate::entries::{Pairs, pairs_of};
 use crate::file::CheckedFile;
 use crate::look_up::descent::descend;
 use crate::look_up::sought::Sought;
-use prolly_entry::key_order;
+use prolly_entry::{Version, key_order};
 use std::marker::Model;
 use std::mem;
 
@@ -53,7 +54,7 @@ impl<'a> Leaves<'a> {
         ensures { result ≡ pairs_from from.now file.entry.pairs }
     {
         let end = descend(&file, Sought::Key(from));
-        let first = rest_from(file.pairs(end.number), from);
+        let (first, _) = rest_from(file.version(), file.chunk(end.number), 0, from);
         // Where that leaf has none of them, the map has none.
         let number = if first.is_empty() {
             file.len()
@@ -88,17 +89,48 @@ impl<'a> Leaves<'a> {
     }
 }
 
-/// The pairs of a leaf whose key is not less than `from`. Takes no memory, and time linear in the
-/// part of the leaf before them.
-pub fn rest_from<'a>(mut leaf: Pairs<'a>, from: &[u8]) -> Pairs<'a>
-    requires { IsMap leaf }
-    ensures { result ≡ pairs_from from.now leaf.entry }
+/// The pairs of a chunk that was tested whose key is not less than `from`, and a mark: how many bytes
+/// its pairs take from the last one on that is less. A node has no pairs.
+///
+/// It begins at the given mark where the pair there is less than `from`, and else at the first pair.
+/// 0 is a mark of each chunk, and stands behind all pairs. Takes no memory, and time linear in the
+/// pairs that are passed over.
+pub fn rest_from<'c>(
+    version: Version,
+    chunk: &'c [u8],
+    mark: usize,
+    from: &[u8],
+) -> (Pairs<'c>, usize)
+    requires ordered { IsOrdered version chunk.now }
+    requires mark { IsLeft (pairs_held chunk.now) mark }
+    ensures pairs { result.0 ≡ pairs_from from.now (pairs_held chunk.now) }
+    ensures mark { IsLeft (pairs_held chunk.now) result.1 }
 {
-    while let Some((key, _)) = leaf.first() {
+    let mut passed = mark;
+    let mut rest = begin(version, chunk, mark, from);
+    while let Some((key, _)) = rest.first() {
         if !key_order(key, from).is_lt() {
-            return leaf;
+            return (rest, passed);
         }
-        let _ = leaf.next();
+        passed = rest.spellings().len();
+        let _ = rest.next();
     }
-    leaf
+    (rest, passed)
+}
+
+/// The pairs at which [`rest_from`] begins.
+fn begin<'c>(version: Version, chunk: &'c [u8], mark: usize, from: &[u8]) -> Pairs<'c>
+    requires ordered { IsOrdered version chunk.now }
+    requires mark { IsLeft (pairs_held chunk.now) mark }
+    ensures end { (before : List PairValue) × (pairs_held chunk.now ≡ before ++ result) }
+    ensures same { pairs_from from.now (pairs_held chunk.now) ≡ pairs_from from.now result }
+    ensures rising { IsMap result }
+{
+    let all = pairs_of(version, chunk);
+    let entries = all.spellings();
+    let marked = Pairs::new(&entries[entries.len() - mark..]);
+    match marked.first() {
+        Some((key, _)) if key_order(key, from).is_lt() => marked,
+        _ => all,
+    }
 }
