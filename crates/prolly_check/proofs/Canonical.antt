@@ -1,30 +1,26 @@
 -- The chunks of a file, followed from the first to the last.
-use Rattle.std.proofs.Common.{◌≡◌, ℕ, zero, suc, ◌<◌, ◌^◌, List, [], ◌∷◌, ◌++◌, length, take, drop, Some, None}
-use Rattle.std.proofs.Common.{◌+◌, ◌≤◌, Result, Ok, Err, get_or, map, refl, sym, ap, ◌∙◌, subst, arith, append-nil, inl, inr}
+use Rattle.std.proofs.Common.{◌≡◌, ℕ, suc, ◌<◌, ◌^◌, List, [], ◌∷◌, ◌++◌, length, take, drop, Some, None}
+use Rattle.std.proofs.Common.{◌+◌, ◌≤◌, Result, Ok, Err, get_or, sym, ap, ◌∙◌, subst, arith, append-nil, inl, inr}
 use Rattle.std.proofs.Math.Logic.{⊎_map}
 use Rattle.std.proofs.Math.Seq.{drop-cons}
 use Rattle.std.specs.List.{AllByRecursion}
 use Rattle.std.specs.Prelude.{IfErr, IfOk, MatchResult}
-use Rattle.std.proofs.lemmas.List.{length-append, take-append-drop, take_all, take_more}
+use Rattle.std.proofs.lemmas.List.{get_or_append_left, length-append, take-append-drop}
+use Rattle.std.proofs.lemmas.List.{take-append-le, take_all, take_more}
 use Rattle.std.proofs.lemmas.List.Concat.{flat_map-append}
 use Rattle.prolly_entry.specs.Pair.{IsPair}
 use Rattle.prolly_entry.specs.declared.version.Version.{Version}
-use Rattle.prolly_entry.specs.Reference.{reference_of}
-use Rattle.prolly_check.specs.Chunks.{AreReferences}
-use Rattle.prolly_check.specs.Digests.{AreDigests, IsDigest}
 use Rattle.prolly_check.specs.Entries.{AreWhole}
 use Rattle.prolly_check.specs.FirstFault.{CompareAs, difference}
 use Rattle.prolly_check.specs.Follower.{EndsWith, Follows, IsOutOfPlace, PartsAt, PartsFrom, all_of}
 use Rattle.prolly_check.specs.Follower.{place_of_end}
 use Rattle.prolly_check.specs.HeldPairs.{bytes_in, pairs_held}
-use Rattle.prolly_check.specs.declared.verdict.digests.ChunkDigest.{ChunkDigest}
 use Rattle.prolly_check.specs.declared.verdict.fault.CheckFault.{CheckFault}
 use Rattle.prolly_check.specs.declared.verdict.follower.Follower.{Follower}
 use Rattle.prolly_check.specs.Verdict.{UnlessMemory}
 use Rattle.prolly_check.specs.declared.verdict.fault.CheckFault.TheVariants.{Memory, NotCanonical}
 use Rattle.prolly_check.proofs.ChunkSteps.{ends_as_difference, none_differs}
-use Rattle.prolly_check.proofs.FollowerSteps.{front_none, get_before, held_in, whole_lawful}
-use Rattle.prolly_check.proofs.FollowerSteps.{parts_difference, take_before}
+use Rattle.prolly_check.proofs.FollowerSteps.{front_none, held_in, parts_difference, whole_lawful}
 use Rattle.prolly_check.proofs.OpenLevels.{all_sent}
 
 -- chunks that part do so whatever follows
@@ -34,8 +30,8 @@ parts_longer wanted read rest n p =
     let within = p.within in record {
       within = omega (arith, length-append read rest);
       tail = p.tail;
-      are = p.are ∙ ap (λ cs. cs ++ p.tail) (sym (take_before read rest n within));
-      other = λ more e. p.other more (e ∙ ap (λ c. c ∷ more) (get_before read rest n within));
+      are = p.are ∙ ap (λ cs. cs ++ p.tail) (sym (take-append-le n read rest (omega arith)));
+      other = λ more e. p.other more (e ∙ ap (λ c. c ∷ more) (get_or_append_left read rest [] n within));
     }
 
 -- where a chunk has pairs, so have it and the chunks behind it together
@@ -135,41 +131,6 @@ module _ (bits : ℕ) (version : Version) (chunks : List (List ℕ))
     ends_all count (Err fault) n past ends =
         ⊎_map (λ memory. memory) (ends_as_difference bits version chunks fault few)
         (rw (cut, same) at (ends chunks n (subst (λ cs. Follows cs f) (take_all number chunks past) h)))
-
--- one digest more
-pub digest_more : (bits : ℕ) (chunks : List (List ℕ)) (digests : List ChunkDigest)
-    (digest : ChunkDigest) → ((k : ℕ) (other : ChunkDigest) → k < length digests →
-    IsDigest bits (get_or chunks k []) (get_or digests k other)) →
-    IsDigest bits (get_or chunks (length digests) []) digest → (k : ℕ) (other : ChunkDigest) →
-    k < length digests + 1 →
-    IsDigest bits (get_or chunks k []) (get_or (digests ++ digest ∷ []) k other)
-digest_more bits chunks digests digest = at_end (λ k. IsDigest bits (get_or chunks k [])) digests
-  where
-    at_end : (P : ℕ → ChunkDigest → Type 0) (ds : List ChunkDigest) →
-        ((k : ℕ) (other : ChunkDigest) → k < length ds → P k (get_or ds k other)) →
-        P (length ds) digest → (k : ℕ) (other : ChunkDigest) → k < length ds + 1 →
-        P k (get_or (ds ++ digest ∷ []) k other)
-    at_end P [] each here zero other h = here
-    at_end P [] each here (suc k) other h = absurd (omega arith)
-    at_end P (d ∷ ds) each here zero other h = each 0 other (omega arith)
-    at_end P (d ∷ ds) each here (suc k) other h =
-        at_end (λ n. P (suc n)) ds (λ n other h. each (suc n) other (omega arith)) here k other
-        (omega arith)
-
--- the references of chunks are those of their digests
-pub digests_refer : (bits : ℕ) (chunks : List (List ℕ)) (digests : List ChunkDigest) →
-    AreDigests bits chunks digests → AreReferences chunks (map (λ d. d.reference) digests)
-digests_refer bits [] [] are = refl
-digests_refer bits [] (d ∷ digests) are = absurd (cc are.many)
-digests_refer bits (c ∷ chunks) [] are = absurd (cc are.many)
-digests_refer bits (c ∷ chunks) (d ∷ digests) are =
-    let many = are.many in
-    ap (λ r. r ∷ map (λ r. r.0) (map (λ (d : ChunkDigest). d.reference) digests))
-    (are.each 0 d (omega arith)).reference ∙
-    ap (λ rs. reference_of c ∷ rs) (digests_refer bits chunks digests (record {
-      many = omega arith;
-      each = λ n other h. are.each (suc n) other (omega arith);
-    }))
 
 -- a result with a clause of each kind
 pub ok_of : {T E : Type 0} (P : T → Type 0) (Q : E → Type 0) (result : Result T E) →

@@ -8,6 +8,7 @@ use Rattle.std.specs.List.{flat_map, AllByRecursion}
 use Rattle.std.specs.Prelude.{slice_index}
 use Rattle.std.specs.Str.{bytes_eq}
 use Rattle.std.specs.declared.ops.Range.{Range}
+use Rattle.std.proofs.Math.Logic.{⊎_map}
 use Rattle.std.proofs.lemmas.Bool.{false≢true, not-false}
 use Rattle.std.proofs.lemmas.Grind.{common_steps}
 use Rattle.std.proofs.lemmas.List.{length-append, length-map, map_push, length-take-le, drop-drop}
@@ -43,7 +44,7 @@ use Rattle.prolly_check.specs.Verdict.{UnlessMemory, IsVerdict, IsFileOf, ReadVe
 use Rattle.prolly_check.specs.Verdict.{FramesVerdict}
 use Rattle.prolly_check.specs.declared.chunks.Index.{Index}
 use Rattle.prolly_check.specs.declared.verdict.fault.CheckFault.{CheckFault}
-use Rattle.prolly_check.proofs.EntryLists.{leaf_pairs, leaf_spelled}
+use Rattle.prolly_check.proofs.EntryLists.{each_has_bytes, leaf_pairs, leaf_spelled}
 use Rattle.prolly_check.proofs.HeldPairs.{map_holds, all_hold, flat_held}
 use Rattle.prolly_check.proofs.IndexSteps.{as_many, reference_at}
 use Rattle.prolly_check.proofs.OneVerdict.{one_verdict}
@@ -109,10 +110,6 @@ only_memory bytes content fault short f (inr v) =
     (file_is_accepted bytes content short f) v in cc
 
 -- ---- a file has no more pairs than bytes, and its chunks have no more bytes
-
-each_has_bytes : (pairs : List Pair) → length pairs ≤ length (flat_map pair_spelling pairs)
-each_has_bytes [] = omega arith
-each_has_bytes (p ∷ pairs) = grind (arith, length-append, each_has_bytes pairs)
 
 pub few_in_one : (version : Version) (chunk : List ℕ) → IsWhole version chunk →
     length (pairs_held chunk) ≤ length chunk
@@ -266,8 +263,10 @@ module _ (bytes : List ℕ) (header : Header) (spans : List (Range ℕ)) (place 
                   record { read = read; is = is; so = so };
             })
 
-        pub at_read : (fault : CheckFault) → IsBad header.version cs fault → Refused bytes fault
-        at_read fault bad = inr (read_so (Err fault) (Err fault) bad refl)
+        pub at_read : (fault : CheckFault) → UnlessMemory (IsBad header.version cs) fault →
+            Refused bytes fault
+        at_read fault = ⊎_map (λ memory. memory)
+            (λ bad. read_so (Err fault) (Err fault) bad refl)
 
         pub at_entries : AreWhole header.version cs → IsLaidOut bytes header spans place
         at_entries whole = record {

@@ -1,5 +1,5 @@
 -- The chunks of a file that were read so far, one after another.
-use Rattle.std.proofs.Common.{◌≡◌, ◌⊎◌, ℕ, zero, suc, ◌+◌, ◌-◌, ◌<◌, ◌≤◌, ◌^◌, Bool, true}
+use Rattle.std.proofs.Common.{◌≡◌, ◌⊎◌, ℕ, suc, ◌+◌, ◌-◌, ◌<◌, ◌≤◌, ◌^◌, Bool, true}
 use Rattle.std.proofs.Common.{false, List, [], ◌∷◌, ◌++◌, length, map, take, drop, get_or, Option}
 use Rattle.std.proofs.Common.{Some, None, inl, inr, refl, sym, ap, ◌∙◌, subst, arith, cond, nat_lt}
 use Rattle.std.proofs.Common.{if◌then◌else◌, append_assoc, append-nil, Result, Ok, Err, ◌==◌}
@@ -10,7 +10,7 @@ use Rattle.std.specs.Str.{bytes_eq}
 use Rattle.std.specs.declared.ops.Range.{Range}
 use Rattle.std.proofs.Math.Seq.{drop-cons}
 use Rattle.std.proofs.lemmas.Bool.{cond-true, false_from_ne_true, le-ltb, lt-ltb, ne_eqb}
-use Rattle.std.proofs.lemmas.List.{length-append, length-drop, length-map, take_all, take-append-drop}
+use Rattle.std.proofs.lemmas.List.{length-append, length-drop, length-map, take_all, take-append-drop, take-append-le, take-map, take_more}
 use Rattle.std.proofs.lemmas.List.Concat.{flat_map-append}
 use Rattle.std.proofs.lemmas.Slice.Eq.{bytes_eq-Decides}
 use Rattle.prolly_entry.specs.Cut.{sha512_cut}
@@ -26,7 +26,8 @@ use Rattle.prolly_tree.specs.File.{root_reference}
 use Rattle.prolly_tree.specs.lemmas.Splits.{flat}
 use Rattle.prolly_file.specs.Frame.{framed, has_no_frame, IsSmall}
 use Rattle.prolly_check.specs.ChunksRead.{AreRead, BodyRead, EndsAs, EndsChunks, HasFlaw, IsDecided}
-use Rattle.prolly_check.specs.Entries.{AreWhole, IsBad, IsWhole}
+use Rattle.prolly_check.specs.Digests.{Tells}
+use Rattle.prolly_check.specs.Entries.{AreWhole, IsWhole}
 use Rattle.prolly_check.specs.FirstFault.{chunk_bytes, difference, ending_for, last_behind}
 use Rattle.prolly_check.specs.FirstFault.{order_fault, rises_behind}
 use Rattle.prolly_check.specs.FirstFlaw.{IsBodyFault, IsBodyVerdict, IsFlawBehind, IsReadTo}
@@ -46,17 +47,13 @@ use Rattle.prolly_check.specs.declared.verdict.fault.CheckFault.TheVariants.{Not
 use Rattle.prolly_check.specs.declared.verdict.fault.CheckFault.TheVariants.{Truncated}
 use Rattle.prolly_check.proofs.CheckedFile.{chunks_last, chunks_some, few_in_frames}
 use Rattle.prolly_check.proofs.FollowerSteps.{held_in, held_snoc, parts_difference}
-use Rattle.prolly_check.proofs.HeldPairs.{are_whole, bytes_append}
+use Rattle.prolly_check.proofs.HeldPairs.{bytes_append}
 use Rattle.prolly_check.proofs.NextLeaf.{sent_begins}
 use Rattle.prolly_check.proofs.OpenLevels.{all_sent}
+use Rattle.prolly_check.proofs.RisingKeys.{last_append}
 use Rattle.prolly_check.proofs.Verdicts.{difference_same, ending_long}
 
 -- ---- the order of the keys
-
-pub last_append : (last : Position) (xs ys : List Pair) →
-    last_behind last (xs ++ ys) ≡ last_behind (last_behind last xs) ys
-last_append last [] ys = refl
-last_append last (x ∷ xs) ys = last_append (Some x.key) xs ys
 
 -- the keys of one chunk more
 pub order_snoc : (last : Position) (number : ℕ) (chunks : List (List ℕ)) (chunk : List ℕ) →
@@ -182,11 +179,6 @@ module _ (bits : ℕ) (version : Version) (chunks : List (List ℕ))
       take_all 28 (ending_for version bits (held_in chunks))
       (omega (arith, ending_long version bits (held_in chunks)))
 
-take_within : (xs ys : List ℕ) (n : ℕ) → n ≤ length xs → take n (xs ++ ys) ≡ take n xs
-take_within xs ys zero h = refl
-take_within [] ys (suc n) h = absurd (omega arith)
-take_within (x ∷ xs) ys (suc n) h = ap (λ zs. x ∷ zs) (take_within xs ys n (omega arith))
-
 -- what is wrong behind the letter, where the record is this one
 module _ (version : Version) (bits : ℕ) (chunks : List (List ℕ)) (rest more record_bytes : List ℕ)
     (is : record_bytes ≡ ending_for version bits (held_in chunks))
@@ -205,7 +197,7 @@ module _ (version : Version) (bits : ℕ) (chunks : List (List ℕ)) (rest more 
   long_enough h = le-ltb (length (rest ++ more)) 28 (omega (arith, sizes))
 
   same_front : 28 ≤ length rest → take 28 (rest ++ more) ≡ take 28 rest
-  same_front h = take_within rest more 28 h
+  same_front h = take-append-le 28 rest more h
 
   pub is_bad : 28 ≤ length rest → (take 28 rest ≡ record_bytes → ⊥) →
       end_flaw version bits chunks (rest ++ more) ≡ Some BadEnd
@@ -345,91 +337,25 @@ few_part chunks taken n few =
     length-append (flat_map framed (chunks ++ take n taken)) (flat_map framed (drop n taken)) in
     omega arith
 
--- ---- the chunks before a bad one
+-- ---- the first chunks
 
-chunks_front : (bytes : List ℕ) (spans : List (Range ℕ)) (n : ℕ) →
+pub chunks_front : (bytes : List ℕ) (spans : List (Range ℕ)) (n : ℕ) →
     chunks_in bytes (take n spans) ≡ take n (chunks_in bytes spans)
-chunks_front bytes spans zero = refl
-chunks_front bytes [] (suc n) = refl
-chunks_front bytes (s ∷ spans) (suc n) = ap (λ cs. chunk_in bytes s ∷ cs) (chunks_front bytes spans n)
+chunks_front bytes spans n = sym (take-map (chunk_in bytes) n spans)
 
-front_of : (before rest : List (List ℕ)) → take (length before) (before ++ rest) ≡ before
-front_of [] rest = refl
-front_of (c ∷ before) rest = ap (λ cs. c ∷ cs) (front_of before rest)
-
-number_is : (n m : ℕ) → BadChunk n ≡ BadChunk m → n ≡ m
-number_is n m e = cc e
-
-module _ (version : Version) (bytes : List ℕ) (spans : List (Range ℕ)) (n : ℕ)
-    (bad : IsBad version (chunks_in bytes spans) (BadChunk n)) where
-  pub are_before : chunks_in bytes (take n spans) ≡ bad.before
-  are_before = chunks_front bytes spans n ∙ ap (take n) bad.whole ∙
-      ap (λ k. take k (bad.before ++ bad.chunk ∷ bad.after)) (number_is n (length bad.before) bad.is) ∙
-      front_of bad.before (bad.chunk ∷ bad.after)
-
-  pub bad_front_whole : AreWhole version (chunks_in bytes (take n spans))
-  bad_front_whole = subst (AreWhole version) (sym are_before)
-      (are_whole version bad.before bad.lists bad.good)
-
-split_chunks : (bytes : List ℕ) (spans : List (Range ℕ)) (n : ℕ) →
-    chunks_in bytes (take n spans) ++ drop n (chunks_in bytes spans) ≡ chunks_in bytes spans
-split_chunks bytes spans n = ap (λ cs. cs ++ drop n (chunks_in bytes spans)) (chunks_front bytes spans n) ∙
-    take-append-drop n (chunks_in bytes spans)
-
-pub few_front : (chunks : List (List ℕ)) (bytes : List ℕ) (spans : List (Range ℕ)) (n : ℕ) →
-    length (flat_map framed (chunks ++ chunks_in bytes spans)) < 2 ^ 64 →
-    length (flat_map framed (chunks ++ chunks_in bytes (take n spans))) < 2 ^ 64
-few_front chunks bytes spans n few =
-    rw (chunks_front bytes spans n) (few_part chunks (chunks_in bytes spans) n few)
-
-pub flaw_within : (read : ChunksRead) (chunks : List (List ℕ)) (bytes : List ℕ)
-    (spans : List (Range ℕ)) (n : ℕ) (fault : CheckFault) →
-    HasFlaw read chunks (chunks_in bytes (take n spans)) fault →
-    HasFlaw read chunks (chunks_in bytes spans) fault
-flaw_within read chunks bytes spans n fault h =
-    let rest = drop n (chunks_in bytes spans) in record {
-      before = h.before;
-      chunk = h.chunk;
-      after = h.after ++ rest;
-      are = sym (split_chunks bytes spans n) ∙ ap (λ cs. cs ++ rest) h.are ∙
-          append_assoc h.before (h.chunk ∷ h.after) rest;
-      may = h.may;
-      flaw = h.flaw;
-    }
-
-pub bad_behind : (old new : ChunksRead) (chunks : List (List ℕ)) (bytes : List ℕ)
-    (spans : List (Range ℕ)) (n : ℕ) →
-    IsBad old.follower.version (chunks_in bytes spans) (BadChunk n) →
-    AreRead (chunks ++ chunks_in bytes (take n spans)) new → IsAlike old.follower new.follower →
-    length (flat_map framed (chunks ++ chunks_in bytes spans)) < 2 ^ 64 →
-    HasFlaw old chunks (chunks_in bytes spans) (BadChunk new.count)
-bad_behind old new chunks bytes spans n bad r alike few =
-    let front = chunks_in bytes (take n spans) in
-    let before = are_before old.follower.version bytes spans n bad in
-    let shorter = few_front chunks bytes spans n few in
-    let held = few_of new.follower.version (chunks ++ front) [] r.whole
-    (subst (λ cs. length (flat_map framed cs) < 2 ^ 64) (sym (append-nil (chunks ++ front))) shorter) in
-    let may = may_begin new (chunks ++ front) r held in
-    subst (λ f. HasFlaw old chunks (chunks_in bytes spans) (BadChunk f)) (sym r.count) (record {
-      before = front;
-      chunk = bad.chunk;
-      after = bad.after;
-      are = bad.whole ∙ ap (λ cs. cs ++ bad.chunk ∷ bad.after) (sym before);
-      may = rw (sym alike.0, sym alike.1) may;
-      flaw = (refl, bad.bad);
-    })
+pub flaw_within : (read : ChunksRead) (chunks taken : List (List ℕ)) (n : ℕ) (fault : CheckFault) →
+    HasFlaw read chunks (take n taken) fault → HasFlaw read chunks taken fault
+flaw_within read chunks taken n fault h = record {
+  before = h.before;
+  chunk = h.chunk;
+  after = h.after ++ drop n taken;
+  are = sym (take-append-drop n taken) ∙ ap (λ cs. cs ++ drop n taken) h.are ∙
+      append_assoc h.before (h.chunk ∷ h.after) (drop n taken);
+  may = h.may;
+  flaw = h.flaw;
+}
 
 -- ---- one chunk behind others that were taken
-
-take_next : (cs : List (List ℕ)) (n : ℕ) → n < length cs →
-    take (n + 1) cs ≡ take n cs ++ get_or cs n [] ∷ []
-take_next cs n h = ap (λ k. take k cs) (let e : n + 1 ≡ suc n = omega arith in e) ∙ go cs n h
-  where
-    go : (cs : List (List ℕ)) (n : ℕ) → n < length cs →
-        take (suc n) cs ≡ take n cs ++ get_or cs n [] ∷ []
-    go [] n h = absurd (omega arith)
-    go (c ∷ cs) zero h = refl
-    go (c ∷ cs) (suc n) h = ap (λ ds. c ∷ ds) (go cs n (omega arith))
 
 module _ (chunks taken : List (List ℕ)) (n : ℕ) (within : n < length taken) where
   abbrev so_far : List (List ℕ)
@@ -440,7 +366,7 @@ module _ (chunks taken : List (List ℕ)) (n : ℕ) (within : n < length taken) 
 
   pub next_is : so_far ++ chunk ∷ [] ≡ chunks ++ take (n + 1) taken
   next_is = append_assoc chunks (take n taken) (chunk ∷ []) ∙
-      ap (λ cs. chunks ++ cs) (sym (take_next taken n within))
+      ap (λ cs. chunks ++ cs) (sym (take_more taken n [] within))
 
   module _ (few : length (flat_map framed (chunks ++ take (n + 1) taken)) < 2 ^ 64) where
     pub few_before : length (flat_map framed so_far) < 2 ^ 64
@@ -474,6 +400,14 @@ module _ (chunks taken : List (List ℕ)) (n : ℕ) (within : n < length taken) 
         may = rw (sym alike.0, sym alike.1) (may_begin mid so_far r held);
         flaw = rw (sym alike.0, sym alike.1) flaw;
       }
+
+  -- so is that it is no whole chunk
+  pub bad_next : (old mid : ChunksRead) → length (flat_map framed so_far) < 2 ^ 64 →
+      AreRead so_far mid → IsAlike old.follower mid.follower →
+      Tells old.follower.version old.follower.cut chunk None →
+      HasFlaw old chunks taken (BadChunk mid.count)
+  bad_next old mid few r alike bad =
+      flaw_next old mid (BadChunk mid.count) few r alike (r.count, rw alike.1 bad)
 
 -- ---- the end
 

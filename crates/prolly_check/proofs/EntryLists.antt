@@ -127,6 +127,11 @@ no_leaf done pairs rest lawful left none l =
     rest_is_none pair_spelling IsPair leaf_apart done rest lawful left none
     (record { entries = pairs; is = l.is; lawful = l.lawful })
 
+-- they have more bytes than there are pairs
+pub each_has_bytes : (pairs : List Pair) → length pairs ≤ length (flat_map pair_spelling pairs)
+each_has_bytes [] = omega arith
+each_has_bytes (p ∷ pairs) = grind (arith, length-append, each_has_bytes pairs)
+
 -- ---- what is read of them
 
 pub next_pair : (entries : List ℕ) (p : Pair) (rest : List ℕ) →

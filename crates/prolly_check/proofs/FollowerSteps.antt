@@ -6,9 +6,10 @@ use Rattle.std.specs.Option.{is_some}
 use Rattle.std.specs.Prelude.{MatchResult, OnOk, IfErr, ◌==◌}
 use Rattle.std.specs.List.{flat_map, list_any, AllByRecursion}
 use Rattle.std.specs.Str.{bytes_eq}
-use Rattle.std.proofs.Math.Seq.{drop-cons}
+use Rattle.std.proofs.Math.Seq.{drop-cons, get_or-append_seam, take-append_seam}
 use Rattle.std.proofs.lemmas.Bool.{cond-false, false_from_ne_true, ne_eqb}
-use Rattle.std.proofs.lemmas.List.{append_cancel_left, length-append, map-append, take-append-drop}
+use Rattle.std.proofs.lemmas.List.{append_cancel_left, get_or_append_left, length-append, map-append}
+use Rattle.std.proofs.lemmas.List.{take-append-drop, take-append-le}
 use Rattle.std.proofs.lemmas.List.Concat.{flat_map-append}
 use Rattle.std.proofs.lemmas.Slice.Eq.{bytes_eq-Decides}
 use Rattle.prolly_entry.specs.Cut.{sha512_cut}
@@ -92,27 +93,6 @@ pub whole_lawful : (version : Version) (chunks : List (List ℕ)) → AreWhole v
 whole_lawful version [] w = tt
 whole_lawful version (c ∷ chunks) w = all_append IsPair (pairs_held c) (held_in chunks)
     (held_lawful version c w.0) (whole_lawful version chunks w.1)
-
-take_front : (read rest : List (List ℕ)) → take (length read) (read ++ rest) ≡ read
-take_front [] rest = refl
-take_front (c ∷ read) rest = ap (λ cs. c ∷ cs) (take_front read rest)
-
-get_next : (read rest : List (List ℕ)) (chunk : List ℕ) →
-    get_or (read ++ chunk ∷ rest) (length read) [] ≡ chunk
-get_next [] rest chunk = refl
-get_next (c ∷ read) rest chunk = get_next read rest chunk
-
-pub get_before : (read rest : List (List ℕ)) (n : ℕ) → n < length read →
-    get_or (read ++ rest) n [] ≡ get_or read n []
-get_before [] rest n h = absurd (omega arith)
-get_before (c ∷ read) rest zero h = refl
-get_before (c ∷ read) rest (suc n) h = get_before read rest n (omega arith)
-
-pub take_before : (read rest : List (List ℕ)) (n : ℕ) → n < length read →
-    take n (read ++ rest) ≡ take n read
-take_before [] rest n h = absurd (omega arith)
-take_before (c ∷ read) rest zero h = refl
-take_before (c ∷ read) rest (suc n) h = ap (λ cs. c ∷ cs) (take_before read rest n (omega arith))
 
 one_longer : (read : List (List ℕ)) (chunk : List ℕ) → length (read ++ chunk ∷ []) ≡ suc (length read)
 one_longer read chunk = omega (arith, length-append read (chunk ∷ []))
@@ -353,10 +333,10 @@ module _ (bits : ℕ) (version : Version) (read : List (List ℕ)) (nodes : List
         not_whole = not_whole;
         lawful = lawful_next;
         held = held_next;
-        before = take_front read (chunk ∷ []) ∙ sym (append-nil read) ∙
+        before = take-append_seam read (chunk ∷ []) ∙ sym (append-nil read) ∙
             ap (λ ds. read ++ bytes_in ds) (sym none) ∙ g.sent;
         within = omega (arith, one_longer read chunk);
-        there = ap pairs_held (get_next read [] chunk);
+        there = ap pairs_held (get_or-append_seam read chunk [] []);
         sent = e;
         none_due = append_cancel_left (flat g.leaves ++ ps) (held_in (bytes_in due'')) []
             (ap (λ qs. qs ++ held_in (bytes_in due'')) (sym held_next) ∙
@@ -380,8 +360,8 @@ module _ (bits : ℕ) (version : Version) (read : List (List ℕ)) (nodes : List
             bytes_append (sent_of_leaves bits version g.leaves) begins.0 ∙
             ap (λ cs. cs ++ bytes_in begins.0) (sym g.sent) ∙
             append_assoc read (bytes_in due) (bytes_in begins.0) ∙
-            ap (λ cs. cs ++ (bytes_in due ++ bytes_in begins.0)) (sym (take_front read (chunk ∷ [])));
-        other = λ rest e. first (bytes_in begins.0) rest due some other (e ∙ ap (λ c. c ∷ rest) (get_next read [] chunk));
+            ap (λ cs. cs ++ (bytes_in due ++ bytes_in begins.0)) (sym (take-append_seam read (chunk ∷ [])));
+        other = λ rest e. first (bytes_in begins.0) rest due some other (e ∙ ap (λ c. c ∷ rest) (get_or-append_seam read chunk [] []));
       }
     where
       first : (tail rest : List (List ℕ)) (due : List Chunk) → (due ≡ [] → ⊥) →
@@ -407,7 +387,7 @@ module _ (bits : ℕ) (version : Version) (read : List (List ℕ)) (nodes : List
 
   module _ (none : due ≡ []) (not_whole : is_whole_leaf (sha512_cut bits) ps ≡ false) where
     at_leaves : take (length read) next ≡ bytes_in (sent_of_leaves bits version g.leaves)
-    at_leaves = take_front read (chunk ∷ []) ∙ sym (append-nil read) ∙
+    at_leaves = take-append_seam read (chunk ∷ []) ∙ sym (append-nil read) ∙
         ap (λ ds. read ++ bytes_in ds) (sym none) ∙ g.sent
 
     pub leaf_parts : (more : List Pair) → (ps ++ more ≡ [] → ⊥) →
@@ -417,7 +397,7 @@ module _ (bits : ℕ) (version : Version) (read : List (List ℕ)) (nodes : List
     leaf_parts more some why lawful =
         other_parts bits version g.leaves (ps ++ more) next (length read)
         (omega (arith, one_longer read chunk)) at_leaves
-        (subst (OtherNext bits version g.leaves (ps ++ more)) (sym (get_next read [] chunk))
+        (subst (OtherNext bits version g.leaves (ps ++ more)) (sym (get_or-append_seam read chunk [] []))
         (other_next bits version g.leaves ps more chunk g.whole refl not_whole some why lawful))
 
     some_any : list_any (pair_is_boundary (sha512_cut bits)) ps ≡ true → ps ≡ [] → ⊥
@@ -464,8 +444,8 @@ module _ (bits : ℕ) (version : Version) (read : List (List ℕ)) (nodes : List
           tail = bytes_in due';
           are = ap (λ qs. bytes_in (all_of bits version qs)) (held_next ∙
               ap (λ qs. flat g.leaves ++ qs) empty ∙ append-nil (flat g.leaves)) ∙ sym all ∙
-              ap (λ cs. cs ++ bytes_in due') (sym (take_front read (chunk ∷ [])));
-          other = λ rest e. other rest (e ∙ ap (λ c. c ∷ rest) (get_next read [] chunk));
+              ap (λ cs. cs ++ bytes_in due') (sym (take-append_seam read (chunk ∷ [])));
+          other = λ rest e. other rest (e ∙ ap (λ c. c ∷ rest) (get_or-append_seam read chunk [] []));
         } in
         out_of_place bits version next (length read) (length read) here
         (λ more some lawful.
@@ -518,9 +498,9 @@ end_taken bits version read due due' from chunk g e =
       not_whole = g.not_whole;
       lawful = g.lawful;
       held = same_held read chunk (taken_due due due' chunk e g.none_due) ∙ g.held;
-      before = take_before read (chunk ∷ []) from within ∙ g.before;
+      before = take-append-le from read (chunk ∷ []) (omega arith) ∙ g.before;
       within = omega (arith, one_longer read chunk);
-      there = ap pairs_held (get_before read (chunk ∷ []) from within) ∙ g.there;
+      there = ap pairs_held (get_or_append_left read (chunk ∷ []) [] from within) ∙ g.there;
       sent = append_assoc read (chunk ∷ []) (bytes_in due') ∙ ap (λ cs. read ++ cs) (sym e) ∙
           g.sent;
       none_due = left_due due due' chunk e g.none_due;
@@ -544,9 +524,9 @@ module _ (bits : ℕ) (version : Version) (read : List (List ℕ)) (due : List C
       let within = g.within in
       other_parts bits version g.leaves (g.last ++ more) then from
       (omega (arith, one_longer read chunk))
-      (take_before read (chunk ∷ []) from within ∙ g.before)
+      (take-append-le from read (chunk ∷ []) (omega arith) ∙ g.before)
       (other_next bits version g.leaves g.last more (get_or then from []) g.whole
-      (ap pairs_held (get_before read (chunk ∷ []) from within) ∙ g.there) g.not_whole
+      (ap pairs_held (get_or_append_left read (chunk ∷ []) [] from within) ∙ g.there) g.not_whole
       (λ e. some (back_none g.last more e)) (inl some) lawful)
 
   -- a leaf with pairs
@@ -582,8 +562,8 @@ module _ (bits : ℕ) (version : Version) (read : List (List ℕ)) (due : List C
         within = omega (arith, one_longer read chunk);
         tail = bytes_in due;
         are = ap (λ qs. bytes_in (all_of bits version qs)) (same_held read chunk empty ∙ g.held) ∙
-            sym g.sent ∙ ap (λ cs. cs ++ bytes_in due) (sym (take_front read (chunk ∷ [])));
-        other = λ rest e. other rest (e ∙ ap (λ c. c ∷ rest) (get_next read [] chunk));
+            sym g.sent ∙ ap (λ cs. cs ++ bytes_in due) (sym (take-append_seam read (chunk ∷ [])));
+        other = λ rest e. other rest (e ∙ ap (λ c. c ∷ rest) (get_or-append_seam read chunk [] []));
       } in
       out_of_place bits version then (length read) from here
       (λ more some lawful.
@@ -687,11 +667,6 @@ closed_all bits version read pairs due held all none =
     ap (λ ds. read ++ bytes_in ds) none ∙ append-nil read
 
 -- ---- what the code finds of a chunk's pairs
-
-pub none_held : (b : Bool) (ps qs : List Pair) → qs ≡ ps → b ≡ (length qs == 0) → b ≡ true → ps ≡ []
-none_held b ps [] e h t = sym e
-none_held b ps (q ∷ qs) e h t = absurd (cc (sym t ∙ h ∙
-    ne_eqb (length (q ∷ qs)) 0 (λ none. absurd (omega (arith, none)))))
 
 pub some_there : (b : Bool) (ps qs : List Pair) → qs ≡ ps → b ≡ (length qs == 0) → b ≡ false →
     ps ≡ [] → ⊥

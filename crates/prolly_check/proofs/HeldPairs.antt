@@ -1,11 +1,9 @@
 -- The pairs that chunks hold, and testing chunks one after another.
 use Rattle.std.proofs.Common.{rules, ◌≡◌, ℕ, zero, suc, ◌<◌, List, [], ◌∷◌, ◌++◌, length, map}
-use Rattle.std.proofs.Common.{get_or, refl, sym, ap, ◌∙◌, subst, arith, append-nil, take, drop}
+use Rattle.std.proofs.Common.{get_or, refl, sym, ap, subst, arith, append-nil, drop}
 use Rattle.std.specs.List.{flat_map, AllByRecursion}
-use Rattle.std.specs.declared.ops.Range.{Range}
-use Rattle.std.proofs.Math.Seq.{drop-cons}
 use Rattle.std.proofs.lemmas.Grind.{common_steps}
-use Rattle.std.proofs.lemmas.List.{map-append, length-map, length-take, take-append-drop}
+use Rattle.std.proofs.lemmas.List.{map-append}
 use Rattle.std.proofs.lemmas.List.Concat.{flat_map-append}
 use Rattle.prolly_entry.specs.Pair.{Pair, IsPair}
 use Rattle.prolly_entry.specs.Reference.{reference_of}
@@ -18,16 +16,14 @@ use Rattle.prolly_tree.specs.Tree.{child_entry}
 use Rattle.prolly_tree.specs.lemmas.Maps.{last_key_short}
 use Rattle.prolly_tree.specs.lemmas.Splits.{flat}
 use Rattle.prolly_laws.specs.Trees.{pairs_are}
-use Rattle.prolly_check.specs.Entries.{Child, IsChild, entry_of, Holds, AllHold, pairs_in, IsBad}
+use Rattle.prolly_check.specs.Entries.{Child, IsChild, entry_of, AllHold, pairs_in}
 use Rattle.prolly_check.specs.Entries.{IsWhole, AreWhole, IsNode, IsSomeLeaf, children_in}
-use Rattle.prolly_check.specs.Frames.{chunk_in, chunks_in}
 pub use Rattle.prolly_check.specs.HeldPairs.{bytes_in, pairs_held}
 use Rattle.prolly_check.specs.FirstFault.{chunk_bytes}
 use Rattle.prolly_check.specs.Kinds.{kind_of}
 use Rattle.prolly_check.specs.Kinds.Entries.{Leaf, Node}
 use Rattle.prolly_check.specs.lemmas.Held.{held_is}
 use Rattle.prolly_check.specs.lemmas.ReadEntries.{leaf_pairs}
-use Rattle.prolly_check.specs.declared.verdict.fault.CheckFault.TheVariants as faults
 
 -- ---- the pairs that chunks hold
 
@@ -194,30 +190,3 @@ module _ (version : Version) where
 pub map_holds : (version : Version) (bits : ℕ) (pairs : List Pair) → AllByRecursion IsPair pairs →
     HoldPairs version (chunk_bytes version bits pairs) pairs
 map_holds version bits pairs lawful = grind (arith, pairs_are, tree_holds)
-
--- ---- testing the chunks of a file one after another
-
-module _ (version : Version) (bytes : List ℕ) (spans : List (Range ℕ)) (n : ℕ) (other : Range ℕ)
-    (chunk : List ℕ) (within : n < length spans)
-    (is : chunk ≡ chunk_in bytes (get_or spans n other))
-    (before : AreWhole version (chunks_in bytes (take n spans))) where
-  pub bad_next : ((pairs : List Pair) → Holds version chunk pairs → ⊥) →
-      IsBad version (chunks_in bytes spans) (faults.BadChunk n)
-  bad_next bad = record {
-    before = chunks_in bytes (take n spans);
-    chunk = chunk;
-    after = chunks_in bytes (drop (suc n) spans);
-    lists = map pairs_held (chunks_in bytes (take n spans));
-    whole = ap (chunks_in bytes) (sym (take-append-drop n spans) ∙
-        ap (λ rest. take n spans ++ rest) (drop-cons spans n other within))
-        ∙ map-append (chunk_in bytes) (take n spans) (get_or spans n other ∷ drop (suc n) spans)
-        ∙ ap (λ c. chunks_in bytes (take n spans) ++ c ∷ chunks_in bytes (drop (suc n) spans))
-        (sym is);
-    good = all_hold version (chunks_in bytes (take n spans)) before;
-    bad = bad;
-    is = ap faults.BadChunk (omega (
-      arith,
-      length-map (take n spans) (chunk_in bytes),
-      length-take n spans,
-    ));
-  }

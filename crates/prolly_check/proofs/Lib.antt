@@ -10,6 +10,10 @@ pub mod EntryLists
 pub mod HeldPairs
 -- Reading keys one after another, those of a chunk and those of a file.
 pub mod RisingKeys
+-- Counting the pairs of a leaf, one after another.
+pub mod PairCounts
+-- What is told of chunks, of one after another.
+pub mod DigestLists
 -- The references of the chunks of a file, and an index of them, made chunk by chunk.
 pub mod IndexSteps
 -- The numbers of a tree: its levels, the sizes of its chunks, those that others lack.

@@ -1,14 +1,13 @@
 -- Reading keys one after another, those of a chunk and those of a file.
 use Rattle.std.proofs.Common.{◌≡◌, ℕ, Bool, true, false, ◌&&◌, List, [], ◌∷◌, ◌++◌, drop, map}
-use Rattle.std.proofs.Common.{Option, Some, None, Result, Ok, Err, IfOk, refl, arith, ◌↔◌, Ordering}
-use Rattle.std.specs.Prelude.{IsTrue, OnErr, is_ok}
+use Rattle.std.proofs.Common.{Option, Some, None, refl, sym, ap, ◌∙◌, arith, ◌↔◌, Ordering}
 use Rattle.std.specs.Ordering.{is_lt}
 use Rattle.std.specs.declared.cmp.Ordering.TheVariants.{Less, Equal, Greater}
 use Rattle.std.proofs.lemmas.Bool.{false≢true}
 use Rattle.std.proofs.lemmas.Grind.{common_steps}
 use Rattle.prolly_entry.specs.Keys.{Rising, RisingFrom}
 use Rattle.prolly_entry.specs.Pair.{Pair}
-use Rattle.prolly_entry.specs.Position.{Position}
+use Rattle.prolly_entry.specs.Position.{Position, is_before}
 use Rattle.prolly_check.specs.HeldPairs.{pairs_held}
 use Rattle.prolly_check.specs.FirstFault.{RisesTo, order_fault, rises_behind, last_behind}
 
@@ -22,6 +21,11 @@ pub rises_append : (last : Option (List ℕ)) (xs ys : List Pair) →
     rises_behind last (xs ++ ys) ≡ (rises_behind last xs && rises_behind (last_behind last xs) ys)
 rises_append last [] ys = refl
 rises_append last (x ∷ xs) ys = simp (common_steps, and_assoc, rises_append (Some x.key) xs ys)
+
+pub last_append : (last : Position) (xs ys : List Pair) →
+    last_behind last (xs ++ ys) ≡ last_behind (last_behind last xs) ys
+last_append last [] ys = refl
+last_append last (x ∷ xs) ys = last_append (Some x.key) xs ys
 
 pub is_less : (o : Ordering) → is_lt o ≡ true → o ≡ Less
 is_less Less h = refl
@@ -37,20 +41,17 @@ pub rising_is : (ps : List Pair) → (rises_behind None ps ≡ true) ↔ Rising 
 rising_is [] = (λ h. tt, λ h. refl)
 rising_is (p ∷ ps) = rises_is p.key ps
 
--- ---- in a leaf
+-- ---- behind a key
 
--- the keys before the rest of a leaf rise from the one key to the other
-pub record LeafRises (first : Option (List ℕ)) (leaf : List Pair) (last : Option (List ℕ))
-    (rest : List Pair) : Type 0 where
-  pub rises : rises_behind first leaf ≡ rises_behind last rest
-  pub last_is : last_behind first leaf ≡ last_behind last rest
-
--- who has read its keys tells whether they rise
-pub read_rises : {A E : Type 0} (read : Result A E) (last : A → Position) (ps : List Pair) →
-    IfOk read (λ new. RisesTo None ps (last new)) → OnErr read (rises_behind None ps ≡ false) →
-    IsTrue (is_ok read) ↔ Rising (map (λ p. p.key) ps)
-read_rises (Ok new) last ps ok err = grind (arith, rising_is)
-read_rises (Err fault) last ps ok err = grind (arith, rising_is)
+-- keys that rise do so behind a key that is less than the first one
+pub rises_all : (last new : Position) (ps : List Pair) (p : Pair) (rest : List Pair) →
+    ps ≡ p ∷ rest → rises_behind None ps ≡ true → is_before last (Some p.key) ≡ true →
+    new ≡ last_behind None ps → RisesTo last ps new
+rises_all last new ps p rest are inside first is = record {
+  rises = ap (rises_behind last) are ∙ ap (λ b. b && rises_behind (Some p.key) rest) first ∙
+      sym (ap (rises_behind None) are) ∙ inside;
+  last_is = is ∙ ap (last_behind None) are ∙ sym (ap (last_behind last) are);
+}
 
 -- ---- over chunks
 

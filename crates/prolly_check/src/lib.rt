@@ -21,4 +21,6 @@ pub use numbers::{Level, Missing};
 pub use report::{FileReport, check_bytes};
 pub use stream::{RootReport, StreamFault, check_by_root};
 pub use tree::{NoCounts, Tree};
-pub use verdict::{CheckFault, ChunkDigest, ChunkHasher, ManyThreads, OneThread, check, check_by};
+pub use verdict::{
+    CheckFault, ChunkDigest, ChunkHasher, ManyThreads, OneThread, PairsDigest, check, check_by,
+};

@@ -8,12 +8,14 @@ mod follower;
 mod frames;
 mod levels;
 mod order;
+mod pairs_digest;
 
-pub(crate) use checker::inspect;
+pub(crate) use checker::{cut_of, inspect};
 pub use checker::{check, check_by};
 pub(crate) use chunks_ahead::ChunksAhead;
 pub use digests::{ChunkDigest, ChunkHasher, ManyThreads, OneThread};
 pub use fault::CheckFault;
 pub(crate) use follower::Follower;
-pub(crate) use frames::{chunk_at, find_frames, is_whole, test_chunks};
+pub(crate) use frames::{chunk_at, find_frames, is_whole};
 pub(crate) use order::last_in;
+pub use pairs_digest::PairsDigest;

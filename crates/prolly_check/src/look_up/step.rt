@@ -11,7 +11,7 @@ ghost use Rattle.prolly_check.specs.Way.{FallsTo, IsNamed, IsOrdered, entry_keys
 
 use crate::entries::{LEAF, Pairs, pairs_of, split_first_child};
 use crate::look_up::sought::{ChildSought, Mark, Sought, child_sought};
-use crate::verdict::{is_whole, last_in};
+use crate::verdict::is_whole;
 use prolly_entry::{Ref, Version, key_rises};
 
 /// The chunk that is due next on the way of a look-up.
@@ -154,9 +154,23 @@ fn keys_rise(version: Version, chunk: &[u8]) -> bool
     ensures { IsTrue result ↔ Rising (entry_keys (kind_of version chunk.now)) }
 {
     if chunk[0] == LEAF {
-        return last_in(None, pairs_of(version, chunk)).is_ok();
+        return pairs_rise(pairs_of(version, chunk));
     }
     children_rise(version, &chunk[1..])
+}
+
+/// Whether each key of a leaf's pairs is greater than the one before it.
+fn pairs_rise(mut leaf: Pairs) -> bool
+    ensures { IsTrue result ↔ Rising (map (λ p. p.key) leaf.entry) }
+{
+    let mut last = None;
+    while let Some((key, _)) = leaf.next() {
+        if !key_rises(last, key) {
+            return false;
+        }
+        last = Some(key);
+    }
+    true
 }
 
 /// Whether each key of a node's entries is greater than the one before it.

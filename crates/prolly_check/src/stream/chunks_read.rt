@@ -7,18 +7,15 @@ ghost use Rattle.prolly_file.specs.Frame.{has_no_frame};
 ghost use Rattle.prolly_check.specs.ChunksRead.{AreRead, BodyRead, EndsChunks, EndsRecord, GoesOver};
 ghost use Rattle.prolly_check.specs.ChunksRead.{TakesChunk};
 ghost use Rattle.prolly_check.specs.Digests.{AreDigests, IsDigest};
-ghost use Rattle.prolly_check.specs.Entries.{AreWhole, IsWhole};
 ghost use Rattle.prolly_check.specs.Frames.{IsWithin, chunks_in};
 ghost use Rattle.prolly_check.specs.FirstFault.{last_behind, rises_behind};
 ghost use Rattle.prolly_check.specs.FirstFlaw.{IsBodyFault};
 ghost use Rattle.prolly_check.specs.Follower.{IsAlike};
 ghost use Rattle.prolly_check.specs.HeldPairs.{pairs_held};
 
-use crate::entries::{Pairs, pairs_of};
 use crate::stream::incoming::let_go;
 use crate::verdict::{
     CheckFault, ChunkDigest, ChunkHasher, ChunksAhead, Follower, chunk_at, find_frames, last_in,
-    test_chunks,
 };
 use prolly_entry::{Ref, Sha512Cut, Version};
 use prolly_file::{END_LETTER, END_SIZE, FRAME_LETTER, end_record};
@@ -53,7 +50,7 @@ impl ChunksRead {
         })
     }
 
-    /// Takes the next chunk, which was tested and hashed, or tells its flaw. After an `Err` this is
+    /// Takes the next chunk, or tells its flaw. After an `Err` this is
     /// of no use.
     fn take(
         &mut self,
@@ -62,8 +59,7 @@ impl ChunksRead {
         digest: ChunkDigest,
         next: &ChunksAhead,
     ) -> Result<(), CheckFault>
-        requires whole { IsWhole self.old.follower.version chunk.now }
-        requires digest { IsDigest self.old.follower.cut chunk.now digest }
+        requires digest { IsDigest self.old.follower.version self.old.follower.cut chunk.now digest }
         requires few { self.old.count + 1 < 2 ^ 64 }
         ensures takes { TakesChunk self.old self.new chunk.now result }
         ensures unread { IfErr result (λ fault. fault ≢ CheckFault.Read) }
@@ -71,7 +67,7 @@ impl ChunksRead {
         ensures count { OnOk result (self.new.count ≡ self.old.count + 1) }
     {
         let number = self.count;
-        if !self.rises_to(alloc, pairs_of(self.follower.version, chunk))? {
+        if !self.rises_to(alloc, chunk, digest)? {
             return Err(CheckFault::KeysOutOfOrder { chunk: number });
         }
         self.follower.take(alloc, number, chunk, digest, next)?;
@@ -117,8 +113,8 @@ impl ChunksRead {
 
     /// Takes the chunks that lie there, up to the first that has a flaw.
     ///
-    /// Takes a hash of each chunk, and of a leaf one of each pair up to its first boundary, which
-    /// `hasher` takes of all of them before the first one is looked at.
+    /// `hasher` goes over all of them before the first one is taken: a chunk is hashed once, and of a
+    /// leaf each pair up to its first boundary.
     fn go_over<H: ChunkHasher>(
         &mut self,
         hasher: &H,
@@ -134,39 +130,17 @@ impl ChunksRead {
         ensures alike { IsAlike self.old.follower self.new.follower }
         ensures count { OnOk result (self.new.count ≡ self.old.count + length spans.now) }
     {
-        match test_chunks(self.follower.version, bytes, spans) {
-            Ok(()) => self.take_all(hasher, alloc, bytes, spans),
-            Err(CheckFault::BadChunk { chunk }) => {
-                self.take_all(hasher, alloc, bytes, &spans[..chunk])?;
-                Err(CheckFault::BadChunk { chunk: self.count })
-            }
-            Err(fault) => Err(fault),
-        }
-    }
-
-    /// Takes the chunks that lie there, which were tested.
-    fn take_all<H: ChunkHasher>(
-        &mut self,
-        hasher: &H,
-        alloc: Global,
-        bytes: &[u8],
-        spans: &[Range<usize>],
-    ) -> Result<(), CheckFault>
-        requires can { H.can_hash hasher.now }
-        requires within { AllByRecursion (IsWithin bytes.now) spans.now }
-        requires whole { AreWhole self.old.follower.version (chunks_in bytes.now spans.now) }
-        requires few { self.old.count + length spans.now < 2 ^ 64 }
-        ensures over { GoesOver self.old self.new (chunks_in bytes.now spans.now) result }
-        ensures unread { IfErr result (λ fault. fault ≢ CheckFault.Read) }
-        ensures alike { IsAlike self.old.follower self.new.follower }
-        ensures count { OnOk result (self.new.count ≡ self.old.count + length spans.now) }
-    {
         let (cut, version) = (self.follower.cut, self.follower.version);
         let digests = hasher.digests(alloc, cut, version, bytes, spans)?;
-        self.take_hashed(alloc, bytes, spans, &digests)
+        let count = digests.len();
+        self.take_hashed(alloc, bytes, &spans[..count], &digests)?;
+        if count < spans.len() {
+            return Err(CheckFault::BadChunk { chunk: self.count });
+        }
+        Ok(())
     }
 
-    /// Takes the chunks that lie there, which were tested and hashed.
+    /// Takes the chunks that lie there, which have these digests.
     fn take_hashed(
         &mut self,
         alloc: Global,
@@ -175,9 +149,8 @@ impl ChunksRead {
         digests: &[ChunkDigest],
     ) -> Result<(), CheckFault>
         requires within { AllByRecursion (IsWithin bytes.now) spans.now }
-        requires whole { AreWhole self.old.follower.version (chunks_in bytes.now spans.now) }
-        requires digests { AreDigests self.old.follower.cut (chunks_in bytes.now spans.now)
-            digests.now }
+        requires digests { AreDigests self.old.follower.version self.old.follower.cut
+            (chunks_in bytes.now spans.now) digests.now }
         requires few { self.old.count + length spans.now < 2 ^ 64 }
         ensures over { GoesOver self.old self.new (chunks_in bytes.now spans.now) result }
         ensures unread { IfErr result (λ fault. fault ≢ CheckFault.Read) }
@@ -190,7 +163,7 @@ impl ChunksRead {
         Ok(())
     }
 
-    /// Takes the chunk of this number of those that lie there, which were tested and hashed.
+    /// Takes the chunk of this number of those that lie there, which have these digests.
     fn take_one(
         &mut self,
         alloc: Global,
@@ -200,9 +173,8 @@ impl ChunksRead {
         number: usize,
     ) -> Result<(), CheckFault>
         requires within { AllByRecursion (IsWithin bytes.now) spans.now }
-        requires whole { AreWhole self.old.follower.version (chunks_in bytes.now spans.now) }
-        requires digests { AreDigests self.old.follower.cut (chunks_in bytes.now spans.now)
-            digests.now }
+        requires digests { AreDigests self.old.follower.version self.old.follower.cut
+            (chunks_in bytes.now spans.now) digests.now }
         requires there { number < length spans.now }
         requires few { self.old.count + 1 < 2 ^ 64 }
         ensures takes { TakesChunk self.old self.new
@@ -256,13 +228,19 @@ impl ChunksRead {
         Ok((count as u64, reference))
     }
 
-    /// Whether the keys of a leaf rise behind those that were read. Keeps the last one.
-    fn rises_to(&mut self, alloc: Global, leaf: Pairs) -> Result<bool, AllocError>
+    /// Whether the keys of a chunk rise behind those that were read. Keeps the last one.
+    fn rises_to(
+        &mut self,
+        alloc: Global,
+        chunk: &[u8],
+        digest: ChunkDigest,
+    ) -> Result<bool, AllocError>
+        requires { (bits : ℕ) × IsDigest self.old.follower.version bits chunk.now digest }
         ensures rises { IfOk result (λ rises. rises ≡ rises_behind
-            (option_map (λ key. key.items) self.old.last_key) leaf.entry) }
+            (option_map (λ key. key.items) self.old.last_key) (pairs_held chunk.now)) }
         ensures last { IfOk result (λ rises. rises ≡ true →
             option_map (λ key. key.items) self.new.last_key ≡
-            last_behind (option_map (λ key. key.items) self.old.last_key) leaf.entry) }
+            last_behind (option_map (λ key. key.items) self.old.last_key) (pairs_held chunk.now)) }
         ensures same { (self.new.follower ≡ self.old.follower) × (self.new.count ≡ self.old.count) ×
             (self.new.reference ≡ self.old.reference) }
     {
@@ -270,7 +248,7 @@ impl ChunksRead {
             Some(key) => Some(key.as_slice()),
             None => None,
         };
-        let Ok(last) = last_in(last, leaf) else {
+        let Ok(last) = last_in(last, self.follower.version, chunk, digest) else {
             return Ok(false);
         };
         let Some(key) = last else {

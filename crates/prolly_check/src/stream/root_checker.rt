@@ -11,8 +11,8 @@ ghost use Rattle.prolly_check.specs.Incoming.{Reads};
 use crate::stream::chunks_read::ChunksRead;
 use crate::stream::fault::StreamFault;
 use crate::stream::incoming::{fill, let_go};
-use crate::verdict::{CheckFault, ChunkHasher};
-use prolly_entry::{Ref, Sha512Cut, Version};
+use crate::verdict::{CheckFault, ChunkHasher, cut_of};
+use prolly_entry::{Ref, Version};
 use prolly_file::{HEADER_SIZE, Header, PartReader, Source, read_header};
 use std::alloc::Global;
 
@@ -33,7 +33,7 @@ pub struct RootReport {
 /// no fault here, since the root is given.
 ///
 /// Takes time linear in the bytes, and hashes what [`check`](crate::check) hashes. Holds a window
-/// of 16 MiB, or twice a chunk that is larger, some 40 bytes for each chunk in it, and one open chunk
+/// of 16 MiB, or twice a chunk that is larger, some 120 bytes for each chunk in it, and one open chunk
 /// of each level, whatever the file's size. For a chunk longer than
 /// [`CHUNK_LIMIT`](crate::CHUNK_LIMIT) no memory is taken.
 pub fn check_by_root<H: ChunkHasher, S: Source>(
@@ -132,11 +132,7 @@ fn check_body<H: ChunkHasher, S: Source>(
         (bytes.old.items ++ (S.seen source.old).left) result }
     ensures source { Reads (S.seen source.old) (S.seen source.new) CheckFault.Read result }
 {
-    let cut = match Sha512Cut::new(header.bits) {
-        Some(cut) => cut,
-        None => unreachable!(),
-    };
-    let mut read = ChunksRead::new(alloc, cut, header.version)?;
+    let mut read = ChunksRead::new(alloc, cut_of(header), header.version)?;
     let mut size = 0;
     loop {
         fill(source, reader, bytes)?;

@@ -20,8 +20,8 @@ use std::alloc::Global;
 /// Tests that the chunks of a file are those of the file of the pairs that they hold, or tells the
 /// first that is not.
 ///
-/// Follows them in their order. Holds an open node of each level beside the file, and takes one hash
-/// of each child of a node.
+/// Follows them in their order, and reads no pair. Holds an open node of each level beside the file,
+/// and takes one hash of each child of a node.
 pub(crate) fn test_followed(
     alloc: Global,
     cut: Sha512Cut,
@@ -31,7 +31,7 @@ pub(crate) fn test_followed(
 ) -> Result<(), CheckFault>
     requires whole { AreWhole version chunks.now }
     requires few { length (flat_map pairs_held chunks.now) < 2 ^ 64 }
-    requires digests { AreDigests cut chunks.now digests.now }
+    requires digests { AreDigests version cut chunks.now digests.now }
     ensures ok { OnOk result (CompareAs version cut chunks.now None) }
     ensures err { IfErr result (UnlessMemory (λ fault.
         CompareAs version cut chunks.now (Some fault))) }

@@ -1,26 +1,27 @@
 //! The checker: its steps, in the order in which their faults are named.
 ghost use Rattle.std.specs.Prelude.{◌≡◌, ◌≢◌, ◌↔◌, ◌⊎◌, ◌∷◌, ◌<◌, ◌≤◌, ◌^◌, true, None, Some};
 ghost use Rattle.std.specs.Prelude.{drop, length, Err, IfOk, OnOk, IfErr, IsErrOf};
-ghost use Rattle.std.specs.List.{flat_map};
+ghost use Rattle.std.specs.List.{flat_map, AllByRecursion};
 ghost use Rattle.prolly_check.specs.FirstFault.{Says, ending_of_chunks};
 ghost use Rattle.prolly_check.specs.Verdict.{IsRefusal, IsFileOf, IsVerdict, UnlessMemory};
 ghost use Rattle.prolly_check.specs.Chunks.{IsChecked, IsFile, IsLaidOut, AreReferences};
 ghost use Rattle.prolly_check.specs.Content.{Content};
 ghost use Rattle.prolly_check.specs.Digests.{AreDigests};
-ghost use Rattle.prolly_check.specs.Entries.{AreWhole};
+ghost use Rattle.prolly_check.specs.Entries.{AreWhole, IsBad};
 ghost use Rattle.prolly_check.specs.HeldPairs.{pairs_held};
-ghost use Rattle.prolly_check.specs.Frames.{chunks_in};
+ghost use Rattle.prolly_check.specs.Frames.{IsWithin, chunks_in};
 
 use crate::chunks::{Chunks, Index, Layout};
 use crate::tree::Tree;
 use crate::verdict::canonical::test_followed;
 use crate::verdict::digests::{ChunkDigest, ChunkHasher, OneThread, references_of};
 use crate::verdict::fault::CheckFault;
-use crate::verdict::frames::{find_frames, test_chunks, test_ending};
+use crate::verdict::frames::{find_frames, test_ending};
 use crate::verdict::order::test_order;
 use prolly_entry::{Ref, Sha512Cut, Version};
-use prolly_file::{HEADER_SIZE, Source, end_record, read_header, read_whole};
+use prolly_file::{HEADER_SIZE, Header, Source, end_record, read_header, read_whole};
 use std::alloc::Global;
+use std::ops::Range;
 
 /// Reads a source to its end, and accepts its bytes exactly where they are the file of a map, of a
 /// version and a number of bits from 0 to 24, no two of whose chunks have one reference.
@@ -30,9 +31,9 @@ use std::alloc::Global;
 /// chunks and the end record against those of the file of the same pairs; the references.
 ///
 /// Takes time linear in the bytes, but for the ordering of the references. Hashes each chunk once,
-/// and each entry once; the entries of a leaf that is not whole, as the last one often is not, it
-/// hashes twice. Beside the bytes it holds the place and the digest of each chunk, while the chunks
-/// are followed one open node of each level, and then the index of the references.
+/// and each entry of a lawful file once. Beside the bytes it holds the place and the digest of each
+/// chunk, while the chunks are followed one open node of each level, and then the index of the
+/// references.
 pub fn check<S: Source>(alloc: Global, source: &mut S, max_bytes: u32) -> Result<Tree, CheckFault>
     // What is accepted are the bytes of the source, and they are the file of a map.
     ensures same { (S.seen source.old).is_honest ≡ true →
@@ -116,55 +117,101 @@ pub(crate) fn inspect<H: ChunkHasher>(
         AreReferences (chunks_in bytes.now r.0.spans.items) r.1.items) }
     ensures err { IfErr result (UnlessMemory (λ fault. IsVerdict bytes.now (Err fault))) }
 {
-    let (layout, end) = lay_out(alloc, bytes)?;
-    let references = test_laid_out(hasher, alloc, bytes, &layout, end)?;
+    let (layout, digests, end) = lay_out(hasher, alloc, bytes)?;
+    let references = test_laid_out(alloc, bytes, &layout, digests, end)?;
     let index = Index::new(alloc, &references)?;
     Ok((layout, references, index))
 }
 
-/// The layout of a file, and where its frames end: the header, the frames, the end record and the
-/// entries are tested.
-fn lay_out(alloc: Global, bytes: &[u8]) -> Result<(Layout, usize), CheckFault>
-    ensures ok { IfOk result (λ r. IsLaidOut bytes.now r.0.header r.0.spans.items r.1) }
+/// The layout of a file, the digests of its chunks, and where its frames end: the header, the frames,
+/// the end record and the entries are tested.
+fn lay_out<H: ChunkHasher>(
+    hasher: &H,
+    alloc: Global,
+    bytes: &[u8],
+) -> Result<(Layout, Vec<ChunkDigest>, usize), CheckFault>
+    requires { H.can_hash hasher.now }
+    ensures ok { IfOk result (λ r. IsLaidOut bytes.now r.0.header r.0.spans.items r.2) }
+    ensures digests { IfOk result (λ r. AreDigests r.0.header.version r.0.header.bits
+        (chunks_in bytes.now r.0.spans.items) r.1.items) }
     ensures err { IfErr result (UnlessMemory (λ fault. IsVerdict bytes.now (Err fault))) }
 {
     let header = read_header(bytes)?;
     let frames = find_frames(alloc, bytes, HEADER_SIZE)?;
     test_ending(&bytes[frames.end..], frames.spans.len())?;
-    test_chunks(header.version, bytes, &frames.spans)?;
+    let digests = digests_in(hasher, alloc, header, bytes, &frames.spans)?;
     let layout = Layout {
         header,
         spans: frames.spans,
     };
-    Ok((layout, frames.end))
+    Ok((layout, digests, frames.end))
 }
 
-/// Tests the keys, the chunks and the end record of a file that is laid out so. Answers the
-/// reference of each chunk.
-fn test_laid_out<H: ChunkHasher>(
+/// The digests of the chunks that lie there, where each is a level and whole lawful entries of that
+/// level's kind; or the first that is not.
+fn digests_in<H: ChunkHasher>(
     hasher: &H,
+    alloc: Global,
+    header: Header,
+    bytes: &[u8],
+    spans: &[Range<usize>],
+) -> Result<Vec<ChunkDigest>, CheckFault>
+    requires can { H.can_hash hasher.now }
+    requires bits { header.bits ≤ 24 }
+    requires within { AllByRecursion (IsWithin bytes.now) spans.now }
+    ensures ok { IfOk result (λ digests. AreDigests header.version header.bits
+        (chunks_in bytes.now spans.now) digests.items) }
+    ensures err { IfErr result (UnlessMemory
+        (IsBad header.version (chunks_in bytes.now spans.now))) }
+{
+    let digests = hasher.digests(alloc, cut_of(header), header.version, bytes, spans)?;
+    let count = digests.len();
+    if count < spans.len() {
+        return Err(CheckFault::BadChunk { chunk: count });
+    }
+    Ok(digests)
+}
+
+/// The cut of a header, whose number of bits was tested.
+pub(crate) fn cut_of(header: Header) -> Sha512Cut
+    requires { header.bits ≤ 24 }
+    ensures { result ≡ header.bits }
+{
+    match Sha512Cut::new(header.bits) {
+        Some(cut) => cut,
+        None => unreachable!(),
+    }
+}
+
+/// Tests the keys, the chunks and the end record of a file that is laid out so, by the digests of its
+/// chunks, which are let go. Answers the reference of each chunk.
+fn test_laid_out(
     alloc: Global,
     bytes: &[u8],
     layout: &Layout,
+    digests: Vec<ChunkDigest>,
     end: usize,
 ) -> Result<Vec<Ref>, CheckFault>
-    requires can { H.can_hash hasher.now }
     requires short { length bytes.now < 2 ^ 64 }
     requires laid { IsLaidOut bytes.now layout.now.header layout.now.spans.items end }
+    requires digests { AreDigests layout.now.header.version layout.now.header.bits
+        (chunks_in bytes.now layout.now.spans.items) digests.items }
     ensures ok { OnOk result (Says layout.now.header.version layout.now.header.bits
         (chunks_in bytes.now layout.now.spans.items) (drop end bytes.now) None) }
     ensures references { IfOk result (λ references.
         AreReferences (chunks_in bytes.now layout.now.spans.items) references.items) }
     ensures err { IfErr result (UnlessMemory (λ fault. IsVerdict bytes.now (Err fault))) }
 {
-    let cut = match Sha512Cut::new(layout.header.bits) {
-        Some(cut) => cut,
-        None => unreachable!(),
-    };
-    let version = layout.header.version;
-    let digests = hasher.digests(alloc, cut, version, bytes, &layout.spans)?;
+    let cut = cut_of(layout.header);
     let chunks = Chunks::new(bytes, layout);
-    test_canonical(alloc, cut, version, &chunks, &digests, &bytes[end..])
+    test_canonical(
+        alloc,
+        cut,
+        layout.header.version,
+        &chunks,
+        &digests,
+        &bytes[end..],
+    )
 }
 
 /// Tests that the keys rise, and that the chunks and the end record are those of the file of the
@@ -179,14 +226,14 @@ fn test_canonical(
 ) -> Result<Vec<Ref>, CheckFault>
     requires whole { AreWhole version chunks.now }
     requires few { length (flat_map pairs_held chunks.now) < 2 ^ 64 }
-    requires digests { AreDigests cut chunks.now digests.now }
+    requires digests { AreDigests version cut chunks.now digests.now }
     ensures ok { OnOk result (Says version cut chunks.now end.now None) }
     ensures references { IfOk result (λ references.
         AreReferences chunks.now references.items) }
     ensures err { IfErr result (UnlessMemory (λ fault.
         Says version cut chunks.now end.now (Some fault))) }
 {
-    test_order(chunks)?;
+    test_order(version, chunks, digests)?;
     test_followed(alloc, cut, version, chunks, digests)?;
     let references = references_of(alloc, digests)?;
     test_end(end, chunks, &references)?;

@@ -1,37 +1,52 @@
-//! The hashes of a file, taken by one thread or by many, and what they tell of each chunk.
-ghost use Rattle.std.specs.Prelude.{◌≡◌, ◌<◌, ⊤, [], true, get_or, length, map, IfOk};
+//! What is told of the chunks of a file by who has hashed them, one thread or many.
+ghost use Rattle.std.specs.Prelude.{◌≡◌, ◌<◌, ⊤, [], ℕ, List, get_or, length, map, IfOk};
 ghost use Rattle.std.specs.List.{AllByRecursion};
 ghost use Rattle.std.specs.Thread.{IsSync};
-ghost use Rattle.prolly_entry.specs.Cut.{sha512_cut};
-ghost use Rattle.prolly_chunk.specs.LeafLevel.{is_whole_leaf};
-ghost use Rattle.prolly_check.specs.Digests.{AreDigests, IsDigest};
-ghost use Rattle.prolly_check.specs.Entries.{AreWhole, IsWhole};
+ghost use Rattle.prolly_entry.specs.declared.version.Version.{Version as VersionValue};
+ghost use Rattle.prolly_check.specs.Digests.{AreDigestsOf, EachHas, Tells};
 ghost use Rattle.prolly_check.specs.Frames.{IsWithin, chunks_in};
 
-use crate::entries::{Pairs, pairs_of};
 use crate::verdict::frames::chunk_at;
-use prolly_entry::{Cut, Ref, Sha512Cut, Version};
+use crate::verdict::pairs_digest::PairsDigest;
+use prolly_entry::{Ref, Sha512Cut, Version};
 use std::alloc::{AllocError, Global};
 use std::num::NonZeroUsize;
 use std::ops::Range;
 use std::thread::{Threads, for_each_mut};
 
-/// What the hashes of a chunk tell.
+/// How many bytes of chunks there are at least for each thread. To hash as many takes longer than to
+/// start a thread.
+const BYTES_PER_THREAD: usize = 65_536;
+
+/// What is told of a chunk that is a level and whole lawful entries of that level's kind.
 #[derive(Clone, Copy)]
 pub struct ChunkDigest {
     /// The reference of the chunk.
     pub reference: Ref,
-    /// Whether the chunk is a leaf whose last pair is a boundary, and no pair before it is.
-    pub is_whole_leaf: bool,
+    /// What its pairs tell.
+    pub pairs: PairsDigest,
 }
 
-/// Who takes the hashes of a file: one thread, or many.
+impl ChunkDigest {
+    /// The digest of a chunk; none where it is not whole. Takes a hash of the chunk and, of a leaf,
+    /// one of each pair up to the first boundary.
+    fn of(cut: Sha512Cut, version: Version, chunk: &[u8]) -> Option<ChunkDigest>
+        ensures { Tells version cut chunk.now result }
+    {
+        let pairs = PairsDigest::of(cut, version, chunk)?;
+        let reference = Ref::of(chunk);
+        Some(ChunkDigest { reference, pairs })
+    }
+}
+
+/// Who hashes the chunks of a file: one thread, or many.
 pub trait ChunkHasher {
     /// What threads need of the handle for them.
     ghost can_hash: { Self → Type 0 };
 
-    /// The digest of each chunk that lies there. Takes a hash of each chunk and, of a leaf, one of
-    /// each pair up to its first boundary.
+    /// The digests of the chunks that lie there, up to the first that is not a level and whole lawful
+    /// entries of that level's kind. Takes a hash of each chunk and, of a leaf, one of each pair up to
+    /// its first boundary.
     fn digests(
         &self,
         alloc: Global,
@@ -42,12 +57,11 @@ pub trait ChunkHasher {
     ) -> Result<Vec<ChunkDigest>, AllocError>
         requires can { can_hash self.now }
         requires within { AllByRecursion (IsWithin bytes.now) spans.now }
-        requires whole { AreWhole version (chunks_in bytes.now spans.now) }
         ensures { IfOk result (λ digests.
-            AreDigests cut (chunks_in bytes.now spans.now) digests.items) };
+            AreDigestsOf version cut (chunks_in bytes.now spans.now) digests.items) };
 }
 
-/// The thread that checks a file takes its hashes.
+/// The thread that checks a file hashes its chunks.
 #[derive(Clone, Copy)]
 pub struct OneThread;
 
@@ -66,8 +80,8 @@ impl ChunkHasher for OneThread {
     }
 }
 
-/// Threads take the hashes, an equal share of the chunks each. Where one can't be had, another does
-/// its work, so no file is refused for that.
+/// Threads hash the chunks, an equal share of them each. Where one can't be had, another does its
+/// work, so no file is refused for that.
 #[derive(Drop)]
 pub struct ManyThreads<'a, R: Threads + Sync> {
     rt: &'a R,
@@ -75,8 +89,8 @@ pub struct ManyThreads<'a, R: Threads + Sync> {
 }
 
 impl<'a, R: Threads + Sync> ManyThreads<'a, R> {
-    /// So many threads at most. Chunks are of many sizes, so some four threads a processor even the
-    /// shares out.
+    /// So many threads at most, and no more than one for each 64 KiB of chunks. Chunks are of many
+    /// sizes, so some four threads a processor even the shares out.
     pub fn new(rt: &'a R, threads: NonZeroUsize) -> ManyThreads<'a, R> {
         ManyThreads { rt, threads }
     }
@@ -93,11 +107,12 @@ impl<'a, R: Threads + Sync> ChunkHasher for ManyThreads<'a, R> {
         bytes: &[u8],
         spans: &[Range<usize>],
     ) -> Result<Vec<ChunkDigest>, AllocError> {
-        digests_in_threads(self.rt, self.threads, alloc, cut, version, bytes, spans)
+        let told = told_in_threads(self.rt, self.threads, alloc, cut, version, bytes, spans)?;
+        front_of(alloc, &told)
     }
 }
 
-/// The digests of all chunks, one after another.
+/// The digests of the chunks up to the first that is not whole, one after another.
 fn digests_of(
     alloc: Global,
     cut: Sha512Cut,
@@ -105,20 +120,23 @@ fn digests_of(
     bytes: &[u8],
     spans: &[Range<usize>],
 ) -> Result<Vec<ChunkDigest>, AllocError>
-    requires within { AllByRecursion (IsWithin bytes.now) spans.now }
-    requires whole { AreWhole version (chunks_in bytes.now spans.now) }
+    requires { AllByRecursion (IsWithin bytes.now) spans.now }
     ensures { IfOk result (λ digests.
-        AreDigests cut (chunks_in bytes.now spans.now) digests.items) }
+        AreDigestsOf version cut (chunks_in bytes.now spans.now) digests.items) }
 {
     let mut digests = Vec::with_capacity(alloc, spans.len())?;
     for number in 0..spans.len() {
-        digests.push(digest_at(cut, version, bytes, spans, number))?;
+        let Some(digest) = digest_at(cut, version, bytes, spans, number) else {
+            return Ok(digests);
+        };
+        digests.push(digest)?;
     }
     Ok(digests)
 }
 
-/// The digests of all chunks. The memory for them is taken first, so no thread takes any.
-fn digests_in_threads<R: Threads + Sync>(
+/// The digest of each chunk, or that it has none. The memory for all is taken first, so no thread
+/// takes any.
+fn told_in_threads<R: Threads + Sync>(
     rt: &R,
     threads: NonZeroUsize,
     alloc: Global,
@@ -126,66 +144,63 @@ fn digests_in_threads<R: Threads + Sync>(
     version: Version,
     bytes: &[u8],
     spans: &[Range<usize>],
-) -> Result<Vec<ChunkDigest>, AllocError>
-    requires within { AllByRecursion (IsWithin bytes.now) spans.now }
-    requires whole { AreWhole version (chunks_in bytes.now spans.now) }
-    ensures { IfOk result (λ digests.
-        AreDigests cut (chunks_in bytes.now spans.now) digests.items) }
+) -> Result<Vec<Option<ChunkDigest>>, AllocError>
+    requires { AllByRecursion (IsWithin bytes.now) spans.now }
+    ensures { IfOk result (λ told.
+        EachHas (Tells version cut) (chunks_in bytes.now spans.now) told.items) }
 {
-    let unknown = ChunkDigest {
-        reference: Ref::of(&[]),
-        is_whole_leaf: false,
-    };
-    let mut digests = Vec::new(alloc);
-    digests.resize(spans.len(), unknown)?;
-    let take = |number: usize, digest: &mut ChunkDigest|
-        requires { (number < length spans.now) × AllByRecursion (IsWithin bytes.now) spans.now
-            × AreWhole version (chunks_in bytes.now spans.now) }
-        ensures { IsDigest cut
-            (get_or (chunks_in bytes.entry.now spans.entry.now) number []) digest.exit.now }
-    { *digest = digest_at(cut, version, bytes, spans, number) };
-    for_each_mut(rt, digests.as_mut_slice(), threads.get(), &take);
-    Ok(digests)
+    let mut told = Vec::new(alloc);
+    told.resize(spans.len(), None)?;
+    let tell = |number: usize, told: &mut Option<ChunkDigest>|
+        requires { (number < length spans.now) × AllByRecursion (IsWithin bytes.now) spans.now }
+        ensures { Tells version cut
+            (get_or (chunks_in bytes.entry.now spans.entry.now) number []) told.exit.now }
+    { *told = digest_at(cut, version, bytes, spans, number) };
+    for_each_mut(
+        rt,
+        told.as_mut_slice(),
+        thread_count(threads, bytes.len()),
+        &tell,
+    );
+    Ok(told)
 }
 
-/// The digest of the chunk of this number.
+/// The digest of the chunk of this number; none where it is not whole.
 fn digest_at(
     cut: Sha512Cut,
     version: Version,
     bytes: &[u8],
     spans: &[Range<usize>],
     number: usize,
-) -> ChunkDigest
+) -> Option<ChunkDigest>
     requires number { number < length spans.now }
     requires within { AllByRecursion (IsWithin bytes.now) spans.now }
-    requires whole { AreWhole version (chunks_in bytes.now spans.now) }
-    ensures { IsDigest cut (get_or (chunks_in bytes.now spans.now) number []) result }
+    ensures { Tells version cut (get_or (chunks_in bytes.now spans.now) number []) result }
 {
-    digest_of(cut, version, chunk_at(bytes, &spans[number]))
+    ChunkDigest::of(cut, version, chunk_at(bytes, &spans[number]))
 }
 
-/// The digest of a chunk, by one hash of it and, of a leaf, one of each pair up to its first boundary.
-fn digest_of(cut: Sha512Cut, version: Version, chunk: &[u8]) -> ChunkDigest
-    requires { IsWhole version chunk.now }
-    ensures { IsDigest cut chunk.now result }
+/// How many threads share so many bytes of chunks.
+fn thread_count(most: NonZeroUsize, bytes: usize) -> usize
+    ensures { 0 < result }
 {
-    ChunkDigest {
-        reference: Ref::of(chunk),
-        is_whole_leaf: ends_whole(cut, pairs_of(version, chunk)),
-    }
+    most.get().min(bytes / BYTES_PER_THREAD).max(1)
 }
 
-/// Whether the last pair is a boundary, and no pair before it is. Takes one hash of each pair up to
-/// the first boundary.
-fn ends_whole(cut: Sha512Cut, mut leaf: Pairs) -> bool
-    ensures { result ≡ is_whole_leaf (sha512_cut cut) leaf.entry }
+/// The digests up to the first chunk that has none.
+fn front_of(alloc: Global, told: &[Option<ChunkDigest>]) -> Result<Vec<ChunkDigest>, AllocError>
+    ensures { (version : VersionValue) (bits : ℕ) (chunks : List (List ℕ)) →
+        EachHas (Tells version bits) chunks told.now → IfOk result (λ digests.
+        AreDigestsOf version bits chunks digests.items) }
 {
-    while let Some(spelling) = leaf.next_spelling() {
-        if cut.is_boundary(spelling) {
-            return leaf.is_empty();
-        }
+    let mut digests = Vec::with_capacity(alloc, told.len())?;
+    for digest in told {
+        let Some(digest) = digest else {
+            return Ok(digests);
+        };
+        digests.push(*digest)?;
     }
-    false
+    Ok(digests)
 }
 
 /// The references of chunks, of which these are the digests.

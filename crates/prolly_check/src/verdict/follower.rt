@@ -1,22 +1,16 @@
 //! What the chunks of a file that were read so far say of those that must follow.
 ghost use Rattle.std.specs.Prelude.{◌≡◌, ◌≢◌, ◌<◌, ℕ, [], ◌∷◌, true, false, None, List};
 ghost use Rattle.std.specs.Prelude.{IfOk, IfErr, OnOk};
-ghost use Rattle.std.specs.List.{list_any};
-ghost use Rattle.prolly_entry.specs.Cut.{sha512_cut};
-ghost use Rattle.prolly_entry.specs.Reference.{reference_of};
-ghost use Rattle.prolly_tree.specs.Tree.{pair_is_boundary};
 ghost use Rattle.prolly_check.specs.Digests.{IsDigest};
-ghost use Rattle.prolly_check.specs.Entries.{IsWhole};
 ghost use Rattle.prolly_check.specs.Follower.{EndsWith, Follows, IsAlike, TakesNext, place_of_end};
-ghost use Rattle.prolly_check.specs.HeldPairs.{bytes_in, pairs_held};
+ghost use Rattle.prolly_check.specs.HeldPairs.{bytes_in};
 
-use crate::entries::{Pairs, leaf_event, pairs_of};
 use crate::verdict::chunks_ahead::ChunksAhead;
 use crate::verdict::digests::ChunkDigest;
 use crate::verdict::fault::CheckFault;
 use crate::verdict::levels::{close_all, close_behind, new_nodes, pass_leaf};
 use prolly_chunk::{ChunkEvent, NodeLevel};
-use prolly_entry::{Cut, Ref, Sha512Cut, Version};
+use prolly_entry::{Sha512Cut, Version};
 use std::alloc::{AllocError, Global};
 use std::collections::VecDeque;
 
@@ -68,8 +62,7 @@ impl Follower {
         digest: ChunkDigest,
         next: &ChunksAhead,
     ) -> Result<(), CheckFault>
-        requires whole { IsWhole self.old.version chunk.now }
-        requires digest { IsDigest self.old.cut chunk.now digest }
+        requires digest { IsDigest self.old.version self.old.cut chunk.now digest }
         ensures takes { TakesNext self.old self.new number chunk.now result }
         ensures alike { IsAlike self.old self.new }
         ensures unread { IfErr result (λ fault. fault ≢ CheckFault.Read) }
@@ -82,7 +75,7 @@ impl Follower {
                 self.expect(number, chunk)
             }
             Some(from) => {
-                if !pairs_of(self.version, chunk).is_empty() {
+                if digest.pairs.count > 0 {
                     return Err(CheckFault::NotCanonical { chunk: from });
                 }
                 self.expect(number, chunk)
@@ -129,16 +122,15 @@ impl Follower {
         digest: ChunkDigest,
         next: &ChunksAhead,
     ) -> Result<(), CheckFault>
-        requires whole { IsWhole self.old.version chunk.now }
-        requires digest { IsDigest self.old.cut chunk.now digest }
+        requires digest { IsDigest self.old.version self.old.cut chunk.now digest }
         requires going { self.old.ending ≡ None }
         requires none { self.old.due.items ≡ [] }
         ensures takes { TakesNext self.old self.new number chunk.now result }
         ensures alike { IsAlike self.old self.new }
         ensures unread { IfErr result (λ fault. fault ≢ CheckFault.Read) }
     {
-        if digest.is_whole_leaf {
-            let event = leaf_event(self.version, chunk);
+        if digest.pairs.is_whole_leaf {
+            let event = digest.pairs.event(self.version, chunk);
             pass_leaf(
                 alloc,
                 &mut self.nodes,
@@ -149,10 +141,10 @@ impl Follower {
             )?;
             return Ok(());
         }
-        if has_boundary(self.cut, pairs_of(self.version, chunk)) {
+        if digest.pairs.has_boundary {
             return Err(CheckFault::NotCanonical { chunk: number });
         }
-        self.end(alloc, number, chunk, &digest.reference, next)
+        self.end(alloc, number, chunk, digest, next)
     }
 
     /// Takes the first chunk of the end, which is no whole leaf and has no boundary: the last leaf,
@@ -162,21 +154,19 @@ impl Follower {
         alloc: Global,
         number: usize,
         chunk: &[u8],
-        reference: &Ref,
+        digest: ChunkDigest,
         next: &ChunksAhead,
     ) -> Result<(), CheckFault>
-        requires whole { IsWhole self.old.version chunk.now }
-        requires reference { reference.now.0 ≡ reference_of chunk.now }
+        requires digest { IsDigest self.old.version self.old.cut chunk.now digest }
         requires going { self.old.ending ≡ None }
         requires none { self.old.due.items ≡ [] }
-        requires open { list_any (pair_is_boundary (sha512_cut self.old.cut))
-            (pairs_held chunk.now) ≡ false }
+        requires open { digest.pairs.has_boundary ≡ false }
         ensures takes { TakesNext self.old self.new number chunk.now result }
         ensures alike { IsAlike self.old self.new }
         ensures unread { IfErr result (λ fault. fault ≢ CheckFault.Read) }
     {
         self.ending = Some(number);
-        if pairs_of(self.version, chunk).is_empty() {
+        if digest.pairs.count == 0 {
             close_behind(
                 alloc,
                 self.cut,
@@ -187,12 +177,12 @@ impl Follower {
             )?;
             return self.expect(number, chunk);
         }
-        let event = leaf_event(self.version, chunk);
+        let event = digest.pairs.event(self.version, chunk);
         pass_leaf(
             alloc,
             &mut self.nodes,
             &event,
-            reference,
+            &digest.reference,
             next,
             &mut self.due,
         )?;
@@ -217,18 +207,6 @@ impl Follower {
         }
         Ok(())
     }
-}
-
-/// Whether one of the pairs is a boundary. Takes one hash of each pair up to the first boundary.
-fn has_boundary(cut: Sha512Cut, mut leaf: Pairs) -> bool
-    ensures { result ≡ list_any (pair_is_boundary (sha512_cut cut)) leaf.entry }
-{
-    while let Some(spelling) = leaf.next_spelling() {
-        if cut.is_boundary(spelling) {
-            return true;
-        }
-    }
-    false
 }
 
 /// Tests that no chunk must follow so many.

@@ -1,11 +1,10 @@
 //! The frames of a chunk file, and what follows them.
 ghost use Rattle.std.specs.Prelude.{◌≡◌, ◌≤◌, true, Ok, Err, length, drop, IfOk, IfErr, false};
 ghost use Rattle.std.specs.Prelude.{List, OnOk};
-ghost use Rattle.std.specs.List.{AllByRecursion};
 ghost use Rattle.prolly_entry.specs.Pair.{Pair as PairValue};
 ghost use Rattle.prolly_file.specs.Frame.{has_no_frame};
 ghost use Rattle.prolly_check.specs.Frames.{FramesTo, IsWithin, chunk_in, ending_of, chunks_in};
-ghost use Rattle.prolly_check.specs.Entries.{Holds, IsBad, IsWhole, AreWhole};
+ghost use Rattle.prolly_check.specs.Entries.{Holds, IsWhole};
 
 use crate::entries::{LEAF, is_leaf, is_node};
 use crate::verdict::fault::CheckFault;
@@ -62,25 +61,6 @@ pub(crate) fn chunk_at<'a>(bytes: &'a [u8], span: &Range<usize>) -> &'a [u8]
     ensures { result.now ≡ chunk_in bytes.now span.now }
 {
     &bytes[span.start..span.end]
-}
-
-/// Tests that each chunk is a level and whole lawful entries of that level's kind, or names the
-/// first that is not. Takes no memory.
-pub(crate) fn test_chunks(
-    version: Version,
-    bytes: &[u8],
-    spans: &[Range<usize>],
-) -> Result<(), CheckFault>
-    requires { AllByRecursion (IsWithin bytes.now) spans.now }
-    ensures ok { OnOk result (AreWhole version (chunks_in bytes.now spans.now)) }
-    ensures err { IfErr result (IsBad version (chunks_in bytes.now spans.now)) }
-{
-    for (number, span) in spans.iter().enumerate() {
-        if !is_whole(version, chunk_at(bytes, span)) {
-            return Err(CheckFault::BadChunk { chunk: number });
-        }
-    }
-    Ok(())
 }
 
 /// Whether a chunk is a level and whole lawful entries of that level's kind.

@@ -1,8 +1,6 @@
 use Rattle.std.proofs.Common.{◌∙◌}
-use Rattle.std.specs.Option.{option_copied}
 use Rattle.prolly_entry.specs.lemmas.Lists.{rest_is}
 use Rattle.prolly_check.proofs.HeldPairs.{of_children, of_pairs, some_byte}
-use Rattle.prolly_check.proofs.RisingKeys.{read_rises}
 use Rattle.prolly_check.proofs.look_up.step.keys_rise.Goals as goal
 
 pub bounds-chunk-0 : goal.bounds-chunk-0
@@ -11,9 +9,7 @@ bounds-chunk-0 c = some_byte c.args.version c.args.chunk.now c.requires
 pub returns-then-chunk-eq-LEAF : goal.returns-then-chunk-eq-LEAF
 returns-then-chunk-eq-LEAF c =
     let leaf = of_pairs c.args.version c.args.chunk.now c.requires c.if-chunk-eq-LEAF.true in
-    rw (c.is_ok.ensures.value, leaf.kind) (rw (c.pairs_of.ensures ∙ leaf.held) at
-    (read_rises c.last_in.result option_copied c.pairs_of.result c.last_in.ensures.ok
-    c.last_in.ensures.err))
+    rw leaf.kind (rw (c.pairs_of.ensures ∙ leaf.held) at c.pairs_rise.ensures)
 
 pub children_rise-requires : goal.children_rise-requires
 children_rise-requires c = rw (rest_is c.args.chunk.now 1)

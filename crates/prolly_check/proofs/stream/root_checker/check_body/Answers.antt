@@ -21,7 +21,7 @@ loop-read-init g c = record {
     many = refl;
   };
   few = (omega (arith, c.in_ok-read.ensures.0.count), omega arith);
-  cut = c.in_ok-read.ensures.1 ∙ c.in-Some.ensures.some.0;
+  cut = c.in_ok-read.ensures.1 ∙ c.cut_of.ensures;
   version = c.in_ok-read.ensures.2;
 }
 

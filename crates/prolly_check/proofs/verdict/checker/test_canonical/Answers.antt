@@ -1,7 +1,7 @@
 use Rattle.std.proofs.Common.{rules, arith, inr}
 use Rattle.std.proofs.Math.Logic.{⊎_map}
 use Rattle.std.proofs.lemmas.Result.{err_from_is_err_and}
-use Rattle.prolly_check.proofs.Canonical.{digests_refer}
+use Rattle.prolly_check.proofs.DigestLists.{digests_refer}
 use Rattle.prolly_check.proofs.CheckedFile.{chunks_say, some_chunks, end_says, all_say}
 use Rattle.prolly_check.proofs.verdict.checker.test_canonical.Goals as goal
 
@@ -29,8 +29,8 @@ returns-clause-ok c = grind (arith, all_say)
 
 pub test_end-requires-clause-references : goal.test_end-requires-clause-references
 test_end-requires-clause-references c = rw (c.deref.ensures.value, c.in_ok-references.ensures)
-    (digests_refer c.args.cut c.args.chunks.now c.args.digests.now c.requires.digests)
+    (digests_refer c.args.version c.args.cut c.args.chunks.now c.args.digests.now c.requires.digests)
 
 pub returns-clause-references : goal.returns-clause-references
 returns-clause-references c = rw c.in_ok-references.ensures
-    (digests_refer c.args.cut c.args.chunks.now c.args.digests.now c.requires.digests)
+    (digests_refer c.args.version c.args.cut c.args.chunks.now c.args.digests.now c.requires.digests)

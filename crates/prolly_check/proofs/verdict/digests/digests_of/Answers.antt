@@ -1,34 +1,32 @@
-use Rattle.std.proofs.Common.{arith}
+use Rattle.std.proofs.Common.{arith, refl}
 use Rattle.std.proofs.lemmas.List.{length-map}
+use Rattle.prolly_check.specs.Digests.{IsDigest}
 use Rattle.prolly_check.specs.Frames.{chunk_in, chunks_in}
-use Rattle.prolly_check.proofs.Canonical.{digest_more}
+use Rattle.prolly_check.proofs.DigestLists.{has_more, has_none, stops_there}
 use Rattle.prolly_check.proofs.verdict.digests.digests_of.Goals as goal
 
+pub loop-number-init : goal.loop-number-init
+loop-number-init c = rw c.in_ok-digests.ensures.items (has_none (IsDigest c.args.version c.args.cut)
+    (chunks_in c.args.bytes.now c.args.spans.now) 0 refl)
+
 pub loop-number-preserved : goal.loop-number-preserved
-loop-number-preserved c = record {
-  many = omega (
-    arith,
-    c.in_ok-push.ensures.len,
-    c.loop-number.invariant.many,
-    c.push.new.self.ok.0,
-    c.loop-number.digests.ok.0,
-  );
-  each = λ k other h. rw c.in_ok-push.ensures.items
-      (digest_more c.args.cut (chunks_in c.args.bytes.now c.args.spans.now)
-      c.loop-number.digests.items c.digest_at.result
-      (λ k other h. c.loop-number.invariant.each k other
-      (omega (arith, h, c.loop-number.invariant.many)))
-      (rw c.loop-number.invariant.many c.digest_at.ensures) k other
-      (omega (arith, h, c.loop-number.invariant.many)));
-}
+loop-number-preserved c = rw c.in_ok-push.ensures.items
+    (has_more (IsDigest c.args.version c.args.cut) (chunks_in c.args.bytes.now c.args.spans.now)
+    c.loop-number.number c.loop-number.digests.items c.in-Some.digest c.loop-number.invariant
+    (omega (arith, length-map c.args.spans.now (chunk_in c.args.bytes.now)))
+    (rw c.in-Some.is at c.digest_at.ensures))
+
+pub returns-in_default : goal.returns-in_default
+returns-in_default c =
+    let many = length-map c.args.spans.now (chunk_in c.args.bytes.now) in
+    stops_there c.args.version c.args.cut (chunks_in c.args.bytes.now c.args.spans.now)
+    c.loop-number.number c.loop-number.digests.items c.loop-number.invariant (omega (arith, many))
+    (λ less. rw c.in_default.is at c.digest_at.ensures)
 
 pub returns : goal.returns
 returns c =
     let many = length-map c.args.spans.now (chunk_in c.args.bytes.now) in
-    let here = c.loop-number.invariant.many in
-    let past = c.loop-number-test.false in
-    let end = c.loop-number.auto.number-end in
-    record {
-      many = omega arith;
-      each = λ k other h. c.loop-number.invariant.each k other (omega arith);
-    }
+    stops_there c.args.version c.args.cut (chunks_in c.args.bytes.now c.args.spans.now)
+    c.loop-number.number c.loop-number.digests.items c.loop-number.invariant
+    (omega (arith, many, c.loop-number.auto.number-end))
+    (λ less. absurd (omega (arith, many, c.loop-number-test.false)))

@@ -14,20 +14,20 @@ returns-then-digest-clause-takes c = λ read n h.
     let due = c.args.self.now.due.items in
     let g = rw c.requires.going at h in
     let is : is_whole_leaf (sha512_cut bits) (pairs_held c.args.chunk.now) ≡ true =
-    sym c.requires.digest.whole ∙ c.if-digest.true in
+    sym c.requires.digest.pairs.counted.whole ∙ c.if-digest.true in
     let size : length c.pass_leaf.new.levels ≡ length nodes.items =
     c.pass_leaf.ensures.size ∙ ap length c.deref_mut.ensures.value in
     rw (c.requires.going, with_items_is nodes c.pass_leaf.new.levels (size ∙ sym nodes.ok.0))
-    (leaf_taken bits version read nodes.items due g c.args.chunk.now c.requires.whole
-    c.pass_leaf.new.levels c.pass_leaf.new.due.items c.leaf_event-event.result c.requires.none
-    c.leaf_event-event.ensures.event
-    (some_held bits version read nodes.items due g c.args.chunk.now c.requires.whole is)
+    (leaf_taken bits version read nodes.items due g c.args.chunk.now c.requires.digest.whole
+    c.pass_leaf.new.levels c.pass_leaf.new.due.items c.event-event.result c.requires.none
+    c.event-event.ensures.event
+    (some_held bits version read nodes.items due g c.args.chunk.now c.requires.digest.whole is)
     (rw c.deref_mut.ensures.value at c.in_ok-pass_leaf.ensures.passes) is size)
 
-pub returns-then-has_boundary-clause-takes : goal.returns-then-has_boundary-clause-takes
-returns-then-has_boundary-clause-takes c = λ read n h.
+pub returns-then-digest-2-clause-takes : goal.returns-then-digest-2-clause-takes
+returns-then-digest-2-clause-takes c = λ read n h.
     rw (c.requires.going, n) (inr (leaf_is_cut c.args.self.now.cut c.args.self.now.version read
     c.args.self.now.nodes.items c.args.self.now.due.items (rw c.requires.going at h)
-    c.args.chunk.now c.requires.whole c.requires.none
-    (sym c.requires.digest.whole ∙ c.if-digest.false)
-    (rw c.pairs_of.ensures at (sym c.has_boundary.ensures ∙ c.if-has_boundary.true))))
+    c.args.chunk.now c.requires.digest.whole c.requires.none
+    (sym c.requires.digest.pairs.counted.whole ∙ c.if-digest.false)
+    (sym c.requires.digest.pairs.counted.some ∙ c.if-digest-2.true)))
