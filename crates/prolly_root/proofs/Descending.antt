@@ -1,23 +1,28 @@
 -- Going down from the root, from each chunk to the one that it refers to.
-use Rattle.std.proofs.Common.{◌≡◌, ℕ, zero, suc, List, [], ◌∷◌, ◌++◌, Option, Some, None, IfSome, ◌<◌, ◌-◌}
+use Rattle.std.proofs.Common.{◌≡◌, ℕ, List, [], ◌∷◌, ◌++◌, Option, Some, None, IfSome, ◌<◌, ◌-◌}
 use Rattle.std.proofs.Common.{length, get_or, arith, rules, refl, sym, ap, ◌∙◌, subst, Result, Ok}
-use Rattle.std.proofs.Common.{Err, inl, ◌+◌, take}
+use Rattle.std.proofs.Common.{Err, Ordering, cond, false, not, take}
 use Rattle.std.specs.List.{AllByRecursion}
 use Rattle.std.specs.Option.{option_to_list}
 use Rattle.std.proofs.lemmas.List.{get_or_push, length-append, length-map, map-append}
-use Rattle.std.proofs.lemmas.List.{take_more}
 use Rattle.std.proofs.Math.ListN.{get_or-map}
 use Rattle.std.specs.Prelude.{All, IfOk, IsErr, IsErrAnd, OnErr}
 use Rattle.prolly_entry.specs.Byte.{IsByte}
 use Rattle.prolly_check.specs.Content.{Content}
-use Rattle.prolly_check.specs.HeldPairs.{pairs_held}
+use Rattle.prolly_check.specs.Leaves.{pairs_from}
 use Rattle.prolly_check.specs.Kinds.{kind_of}
 use Rattle.prolly_check.specs.Sought.{Sought, EndsAt, LeadsOn, sought_of}
-use Rattle.prolly_check.specs.Way.{FallsTo, IsNamed, IsOrdered, IsWayTo, Lead, LevelsFall, level_of}
+use Rattle.prolly_check.specs.Way.{FallsTo, IsNamed, IsWayTo, Lead, LevelsFall, level_of}
 use Rattle.prolly_check.specs.declared.look_up.step.Due.{Due}
 use Rattle.prolly_check.specs.lemmas.Ways.{lead_more}
 use Rattle.prolly_entry.specs.declared.version.Version.{Version}
-use Rattle.prolly_tree.specs.Difference.{IsMap}
+use Rattle.std.specs.Ordering.{is_lt}
+use Rattle.std.specs.declared.cmp.Ordering.TheVariants.{Less, Equal, Greater}
+use Rattle.prolly_entry.specs.Keys.{key_order}
+use Rattle.prolly_entry.specs.Pair.{Pair}
+use Rattle.prolly_entry.specs.lemmas.Orders.{greater_below}
+use Rattle.prolly_tree.specs.LookUp.{find}
+use Rattle.prolly_tree.specs.lemmas.Maps.{Rises, above_more, find_above}
 use Rattle.prolly_tree.specs.Tree.{Tree}
 use Rattle.prolly_root.specs.Descent.{IsWayDown, StandsBelow}
 use Rattle.prolly_root.specs.Descent.{StandsInPlace, chunks_on_way}
@@ -27,7 +32,7 @@ use Rattle.prolly_root.specs.declared.root_fault.RootFault.{RootFault}
 use Rattle.prolly_root.specs.declared.root_fault.RootFault.TheVariants.{Memory}
 use Rattle.prolly_root.specs.ChunkSource.{HasAsked}
 use Rattle.prolly_root.specs.Reader.{IsEmptied, IsReaderOf, LooksUp, ReaderView, way_of}
-use Rattle.prolly_root.specs.RootFault.{MayFail}
+use Rattle.prolly_root.specs.RootFault.{MayFail, TellsReads}
 
 -- ---- the levels
 
@@ -50,13 +55,6 @@ pub one_more : {T : Type 0} (levels new : List (ChunkOnWay T)) (level : ChunkOnW
     chunks_on_way new ≡ chunks_on_way levels ++ level.chunk.items ∷ []
 one_more levels new level kept = ap chunks_on_way kept ∙
     map-append (λ level. level.chunk.items) levels (level ∷ [])
-
--- so many and one more
-pub one_taken : {T : Type 0} (levels : List (ChunkOnWay T)) (n : ℕ) (level : ChunkOnWay T) →
-    n < length levels → level ≡ get_or levels n level →
-    chunks_on_way (take (n + 1) levels) ≡ chunks_on_way (take n levels) ++ level.chunk.items ∷ []
-one_taken levels n level below is = one_more (take n levels) (take (n + 1) levels) level
-    (take_more levels n level below ∙ ap (λ l. take n levels ++ l ∷ []) (sym is))
 
 -- the last one
 pub read_last : {T : Type 0} (levels : List (ChunkOnWay T)) (above : List (List ℕ))
@@ -95,14 +93,8 @@ less_room None next (b ∷ bs) bytes falls is =
 less_room (Some level) next chunk bytes falls is =
     subst (λ n. room_below n < level) (sym is) (omega (arith, falls))
 
-pub none_passed : (version : Version) (root : List ℕ) (sought : Sought) (due : Due) →
-    root ≡ due.reference.0 → due.above ≡ None → sought ≡ sought_of due.sought →
-    Descended version root sought [] due
-none_passed version root sought due reference above same =
-    record { lead = (reference, same); down = tt; above = above }
-
-module _ (version : Version) (root : List ℕ) (sought : Sought) (passed : List (List ℕ)) (due : Due)
-    (d : Descended version root sought passed due) (chunk : List ℕ)
+module _ {version : Version} {root : List ℕ} {sought : Sought} {passed : List (List ℕ)} {due : Due}
+    (d : Descended version root sought passed due) {chunk : List ℕ}
     (named : IsNamed version due.reference.0 chunk) (falls : FallsTo due.above chunk) where
   pub down : LevelsFall (passed ++ chunk ∷ [])
   down = falls_more passed chunk d.down (subst (λ l. FallsTo l chunk) d.above falls)
@@ -157,13 +149,14 @@ handed_on fault (Ok value) h = search rules
 handed_on fault (Err told) h = ap Err h.1
 
 -- two calls of a source, of which the first one succeeds
-pub asked_on : {S : Type 0} (has : S → Content → Type 0) (failures : S → ℕ)
-    {old mid new : S} (tells : ℕ → Type 0) →
-    ((content : Content) → has old content → has mid content) × (failures mid ≡ failures old) →
-    ((content : Content) → has mid content → has new content) × tells (failures mid) →
-    ((content : Content) → has old content → has new content) × tells (failures old)
-asked_on has failures tells asked more =
-    (λ content h. more.0 content (asked.0 content h), subst tells asked.1 more.1)
+pub asked_on : {S T : Type 0} (has : S → Content → Type 0) (failures : S → ℕ)
+    (result : Result T RootFault) {old mid new : S} →
+    HasAsked has failures old mid (Ok (tt {0})) → HasAsked has failures mid new result →
+    HasAsked has failures old new result
+asked_on has failures result {new = new} asked more = (
+  λ content h. more.0 content (asked.0 content h),
+  subst (λ n. TellsReads n (failures new) result) asked.1 more.1,
+)
 
 -- ---- what a look-up leaves of its reader
 
@@ -187,28 +180,15 @@ module _ {S T : Type 0} {has : S → Content → Type 0} {failures : S → ℕ}
       IsReaderOf is_place content old → MayFail fault) →
       HasAsked {T = R} has failures before after (Err fault) →
       LooksUp has failures is_place before after old new result
-  look_up_fails fault result handed left may asked = rw (handed_on fault result handed) (record {
-    of = (left.version, left.root);
-    none = left.levels;
-    kept = λ content had reader. keeps_none left reader;
-    lawful = may;
-    keeps = asked.0;
-    reads = asked.1;
-  })
+  look_up_fails fault result handed left may asked =
+      rw (handed_on fault result handed) (search (rules, keeps_none))
 
   -- also one that `?` hands on
   pub looks_up_so : {A R : Type 0} {new : ReaderView T} (fault : RootFault)
       (result : Result R RootFault) → IsErr result × IsErrAnd result (λ told. told ≡ fault) →
       LooksUp {R = A} has failures is_place before after old new (Err fault) →
       LooksUp has failures is_place before after old new result
-  looks_up_so fault result handed looked = rw (handed_on fault result handed) (record {
-    of = looked.of;
-    none = looked.none;
-    kept = looked.kept;
-    lawful = looked.lawful;
-    keeps = looked.keeps;
-    reads = looked.reads;
-  })
+  looks_up_so fault result handed looked = rw (handed_on fault result handed) (search rules)
 
   -- what was found is handed on, or there was no memory for it
   pub hands_on : {A V E : Type 0} {mid new : ReaderView T} {there : A} (found : Result V E)
@@ -216,30 +196,16 @@ module _ {S T : Type 0} {has : S → Content → Type 0} {failures : S → ℕ}
       OnErr found ((result ≡ Err Memory) × IsEmptied mid new) →
       LooksUp has failures is_place before after old mid (Ok there) →
       LooksUp has failures is_place before after old new result
-  hands_on (Ok value) result ok err looked = rw (ok.0, ok.1) (record {
-    of = looked.of;
-    none = tt;
-    kept = looked.kept;
-    lawful = looked.lawful;
-    keeps = looked.keeps;
-    reads = looked.reads;
-  })
-  hands_on (Err refused) result ok err looked = rw err.0 (record {
-    of = (err.1.version ∙ looked.of.0, err.1.root ∙ looked.of.1);
-    none = err.1.levels;
-    kept = λ content had reader. keeps_none err.1 (looked.kept content had reader);
-    lawful = λ content had reader. inl refl;
-    keeps = looked.keeps;
-    reads = looked.reads;
-  })
+  hands_on (Ok value) result ok err looked = rw (ok.0, ok.1) (search rules)
+  hands_on (Err refused) result ok err looked = rw err.0 (search (rules, keeps_none))
 
 pub finds : {T V E : Type 0} (mid new : ReaderView T) (found : Result V E)
     (result : Result V RootFault) → IfOk found (λ value. (result ≡ Ok value) × (new ≡ mid)) →
     OnErr found ((result ≡ Err Memory) × IsEmptied mid new) →
-    (P : V → List (List ℕ) → Type 0) → IfOk found (λ value. P value (way_of mid)) →
-    IfOk result (λ value. P value (way_of new))
-finds mid new (Ok value) result ok err P is = rw (ok.0, ok.1) is
-finds mid new (Err refused) result ok err P is = rw err.0 tt
+    (Is : V → Type 0) (P : V → List (List ℕ) → Type 0) → ((value : V) → Is value → P value (way_of mid)) →
+    IfOk found Is → IfOk result (λ value. P value (way_of new))
+finds mid new (Ok value) result ok err Is P tells is = rw (ok.0, ok.1) (tells value is)
+finds mid new (Err refused) result ok err Is P tells is = rw err.0 tt
 
 -- a way has a chunk
 pub some_way : {version : Version} {root : List ℕ} {sought there : Sought}
@@ -252,27 +218,25 @@ some_way down = omega (
 
 -- ---- the last chunk of a look-up
 
-pub last_same : (xs ys : List (List ℕ)) (x y : List ℕ) → xs ++ x ∷ [] ≡ ys ++ y ∷ [] → x ≡ y
-last_same [] [] x y e = cc
-last_same [] (b ∷ []) x y e = cc
-last_same [] (b ∷ c ∷ ys) x y e = cc
-last_same (a ∷ []) [] x y e = cc
-last_same (a ∷ c ∷ xs) [] x y e = cc
-last_same (a ∷ xs) (b ∷ ys) x y e = last_same xs ys x y cc
+-- all pairs are from the empty key on
+pub all_from : (ps : List Pair) → pairs_from [] ps ≡ ps
+all_from [] = refl
+all_from (p ∷ ps) = ap (λ b. cond (not b) (p ∷ pairs_from [] ps) (pairs_from [] ps)) (none_less p.key) ∙
+    ap (λ qs. p ∷ qs) (all_from ps)
+  where
+    none_less : (key : List ℕ) → is_lt (key_order key []) ≡ false
+    none_less [] = refl
+    none_less (b ∷ key) = refl
 
--- its pairs rise
-pub held_rise : (version : Version) (chunk : List ℕ) → IsOrdered version chunk →
-    IsMap (pairs_held chunk)
-held_rise version [] ordered = tt
-held_rise version (zero ∷ entries) ordered = ordered.rising
-held_rise version (suc level ∷ entries) ordered = tt
-
--- there is one, where a way was found
-pub some_held : {T : Type 0} (levels held : List (ChunkOnWay T)) → held ≡ levels →
-    0 < length (chunks_on_way levels) → 0 < length held
-some_held levels held are some = omega (
-  arith,
-  ap length are,
-  length-map levels (λ level. level.chunk.items),
-  some,
-)
+-- of those from a key on, only the first may have it
+pub find_from : (key : List ℕ) (ps : List Pair) → Rises ps →
+    find (take 1 (pairs_from key ps)) key ≡ find ps key
+find_from key [] r = refl
+find_from key (p ∷ ps) r = by_order (find_from key ps r.1) (key_order p.key key) refl
+  where
+    by_order : find (take 1 (pairs_from key ps)) key ≡ find ps key → (o : Ordering) →
+        key_order p.key key ≡ o → find (take 1 (pairs_from key (p ∷ ps))) key ≡ find (p ∷ ps) key
+    by_order rest Less e = simp e rest
+    by_order rest Equal e = simp e
+    by_order rest Greater e = simp e (sym (find_above ps key
+        (above_more key p.key ps (greater_below p.key key e) r.0)))

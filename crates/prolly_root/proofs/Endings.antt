@@ -1,82 +1,66 @@
 -- The last bytes of a chunk file.
-use Rattle.std.proofs.Common.{◌≡◌, ◌∙◌, ℕ, ◌-◌, ◌<◌, ◌≤◌, List, ◌∷◌, ◌++◌, length, take, drop}
-use Rattle.std.proofs.Common.{Result, Ok, Err, refl, sym, ap, subst, arith, append_assoc}
+use Rattle.std.proofs.Common.{◌≡◌, ◌∙◌, ℕ, ◌-◌, ◌<◌, ◌≤◌, List, [], ◌++◌, length, take, drop}
+use Rattle.std.proofs.Common.{Result, Ok, Err, refl, sym, ap, subst, arith}
 use Rattle.std.specs.Int.{w64, to_be_bytes}
 use Rattle.std.specs.List.{flat_map}
+use Rattle.std.specs.Prelude.{IfSome, Option, Some, None, ok_or}
 use Rattle.std.proofs.Math.Seq.{drop-append_seam, take-append_seam, take-length}
-use Rattle.std.proofs.lemmas.List.{length-append, length-drop}
+use Rattle.std.proofs.lemmas.List.{drop_all, length-drop}
+use Rattle.prolly_check.specs.Chunks.{chunks_of}
 use Rattle.prolly_check.specs.Content.{Content}
 use Rattle.prolly_check.specs.Verdict.{IsFileOf}
 use Rattle.prolly_check.specs.declared.verdict.fault.CheckFault.{CheckFault}
 use Rattle.prolly_check.specs.declared.verdict.fault.CheckFault.TheVariants as checks
 use Rattle.prolly_entry.specs.Cut.{sha512_cut}
 use Rattle.prolly_entry.specs.declared.reference.Ref.{Ref}
-use Rattle.prolly_entry.specs.lemmas.Spellings.{reference_length}
-use Rattle.prolly_tree.specs.Chunk.{chunks}
-use Rattle.prolly_tree.specs.File.{header, root_reference}
-use Rattle.prolly_tree.specs.File.{frame}
-use Rattle.prolly_tree.specs.Tree.{bytes_of, tree_of}
 use Rattle.prolly_file.specs.EndRecord.{IsNoEnd, NamesRoot}
+use Rattle.prolly_file.specs.Frame.{framed}
+use Rattle.prolly_tree.specs.Chunk.{chunks}
+use Rattle.prolly_tree.specs.File.{root_reference}
 use Rattle.prolly_root.specs.NamedRoot.{NamesRootOf, TellsRoot, last_bytes}
-use Rattle.std.specs.Prelude.{IfSome, Option, Some, None, ok_or}
+use Rattle.prolly_root.proofs.Walking.{apart, behind, ending, front, front_length, how_long}
+use Rattle.prolly_root.proofs.Walking.{root_length}
 
-module _ (bytes : List ℕ) (content : Content) (f : IsFileOf bytes content) where
+module _ {bytes : List ℕ} {content : Content} (f : IsFileOf bytes content) where
   abbrev root : List ℕ
   root = root_reference (sha512_cut content.bits) content.version content.pairs
+
+  abbrev last : ℕ
+  last = length (chunks_of content)
+
+  none_left : drop last (chunks_of content) ≡ []
+  none_left = drop_all last (chunks_of content) (omega arith)
+
+  -- behind the frames stands the end record
+  is_ending : behind f last ≡ ending f last
+  is_ending = ap (λ cs. flat_map framed cs ++ ending f last) none_left
 
   abbrev count : List ℕ
   count = to_be_bytes w64 (length (chunks (sha512_cut content.bits) content.version content.pairs))
 
-  abbrev ending : List ℕ
-  ending = 0x45 ∷ root ++ count
-
-  abbrev front : List ℕ
-  front = header content.version content.bits ++
-      flat_map frame (chunks (sha512_cut content.bits) content.version content.pairs)
-
-  apart : bytes ≡ front ++ ending
-  apart = f.is ∙ sym (append_assoc (header content.version content.bits)
-      (flat_map frame (chunks (sha512_cut content.bits) content.version content.pairs)) ending)
-
-  root_length : length root ≡ 20
-  root_length = reference_length (bytes_of content.version
-      (tree_of (sha512_cut content.bits) content.version content.pairs).level
-      (tree_of (sha512_cut content.bits) content.version content.pairs).tree)
-
-  ending_length : length ending ≡ 29
-  ending_length = omega (arith, length-append root count, root_length)
-
-  front_length : 6 ≤ length front
-  front_length = omega (
-    arith,
-    length-append (header content.version content.bits)
-        (flat_map frame (chunks (sha512_cut content.bits) content.version content.pairs)),
-  )
-
   -- there is room for a header and an end record
   pub has_room : length bytes < 35 → ⊥
-  has_room short = omega (
-    arith,
-    short,
-    ap length apart,
-    length-append front ending,
-    ending_length,
-    front_length,
-  )
+  has_room short = omega (arith, short, how_long f 0)
 
-  last_is : last_bytes bytes ≡ ending
-  last_is = ap (λ n. drop n bytes) before ∙ ap (drop (length front)) apart ∙
-      drop-append_seam front ending
+  last_is : last_bytes bytes ≡ ending f last
+  last_is = ap (λ n. drop n bytes) before ∙
+      ap (drop (length (front f last))) (apart f last) ∙
+      drop-append_seam (front f last) (behind f last) ∙ is_ending
     where
-      before : length bytes - 29 ≡ length front
-      before = omega (arith, ap length apart, length-append front ending, ending_length)
+      before : length bytes - 29 ≡ length (front f last)
+      before = omega (
+        arith,
+        how_long f last,
+        front_length f last,
+        ap (λ cs. length (flat_map framed cs)) none_left,
+      )
 
   -- they are an end record with the root
   names : NamesRoot root (last_bytes bytes)
   names = record {
     count = count;
     is = last_is;
-    root_size = root_length;
+    root_size = root_length content;
     count_size = refl;
   }
 
@@ -85,25 +69,16 @@ module _ (bytes : List ℕ) (content : Content) (f : IsFileOf bytes content) whe
   one_root other n =
       let same : other ++ n.count ≡ root ++ count = ap (drop 1) (sym n.is ∙ last_is) in
       sym (take-append_seam other n.count) ∙
-      ap (λ k. take k (other ++ n.count)) (n.root_size ∙ sym root_length) ∙
+      ap (λ k. take k (other ++ n.count)) (n.root_size ∙ sym (root_length content)) ∙
       ap (take (length root)) same ∙ take-append_seam root count
 
   -- what is told of a lawful file's end is its root
   pub names_root : (result : Result Ref CheckFault) → TellsRoot bytes result →
       NamesRootOf content result
   names_root (Ok other) tells = one_root other.0 tells.1
-  names_root (Err checks.Memory) tells = tells
-  names_root (Err checks.Read) tells = tells
-  names_root (Err checks.TooLong) tells = tells
-  names_root (Err checks.BadHeader) tells = tells
-  names_root (Err (checks.BadFrame chunk)) tells = tells
   names_root (Err checks.Truncated) tells = absurd (has_room tells)
-  names_root (Err checks.Trailing) tells = tells
-  names_root (Err (checks.BadChunk chunk)) tells = tells
-  names_root (Err (checks.KeysOutOfOrder chunk)) tells = tells
-  names_root (Err (checks.NotCanonical chunk)) tells = tells
   names_root (Err checks.BadEnd) tells = absurd (tells.1 root names)
-  names_root (Err (checks.Collision chunk)) tells = tells
+  names_root (Err fault) tells = tells
 
 -- what is told of the last bytes is told of the file
 pub tells_last : (bytes read : List ℕ) (named : Option Ref) → 35 ≤ length bytes →

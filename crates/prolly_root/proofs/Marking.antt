@@ -56,8 +56,8 @@ module _ (content : Content) (level : ℕ) where
   }
 
 -- a chunk of the level does
-module _ (content : Content) (frame : Frame) (is : IsFrame content frame) (run : Run)
-    (before : IsRun content frame.number frame.level run) (count : ℕ)
+module _ {content : Content} {frame : Frame} (is : IsFrame content frame) {run : Run}
+    (before : IsRun content frame.number frame.level run) {count : ℕ}
     (more : count ≡ run.count + 1) where
   pub one_behind : IsBehind content frame.level run.from count (frame.number + 1)
   one_behind = subst (λ k. IsBehind content frame.level run.from k (frame.number + 1)) (sym more)
@@ -110,10 +110,10 @@ set_at P runs at level run within here there = by_case (cases_eq level at)
     by_case (inr other) = subst P (sym (get_or-set_other runs at level run (fresh 0) other))
         (there other)
 
-pub one_begun : (content : Content) (number lower : ℕ) (runs : List Run) → lower < 32 →
+pub one_begun : {content : Content} {number lower : ℕ} {runs : List Run} → lower < 32 →
     Begun content number lower runs →
     Begun content number (lower + 1) (set runs lower (fresh (number + 1)))
-one_begun content number lower runs few begun =
+one_begun {content = content} {number = number} {lower = lower} {runs = runs} few begun =
     let within : lower < length runs = omega (arith, few, begun.long) in record {
       long = length-set runs lower (fresh (number + 1)) ∙ begun.long;
       anew = λ level small low. set_at (IsRun content (number + 1) level) runs lower level
@@ -125,27 +125,26 @@ one_begun content number lower runs few begun =
     }
 
 -- all of them are lower
-pub all_begun : (content : Content) (number lower : ℕ) (runs : List Run) → 32 ≤ lower →
+pub all_begun : {content : Content} {number lower : ℕ} {runs : List Run} → 32 ≤ lower →
     Begun content number lower runs → AreRuns content (number + 1) runs
-all_begun content number lower runs all begun = record {
+all_begun all begun = record {
   long = begun.long;
   each = λ level within. begun.anew level within (omega (arith, all, within));
 }
 
 -- or this one counts one more
-pub all_counted : (content : Content) (frame : Frame) → IsFrame content frame →
-    (runs : List Run) (count : ℕ) → frame.level < 32 →
+pub all_counted : {content : Content} {frame : Frame} → IsFrame content frame →
+    {runs : List Run} {count : ℕ} → frame.level < 32 →
     Begun content frame.number frame.level runs → count ≡ (run_at runs frame.level).count + 1 →
     AreRuns content (frame.number + 1) (set runs frame.level
     (record { from = (run_at runs frame.level).from; count = count }))
-all_counted content frame is runs count few begun more =
+all_counted {content = content} {frame = frame} is {runs = runs} {count = count} few begun more =
     let new : Run = record { from = (run_at runs frame.level).from; count = count } in record {
       long = length-set runs frame.level new ∙ begun.long;
       each = λ level within. set_at (IsRun content (frame.number + 1) level) runs frame.level level
           new (omega (arith, few, begun.long))
           (λ e. subst (λ level. IsRun content (frame.number + 1) level new) (sym e)
-          (one_counted content frame is (run_at runs frame.level)
-          (begun.left frame.level few (omega arith)) count more))
+          (one_counted is (begun.left frame.level few (omega arith)) more))
           (λ other. by_order level within other (cases_lt level frame.level));
     }
   where

@@ -1,6 +1,6 @@
 -- That there is one proof for a root and a key.
 use Rattle.std.proofs.Common.{◌≡◌, ℕ, List, [], ◌∷◌, ◌++◌, ◌⊎◌, inl, inr, refl, sym, ap, ◌∙◌}
-use Rattle.std.proofs.Common.{subst}
+use Rattle.std.proofs.Common.{rules, subst}
 use Rattle.std.proofs.lemmas.Bool.{cases_Bool, false≢true}
 use Rattle.std.proofs.lemmas.Slice.Eq.{bytes_eq-Decides}
 use Rattle.std.specs.Str.{bytes_eq}
@@ -11,33 +11,25 @@ use Rattle.prolly_check.specs.Way.{Clash, IsNamed, Lead}
 use Rattle.prolly_check.specs.lemmas.Ways.{no_way_on, one_way_on}
 use Rattle.prolly_entry.specs.Reference.{reference_of}
 use Rattle.prolly_entry.specs.declared.version.Version.{Version}
-use Rattle.prolly_tree.specs.Chunk.{IsIn}
 use Rattle.prolly_root.specs.ProofFile.{ProofsAreOne, proof_file}
 
 -- two chunks with one reference are one, or show a clash
-same_or_clash : (x y : List ℕ) (xs ys : List (List ℕ)) → IsIn x xs → IsIn y ys →
-    reference_of x ≡ reference_of y → (x ≡ y) ⊎ Clash xs ys
-same_or_clash x y xs ys in_xs in_ys same = elim (cases_Bool (bytes_eq x y)) [
+same_or_clash : (x y : List ℕ) (xs ys : List (List ℕ)) → reference_of x ≡ reference_of y →
+    (x ≡ y) ⊎ Clash (x ∷ xs) (y ∷ ys)
+same_or_clash x y xs ys same = elim (cases_Bool (bytes_eq x y)) [
   | inl e ↦ inl ((bytes_eq-Decides x y).0 e)
   | inr e ↦ inr (record {
     one = x;
     other = y;
-    in_one = in_xs;
-    in_other = in_ys;
+    in_one = inl refl;
+    in_other = inl refl;
     differ = λ f. false≢true (sym e ∙ (bytes_eq-Decides x y).1 f);
     same = same;
   })
 ]
 
 lifted : (x y : List ℕ) (xs ys : List (List ℕ)) → Clash xs ys → Clash (x ∷ xs) (y ∷ ys)
-lifted x y xs ys c = record {
-  one = c.one;
-  other = c.other;
-  in_one = inr c.in_one;
-  in_other = inr c.in_other;
-  differ = c.differ;
-  same = c.same;
-}
+lifted x y xs ys c = search rules
 
 -- two ways from one reference, with one thing sought, are one, or show a clash
 module _ (version : Version) (last reference : List ℕ) (there : Sought)
@@ -57,13 +49,12 @@ module _ (version : Version) (last reference : List ℕ) (there : Sought)
       Lead version sought from before reference there →
       Lead version sought from others their others_there → OneWay before others
   one_way sought from [] [] lead to =
-      elim (same_or_clash last other (last ∷ []) (other ∷ []) (inl refl) (inl refl)
-      (named.is ∙ sym lead.0 ∙ to.0 ∙ sym is_named.is)) [
+      elim (same_or_clash last other [] [] (named.is ∙ sym lead.0 ∙ to.0 ∙ sym is_named.is)) [
         | inl e ↦ inl (ap (λ c. c ∷ []) e)
         | inr clash ↦ inr clash
       ]
   one_way sought from [] (d ∷ others) lead to =
-      elim (same_or_clash last d (last ∷ []) (d ∷ (others ++ other ∷ [])) (inl refl) (inl refl)
+      elim (same_or_clash last d [] (others ++ other ∷ [])
       (named.is ∙ sym lead.0 ∙ sym to.0.is)) [
         | inl e ↦ absurd (no_way_on sought (kind_of version d) to.1 to.2
             (subst (λ c. EndsAt sought (kind_of version c)) e
@@ -71,7 +62,7 @@ module _ (version : Version) (last reference : List ℕ) (there : Sought)
         | inr clash ↦ inr clash
       ]
   one_way sought from (c ∷ before) [] lead to =
-      elim (same_or_clash c other (c ∷ (before ++ last ∷ [])) (other ∷ []) (inl refl) (inl refl)
+      elim (same_or_clash c other (before ++ last ∷ []) []
       (lead.0.is ∙ to.0 ∙ sym is_named.is)) [
         | inl e ↦ absurd (no_way_on sought (kind_of version c) lead.1 lead.2
             (subst (λ c. EndsAt sought (kind_of version c)) (sym e)
@@ -79,8 +70,8 @@ module _ (version : Version) (last reference : List ℕ) (there : Sought)
         | inr clash ↦ inr clash
       ]
   one_way sought from (c ∷ before) (d ∷ others) lead to =
-      elim (same_or_clash c d (c ∷ (before ++ last ∷ [])) (d ∷ (others ++ other ∷ [])) (inl refl)
-      (inl refl) (lead.0.is ∙ sym to.0.is)) [
+      elim (same_or_clash c d (before ++ last ∷ []) (others ++ other ∷ [])
+      (lead.0.is ∙ sym to.0.is)) [
         | inl e ↦
             let same = one_way_on sought (kind_of version d) (lead.1, lead.2) (to.1, to.2)
             (subst (λ c. LeadsOn sought (kind_of version c) lead.1 lead.2) e lead.3) to.3 in

@@ -1,16 +1,15 @@
 -- The chunks of a proof, one after another: appending them and reading them.
 use Rattle.std.proofs.Common.{◌≡◌, ℕ, ◌+◌, ◌<◌, ◌≤◌, List, [], ◌∷◌, ◌++◌, length, take, get_or, sym}
 use Rattle.std.proofs.Common.{ap, ◌∙◌, subst, append_assoc, append-nil, suc, inl, inr, Some}
-use Rattle.std.proofs.Common.{refl, arith, Bool, true, false, ◌==◌, ◌⊎◌, Option, Result, Ok, Err}
+use Rattle.std.proofs.Common.{refl, arith, ◌⊎◌, Option, Result, Ok, Err}
 use Rattle.std.specs.List.{AllByRecursion, flat_map}
-use Rattle.std.proofs.lemmas.List.{take_all, take_more, length-append}
+use Rattle.std.proofs.lemmas.List.{take_all, take_more, length-append, same_from_push}
 use Rattle.std.proofs.lemmas.List.Concat.{flat_map-append}
 use Rattle.prolly_entry.specs.declared.version.Version.{Version}
 use Rattle.prolly_entry.specs.lemmas.Lists.{all_append, all_back, all_front}
 use Rattle.prolly_file.specs.Frame.{framed, IsSmall, has_no_frame}
 use Rattle.prolly_root.specs.ProofFile.{proof_file, IsProof, proof_start, ProofsSayOne}
 use Rattle.std.proofs.lemmas.Bool.{false≢true}
-use Rattle.std.proofs.Math.Dec.{eqb-suc-zero}
 use Rattle.std.specs.Int.{w64, to_be_bytes}
 use Rattle.prolly_check.specs.Kinds.{kind_of}
 use Rattle.prolly_check.specs.HeldPairs.{pairs_held}
@@ -20,7 +19,7 @@ use Rattle.prolly_check.specs.Way.{FallsTo, IsNamed, level_of, Lead, LevelsFall}
 use Rattle.prolly_check.specs.declared.look_up.step.Due.{Due}
 use Rattle.prolly_root.specs.ProofFault.{HasPassed, IsFault, IsFrameFault, HasMore}
 use Rattle.prolly_root.specs.ProofFault.{last_level, EndsWithin, IsProofStartFault, IsWrongChunk}
-use Rattle.prolly_root.proofs.Descending.{Descended, last_same, one_passed, way_ends}
+use Rattle.prolly_root.proofs.Descending.{Descended, one_passed, way_ends}
 use Rattle.prolly_root.specs.declared.proof.fault.ProofFault.{ProofFault}
 use Rattle.prolly_tree.specs.LookUp.{find}
 use Rattle.std.specs.Borrow.{Bor}
@@ -59,15 +58,6 @@ all_frames version chunks n out h all =
     let e : take n chunks ≡ chunks = take_all n chunks all in
     (subst (AllByRecursion IsSmall) e h.small, h.is ∙ ap (proof_file version) e)
 
--- ---- what is left
-
-pub none_left : (xs : List ℕ) (r : Bool) → r ≡ (length xs == 0) → r ≡ true → xs ≡ []
-none_left [] r e h = refl
-none_left (x ∷ xs) r e h = absurd (false≢true (sym (eqb-suc-zero (length xs)) ∙ sym e ∙ h))
-
-pub some_left : (xs : List ℕ) (r : Bool) → r ≡ (length xs == 0) → r ≡ false → xs ≡ [] → ⊥
-some_left xs r e h none = false≢true (sym h ∙ e ∙ ap (λ ys. length ys == 0) none)
-
 -- ---- where the reading stands
 
 -- some chunks were read and lead to the one that is due, whose frame comes next in the rest
@@ -80,7 +70,7 @@ pub record Stands (version : Version) (root key chunks : List ℕ) (due : Due) (
   pub number : count ≡ length passed
   pub few : count + length rest ≤ length chunks
 
-module _ (version : Version) (root key chunks : List ℕ) (due : Due) (count : ℕ) (rest : List ℕ)
+module _ {version : Version} {root key chunks : List ℕ} {due : Due} {count : ℕ} {rest : List ℕ}
     (s : Stands version root key chunks due count rest) where
   abbrev bytes : List ℕ
   bytes = proof_start version ++ chunks
@@ -111,8 +101,7 @@ module _ (version : Version) (root key chunks : List ℕ) (due : Due) (count : �
             small = all_small;
             is = refl;
             way = record {
-              way = way_ends version root (Key key) s.passed due s.led chunk named falls ends
-                  (s.passed ++ chunk ∷ []) refl;
+              way = way_ends s.led named falls ends (s.passed ++ chunk ∷ []) refl;
               value_is = refl;
             };
           }
@@ -149,8 +138,7 @@ module _ (version : Version) (root key chunks : List ℕ) (due : Due) (count : �
           passed = s.passed ++ chunk ∷ [];
           small = all_small;
           is = spelled;
-          led = one_passed version root (Key key) s.passed due s.led chunk named falls next on
-              above;
+          led = one_passed s.led named falls next on above;
           number = number ∙ ap (λ n. n + 1) s.number ∙ sym (length-append s.passed (chunk ∷ []));
           few = omega (arith, number, s.few, shorter);
         }
@@ -200,15 +188,7 @@ module _ (version : Version) where
   further : (p : List ℕ) (chunks passed : List (List ℕ)) (due : List ℕ) (there : Sought)
       (rest : List ℕ) → DueChunk chunks passed due there rest →
       DueChunk (p ∷ chunks) (p ∷ passed) due there rest
-  further p chunks passed due there rest d = record {
-    chunk = d.chunk;
-    more = d.more;
-    are = ap (λ x. p ∷ x) d.are;
-    small = d.small;
-    is = d.is;
-    named = d.named;
-    then = d.then;
-  }
+  further p chunks passed due there rest d = grind arith
 
   module _ (last reference : List ℕ) (end : Sought) (named : IsNamed version reference last)
       (ends : EndsAt end (kind_of version last)) where
@@ -291,12 +271,7 @@ module _ (version : Version) (root key bytes : List ℕ) (value : Option (List �
   start_fine faults.Version h = h.differs (other_start h.other version h.begins.rest
       (flat_map framed p.chunks) (sym h.begins.is ∙ p.is))
   start_fine faults.Truncated h = no_end_within h
-  start_fine (faults.Frame n) h = h
-  start_fine (faults.Reference n) h = h
-  start_fine (faults.Chunk n) h = h
-  start_fine (faults.KeysOutOfOrder n) h = h
-  start_fine (faults.Level n) h = h
-  start_fine faults.Trailing h = h
+  start_fine fault h = h
 
   frame_there : (passed : List (List ℕ)) (due : List ℕ) (there : Sought) (rest : List ℕ)
       (number : ℕ) (fault : ProofFault) → DueChunk version p.chunks passed due there rest →
@@ -306,13 +281,7 @@ module _ (version : Version) (root key bytes : List ℕ) (value : Option (List �
       ap has_no_frame (sym d.is) ∙ h.1)
   frame_there passed due there rest number (faults.Frame n) d h =
       h.2 (record { rest = _; is = d.is })
-  frame_there passed due there rest number faults.Header d h = h
-  frame_there passed due there rest number faults.Version d h = h
-  frame_there passed due there rest number (faults.Reference n) d h = h
-  frame_there passed due there rest number (faults.Chunk n) d h = h
-  frame_there passed due there rest number (faults.KeysOutOfOrder n) d h = h
-  frame_there passed due there rest number (faults.Level n) d h = h
-  frame_there passed due there rest number faults.Trailing d h = h
+  frame_there passed due there rest number fault d h = h
 
   chunk_there : (fault : ProofFault) → IsWrongChunk version root key bytes fault → ⊥
   chunk_there fault w =
@@ -362,8 +331,8 @@ module _ (version : Version) (root key bytes : List ℕ) (value : Option (List �
       at_last more chunk rest front are (inl h) = record {
         none = rest ∙ ap (flat_map framed) h.0;
         same = p.way.value_is ∙ ap (λ c. find (pairs_held c) key)
-            (last_same p.way.way.before q.way.way.before p.way.way.last chunk
-            (sym p.way.way.are ∙ are ∙ ap (λ more. q.way.way.before ++ chunk ∷ more) h.0) ∙
+            ((same_from_push p.way.way.before q.way.way.before p.way.way.last chunk
+            (sym p.way.way.are ∙ are ∙ ap (λ more. q.way.way.before ++ chunk ∷ more) h.0)).1 ∙
             sym front) ∙ sym q.way.value_is;
       }
       at_last more chunk rest front are (inr h) =

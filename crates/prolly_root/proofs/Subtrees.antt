@@ -7,6 +7,7 @@ use Rattle.std.proofs.Math.Seq.{drop-append_seam, drop-append-add, drop-cons, ta
 use Rattle.std.proofs.lemmas.Bool.{cases_eq, cases_lt}
 use Rattle.std.proofs.lemmas.List.{get_or-drop, get_or_append_left, get_or_push, length-append}
 use Rattle.std.proofs.lemmas.List.{map-append, take_all}
+use Rattle.std.proofs.lemmas.List.Elements.{All-from_recursion}
 use Rattle.std.proofs.lemmas.List.Concat.{flat_map-append}
 use Rattle.prolly_check.specs.Chunks.{chunks_of}
 use Rattle.prolly_check.specs.Content.{Content}
@@ -21,7 +22,7 @@ use Rattle.prolly_root.specs.Walk.{chunks_of_tree, IsFrame, IsWalk}
 use Rattle.prolly_root.specs.declared.file.subtree.Place.{Place}
 use Rattle.prolly_root.specs.declared.root_fault.RootFault.{RootFault}
 use Rattle.prolly_root.specs.lemmas.Places.{level_is}
-use Rattle.prolly_root.proofs.Walking.{IsLower, all_at, all_lower, top_last, apart, behind}
+use Rattle.prolly_root.proofs.Walking.{IsLower, all_lower, top_last, apart, behind}
 use Rattle.prolly_root.proofs.Walking.{ending, front, front_length}
 use Rattle.prolly_check.specs.Verdict.{IsFileOf}
 use Rattle.prolly_file.specs.Frame.{framed}
@@ -68,23 +69,20 @@ module _ (content : Content) (level : ℕ) where
   behind_next from k behind n next h first e =
       suc_behind from k next (n, nth_next k from behind n h first, e)
 
-  -- the one with fewer before it comes first
-  nth_less : (k j from m n : ℕ) → j < k → IsNth content level from j m →
-      IsNth content level from k n → m < n
-  nth_less zero j from m n less h g = absurd (omega (arith, less))
-  nth_less (suc k) j from m n less h g =
-      by_case (cases_eq j k) (λ before. nth_less k j from m g.0 before h g.1)
+  -- what stands behind fewer, or as many, does not stand behind it
+  behind_before : (k j from behind n : ℕ) → j ≤ k → IsBehind content level from j behind →
+      IsNth content level from k n → behind ≤ n
+  behind_before zero zero from behind n few here h = omega (arith, here, h.from_on)
+  behind_before zero (suc j) from behind n few here h = absurd (omega (arith, few))
+  behind_before (suc k) j from behind n few here h =
+      by_case (cases_eq j (suc k)) (λ less. behind_before k j from behind h.0 less here h.1)
     where
-      by_case : (j ≡ k) ⊎ (j ≡ k → ⊥) → (j < k → m < g.0) → m < n
+      by_case : (j ≡ suc k) ⊎ (j ≡ suc k → ⊥) → (j ≤ k → behind ≤ h.0) → behind ≤ n
       by_case (inl e) before =
-          let same = nth_one k from m g.0 (subst (λ j. IsNth content level from j m) e h) g.1 in
-          omega (arith, same, g.2.from_on)
+          let at = subst (λ j. IsBehind content level from j behind) e here in
+          omega (arith, at.2, nth_one k from at.0 h.0 at.1 h.1, h.2.from_on)
       by_case (inr other) before =
-          omega (arith, before (omega (arith, less, other)), g.2.from_on)
-
-  nth_from : (k from n : ℕ) → IsNth content level from k n → from ≤ n
-  nth_from zero from n h = h.from_on
-  nth_from (suc k) from n h = omega (arith, nth_from k from h.0 h.1, h.2.from_on)
+          omega (arith, before (omega (arith, few, other)), h.2.from_on)
 
   -- so that where it is sought behind fewer, only a read can have failed
   pub only_read : (k j from behind : ℕ) → j ≤ k → IsBehind content level from j behind →
@@ -92,15 +90,12 @@ module _ (content : Content) (level : ℕ) where
       NoneBetween content level behind (length (chunks_of content)) ⊎ OnlyRead fault → (n : ℕ) →
       IsNth content level from k n → OnlyRead fault
   only_read k j from behind few here (inr only) n h = only
-  only_read k j from behind few here (inl none) n h = absurd (there k h)
+  only_read k j from behind few here (inl none) n h =
+      absurd (there k h (behind_before k j from behind n few here h))
     where
-      after : (j : ℕ) → j ≤ k → IsBehind content level from j behind → behind ≤ n
-      after zero few here = omega (arith, nth_from k from n h, here)
-      after (suc j) few here = omega (arith, nth_less k j from here.0 n few here.1 h, here.2)
-
-      there : (k : ℕ) → IsNth content level from k n → ⊥
-      there zero h = none n (after j few here) h.within h.is
-      there (suc k) h = none n (after j few here) h.2.within h.2.is
+      there : (k : ℕ) → IsNth content level from k n → behind ≤ n → ⊥
+      there zero h before = none n before h.within h.is
+      there (suc k) h before = none n before h.2.within h.2.is
 
 -- ---- the tops of trees
 
@@ -162,8 +157,8 @@ module _ (content : Content) (level : ℕ) where
         part_at before (tree t) left are i (omega (arith, within, tree_length t)) ∙
         ap (λ cs. get_or cs i []) (top_last content.version level t) ∙
         get_or_append_left (under t) (bytes_of content.version level t ∷ []) [] i within))
-        (all_at (IsLower content.version level) (under t) i []
-        (all_lower content.version level t) within) in
+        (All-from_recursion (IsLower content.version level) (under t)
+        (all_lower content.version level t) i [] within) in
         omega (arith, low, same);
   }
 
@@ -204,7 +199,7 @@ pub record StandsAmong (content : Content) (level : ℕ) (t : Tree level) (from 
   pub are : chunks_of content ≡
       before ++ (chunks_of_trees content level (front ++ t ∷ after) ++ left)
 
-module _ (content : Content) (level : ℕ) (t : Tree level) (from k : ℕ)
+module _ {content : Content} {level : ℕ} {t : Tree level} {from k : ℕ}
     (a : StandsAmong content level t from k) where
   abbrev ahead : ℕ
   ahead = length a.before + length (chunks_of_trees content level a.front)
@@ -260,23 +255,23 @@ module _ (content : Content) (level : ℕ) (t : Tree level) (from k : ℕ)
 -- ---- the bytes of a chunk
 
 -- what was read of them is all of them
-pub chunk_there : (bytes : List ℕ) (content : Content) → IsFileOf bytes content →
-    (frame : Frame) → IsFrame content frame → (count : ℕ) (buf : List ℕ) →
+pub chunk_there : {bytes : List ℕ} {content : Content} → IsFileOf bytes content →
+    {frame : Frame} → IsFrame content frame → (count : ℕ) (buf : List ℕ) →
     length buf ≡ length (nth_chunk content frame.number) →
     take count buf ≡ take (length buf) (drop frame.start bytes) →
     take count buf ≡ nth_chunk content frame.number
-chunk_there bytes content f frame is count buf long gives =
+chunk_there {bytes = bytes} {content = content} f {frame = frame} is count buf long gives =
     let n = frame.number in
     let chunk = nth_chunk content n in
     let left = drop (suc n) (chunks_of content) in
-    let more = flat_map framed left ++ ending bytes content f n in
+    let more = flat_map framed left ++ ending f n in
     let there : drop frame.start bytes ≡ chunk ++ more =
-    ap (λ p. drop p bytes) (is.start ∙ ap (λ n. n + 9) (sym (front_length bytes content f n))) ∙
-    ap (drop (length (front bytes content f n) + 9)) (apart bytes content f n) ∙
-    drop-append-add (front bytes content f n) (behind bytes content f n) 9 ∙
-    ap (λ cs. drop 9 (flat_map framed cs ++ ending bytes content f n))
+    ap (λ p. drop p bytes) (is.start ∙ ap (λ n. n + 9) (sym (front_length f n))) ∙
+    ap (drop (length (front f n) + 9)) (apart f n) ∙
+    drop-append-add (front f n) (behind f n) 9 ∙
+    ap (λ cs. drop 9 (flat_map framed cs ++ ending f n))
     (drop-cons (chunks_of content) n [] is.within) ∙
-    append_assoc chunk (flat_map framed left) (ending bytes content f n) in
+    append_assoc chunk (flat_map framed left) (ending f n) in
     gives ∙ ap (take (length buf)) there ∙ ap (λ n. take n (chunk ++ more)) long ∙
     take-append_seam chunk more
 
@@ -314,10 +309,10 @@ root_is_place content place below begins frame last =
     }
 
 -- a child of a node stands among those below it
-pub child_among : (content : Content) (level : ℕ) (ts : List (Tree level)) (number : ℕ)
-    (t : Tree level) (place : Place) → IsPlaceOf content (suc level) ts place →
+pub child_among : {content : Content} {level : ℕ} {ts : List (Tree level)} {number : ℕ}
+    {t : Tree level} {place : Place} → IsPlaceOf content (suc level) ts place →
     IsChildNumber level ts number t → StandsAmong content level t place.below.number number
-child_among content level ts number t place stands at =
+child_among {content = content} {level = level} {ts = ts} stands at =
     let top = bytes_of content.version (suc level) ts in record {
       front = at.front;
       after = at.after;
@@ -331,10 +326,10 @@ child_among content level ts number t place stands at =
     }
 
 -- the chunk in the place of a tree is its top
-pub chunk_is : (content : Content) (level : ℕ) (t : Tree level) (place : Place) →
+pub chunk_is : {content : Content} {level : ℕ} {t : Tree level} {place : Place} →
     IsPlaceOf content level t place →
     nth_chunk content place.frame.number ≡ bytes_of content.version level t
-chunk_is content level t place stands =
+chunk_is {content = content} {level = level} {t = t} stands =
     let low = chunks_below content.version level t in
     let top = bytes_of content.version level t in
     let own = chunks_of_tree content.version level t in

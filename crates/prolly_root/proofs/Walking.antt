@@ -6,7 +6,8 @@ use Rattle.std.specs.Int.{w64, to_be_bytes}
 use Rattle.std.specs.List.{AllByRecursion, flat_map}
 use Rattle.std.proofs.Math.Seq.{drop-append_seam}
 use Rattle.std.proofs.lemmas.Bool.{cases_lt}
-use Rattle.std.proofs.lemmas.List.{length-append, map-append}
+use Rattle.std.proofs.lemmas.List.{drop_all, length-append, map-append, take_more}
+use Rattle.std.proofs.lemmas.List.Elements.{All-from_recursion}
 use Rattle.std.proofs.lemmas.List.Concat.{flat_map-append}
 use Rattle.prolly_check.specs.Chunks.{chunks_of}
 use Rattle.prolly_check.specs.Content.{Content}
@@ -34,9 +35,9 @@ use Rattle.prolly_root.specs.declared.file.walk.Walk.{Walk}
 -- ---- a device between two calls
 
 -- the file that it held it holds still
-pub holds_still : (old new : DeviceView) (content : Content) → StaysSame old new →
+pub holds_still : {old new : DeviceView} {content : Content} → StaysSame old new →
     HoldsFile old content → HoldsFile new content
-holds_still old new content same holds =
+holds_still {content = content} same holds =
     let kept = same holds.honest in record {
       honest = kept.0;
       short = subst (λ bytes. length bytes < 2 ^ 64) (sym kept.1) holds.short;
@@ -82,12 +83,6 @@ all_weaker : (P Q : List ℕ → Type 0) → ((c : List ℕ) → P c → Q c) �
 all_weaker P Q f [] h = tt
 all_weaker P Q f (c ∷ cs) h = (f c h.0, all_weaker P Q f cs h.1)
 
-pub all_at : {X : Type 0} (P : X → Type 0) (xs : List X) (i : ℕ) (d : X) → AllByRecursion P xs →
-    i < length xs → P (get_or xs i d)
-all_at P [] i d all within = absurd (omega (arith, within))
-all_at P (x ∷ xs) zero d all within = all.0
-all_at P (x ∷ xs) (suc i) d all within = all_at P xs i d all.1 (omega (arith, within))
-
 module _ (version : Version) where
   abbrev AllUpTo : ℕ → List Chunk → Type 0
   AllUpTo level cs = AllByRecursion (StandsUpTo level) (bytes_in cs)
@@ -126,9 +121,22 @@ module _ (version : Version) where
       (λ c h. omega (arith, h.up_to)) (bytes_in (flat_map (post_order version level) ts))
       (all_trees level (tree_up_to level) ts)
 
+-- no chunk is empty
+all_some : (content : Content) → AllByRecursion (λ c. 0 < length c) (chunks_of content)
+all_some content =
+    let tree = tree_of (sha512_cut content.bits) content.version content.pairs in
+    all_weaker (StandsUpTo tree.level) (λ c. 0 < length c) (λ c h. h.some) (chunks_of content)
+    (tree_up_to content.version tree.level tree.tree)
+
+pub root_length : (content : Content) →
+    length (root_reference (sha512_cut content.bits) content.version content.pairs) ≡ 20
+root_length content =
+    let tree = tree_of (sha512_cut content.bits) content.version content.pairs in
+    reference_length (bytes_of content.version tree.level tree.tree)
+
 -- ---- the bytes of a file
 
-module _ (bytes : List ℕ) (content : Content) (f : IsFileOf bytes content) (n : ℕ) where
+module _ {bytes : List ℕ} {content : Content} (f : IsFileOf bytes content) (n : ℕ) where
   abbrev pub cs : List (List ℕ)
   cs = chunks_of content
 
@@ -164,20 +172,13 @@ module _ (bytes : List ℕ) (content : Content) (f : IsFileOf bytes content) (n 
   )
     where
       ending_length : length ending ≡ 29
-      ending_length = ap suc (length-append
-          (root_reference (sha512_cut content.bits) content.version content.pairs)
-          (to_be_bytes w64 (length (chunks (sha512_cut content.bits) content.version
-          content.pairs))) ∙ ap (λ n. n + 8) (reference_length (bytes_of content.version
-          (tree_of (sha512_cut content.bits) content.version content.pairs).level
-          (tree_of (sha512_cut content.bits) content.version content.pairs).tree)))
-
-  all_some : AllByRecursion (λ c. 0 < length c) (drop n cs)
-  all_some = all_back (λ c. 0 < length c) (take n cs) (drop n cs)
-      (subst (AllByRecursion (λ c. 0 < length c)) (sym (take-append-drop n cs))
-      (all_weaker (StandsUpTo (tree_of (sha512_cut content.bits) content.version
-      content.pairs).level) (λ c. 0 < length c) (λ c h. h.some) cs (tree_up_to content.version
-      (tree_of (sha512_cut content.bits) content.version content.pairs).level
-      (tree_of (sha512_cut content.bits) content.version content.pairs).tree)))
+      ending_length = omega (
+        arith,
+        root_length content,
+        length-append (root_reference (sha512_cut content.bits) content.version content.pairs)
+            (to_be_bytes w64 (length (chunks (sha512_cut content.bits) content.version
+            content.pairs))),
+      )
 
   -- what is told of bytes is told of the first ten from there on
   module _ (bytes_read : List ℕ) (result : Result FrameStart RootFault)
@@ -206,7 +207,8 @@ module _ (bytes : List ℕ) (content : Content) (f : IsFileOf bytes content) (n 
         )
 
     is_start : IsStartOf (drop n cs) result
-    is_start = by_what_is_left (drop n cs) refl all_some
+    is_start = by_what_is_left (drop n cs) refl (all_back (λ c. 0 < length c) (take n cs) (drop n cs)
+        (subst (AllByRecursion (λ c. 0 < length c)) (sym (take-append-drop n cs)) (all_some content)))
 
 -- ---- over a frame
 
@@ -232,17 +234,18 @@ framed_length : (c : List ℕ) → length (framed c) ≡ 9 + length c
 framed_length c = omega (arith, length-append (to_be_bytes w64 (length c)) c)
 
 frames_next : (cs : List (List ℕ)) (n : ℕ) → n < length cs →
-    length (flat_map framed (take (suc n) cs)) ≡
+    length (flat_map framed (take (n + 1) cs)) ≡
     length (flat_map framed (take n cs)) + 9 + length (get_or cs n [])
-frames_next [] n within = absurd (omega (arith, within))
-frames_next (c ∷ cs) zero within =
-    omega (arith, length-append (framed c) [], framed_length c)
-frames_next (c ∷ cs) (suc n) within = omega (
-  arith,
-  length-append (framed c) (flat_map framed (take (suc n) cs)),
-  length-append (framed c) (flat_map framed (take n cs)),
-  frames_next cs n (omega (arith, within)),
-)
+frames_next cs n within =
+    let c = get_or cs n [] in
+    let more = ap (flat_map framed) (take_more cs n [] within) ∙
+    flat_map-append framed (take n cs) (c ∷ []) in omega (
+      arith,
+      ap length more,
+      length-append (flat_map framed (take n cs)) (framed c ++ []),
+      length-append (framed c) [],
+      framed_length c,
+    )
 
 -- as many bytes as chunks, or more
 frames_long : (cs : List (List ℕ)) (n : ℕ) → n ≤ length cs →
@@ -256,7 +259,7 @@ frames_long (c ∷ cs) (suc n) within = omega (
   frames_long cs n (omega (arith, within)),
 )
 
-module _ (bytes : List ℕ) (content : Content) (f : IsFileOf bytes content) (walk : Walk)
+module _ {bytes : List ℕ} {content : Content} (f : IsFileOf bytes content) {walk : Walk}
     (at : IsWalk content walk) where
   abbrev left : List (List ℕ)
   left = drop walk.number (chunks_of content)
@@ -270,50 +273,57 @@ module _ (bytes : List ℕ) (content : Content) (f : IsFileOf bytes content) (wa
       result ≡ Ok (ChunkStart len level)) → length bytes < 2 ^ 64 → IsStartOf left result
   begins_there bytes_read result read ends begins short =
       let n = walk.number in
-      let there : drop walk.offset bytes ≡ behind bytes content f n =
-      ap (λ p. drop p bytes) (at.offset ∙ sym (front_length bytes content f n)) ∙
-      ap (drop (length (front bytes content f n))) (apart bytes content f n) ∙
-      drop-append_seam (front bytes content f n) (behind bytes content f n) in
-      is_start bytes content f n bytes_read result (read ∙ ap (take 10) there) ends begins short
+      let there : drop walk.offset bytes ≡ behind f n =
+      ap (λ p. drop p bytes) (at.offset ∙ sym (front_length f n)) ∙
+      ap (drop (length (front f n))) (apart f n) ∙
+      drop-append_seam (front f n) (behind f n) in
+      is_start f n bytes_read result (read ∙ ap (take 10) there) ends begins short
 
   -- the frame of a chunk that begins there fits
   pub fits : (len level : ℕ) → IsStartOf left (Ok (ChunkStart len level)) →
       (0 < len) × (walk.offset + 9 + len ≤ walk.size)
-  fits len level is = by_what_is_left left refl (all_some bytes content f walk.number) is
-    where
-      by_what_is_left : (rest : List (List ℕ)) → left ≡ rest →
-          AllByRecursion (λ c. 0 < length c) rest → IsStartOf rest (Ok (ChunkStart len level)) →
-          (0 < len) × (walk.offset + 9 + len ≤ walk.size)
-      by_what_is_left [] e some is = absurd is
-      by_what_is_left (c ∷ rest) e some is =
-          let long = how_long bytes content f walk.number in
-          let same = ap (λ cs. length (flat_map framed cs)) e in
-          let all = length-append (framed c) (flat_map framed rest) in
-          let size = ap length f.is in (
-            omega (arith, some.0, is.0),
-            omega (arith, long, same, all, framed_length c, is.0, at.offset, at.whole, size),
-          )
+  fits len level is =
+      let n = walk.number in
+      let here = starts_chunk (chunks_of content) n len level is in
+      let some = All-from_recursion (λ c. 0 < length c) (chunks_of content) (all_some content) n []
+      here.0 in
+      let next = frames_next (chunks_of content) n here.0 in (
+        omega (arith, here.1, some),
+        omega (
+          arith,
+          here.1,
+          next,
+          how_long f (n + 1),
+          at.offset,
+          at.whole,
+          ap length f.is,
+        ),
+      )
 
   -- the end record that begins there is the end
   pub ends_there : IsStartOf left (Ok End) →
       (walk.number ≡ length (chunks_of content)) × (walk.offset + 29 ≡ walk.size)
   ends_there is =
-      (ends_list (chunks_of content) walk.number at.within is, by_what_is_left left refl is)
-    where
-      by_what_is_left : (rest : List (List ℕ)) → left ≡ rest → IsStartOf rest (Ok End) →
-          walk.offset + 29 ≡ walk.size
-      by_what_is_left [] e is =
-          let long = how_long bytes content f walk.number in
-          let same = ap (λ cs. length (flat_map framed cs)) e in
-          omega (arith, long, same, at.offset, at.whole, ap length f.is)
-      by_what_is_left (c ∷ rest) e is = absurd is
+      let n = walk.number in
+      let end = ends_list (chunks_of content) n at.within is in
+      let none = drop_all n (chunks_of content) (omega (arith, end)) in (
+        end,
+        omega (
+          arith,
+          how_long f n,
+          ap (λ cs. length (flat_map framed cs)) none,
+          at.offset,
+          at.whole,
+          ap length f.is,
+        ),
+      )
 
   -- its number has one above it
   pub number_fits : length bytes < 2 ^ 64 → walk.number + 1 < 2 ^ 64
   number_fits short = omega (
     arith,
     short,
-    how_long bytes content f walk.number,
+    how_long f walk.number,
     frames_long (chunks_of content) walk.number at.within,
   )
 
@@ -324,8 +334,7 @@ module _ (bytes : List ℕ) (content : Content) (f : IsFileOf bytes content) (wa
       frame.start ≡ walk.offset + 9 → frame.len ≡ len → frame.level ≡ level →
       GoesOver content walk.number new (Ok (Some frame))
   goes_over len level is new frame size offset number same start len_is level_is =
-      let here = starts_chunk (chunks_of content) walk.number len level is in
-      let next : new.number ≡ suc walk.number = omega (arith, number) in (
+      let here = starts_chunk (chunks_of content) walk.number len level is in (
         record {
           within = omega (arith, here.0, same);
           start = start ∙ ap (λ n. n + 9) (at.offset ∙ ap (offset_of content) (sym same));
@@ -341,7 +350,7 @@ module _ (bytes : List ℕ) (content : Content) (f : IsFileOf bytes content) (wa
             at.offset,
             here.1,
             frames_next (chunks_of content) walk.number here.0,
-            ap (offset_of content) next,
+            ap (offset_of content) number,
           );
           whole = size ∙ at.whole;
         },

@@ -4,7 +4,9 @@ use Rattle.std.specs.Prelude.{◌≡◌, ℕ, List, map, Option, Some}
 use Rattle.prolly_check.specs.Chunks.{chunks_of}
 use Rattle.prolly_check.specs.Content.{Content}
 use Rattle.prolly_check.specs.Descent.{IsTreeOf}
+use Rattle.prolly_check.specs.HeldPairs.{pairs_held}
 use Rattle.prolly_check.specs.Kinds.{kind_of}
+use Rattle.prolly_check.specs.Leaves.{IsLeft}
 use Rattle.prolly_check.specs.Sought.{Sought, EndsAt, IsMark, LeadsOn, sought_of}
 use Rattle.prolly_check.specs.Way.{FallsTo, IsNamed, IsWayTo, level_of}
 use Rattle.prolly_check.specs.declared.look_up.step.Due.{Due}
@@ -18,10 +20,11 @@ use Rattle.prolly_root.specs.declared.look_up.descent.Descent.{Descent}
 
 -- ---- whatever the source gives
 
--- The chunk has its reference, and can be read, and the mark stands between its entries.
+-- The chunk has its reference, and can be read, and the marks stand between its entries.
 pub record IsTested {T : Type 0} (version : Version) (chunk : ChunkOnWay T) : Type 0 where
   pub named : IsNamed version chunk.reference.0 chunk.chunk.items
   pub mark : IsMark version chunk.chunk.items chunk.mark
+  pub left : IsLeft (pairs_held chunk.chunk.items) chunk.left
 
 -- It is the one that is due.
 pub record IsAtDue {T : Type 0} (version : Version) (due : Due) (chunk : ChunkOnWay T) : Type 0

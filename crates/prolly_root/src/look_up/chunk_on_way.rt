@@ -1,7 +1,10 @@
 //! A chunk on the way of a look-up by the root.
-ghost use Rattle.std.specs.Prelude.{◌≡◌, ◌<◌, ◌↔◌, length, Ok, IfOk, IfSome, IsTrue};
+ghost use Rattle.std.specs.Prelude.{◌≡◌, ◌<◌, ◌↔◌, length, Ok, IfNone, IfOk, IfSome, IsTrue};
 ghost use Rattle.prolly_check.specs.Content.{Content};
-ghost use Rattle.prolly_check.specs.Sought.{sought_of};
+ghost use Rattle.prolly_check.specs.HeldPairs.{pairs_held};
+ghost use Rattle.prolly_check.specs.Kinds.{kind_of};
+ghost use Rattle.prolly_check.specs.Leaves.{IsLeft, pairs_from};
+ghost use Rattle.prolly_check.specs.Sought.{EndsAt, IsChildOf, IsMark, sought_of};
 ghost use Rattle.prolly_check.specs.Way.{FallsTo};
 ghost use Rattle.prolly_root.specs.ChunkSource.{HasAsked};
 ghost use Rattle.prolly_root.specs.Descent.{IsAtDue, IsTested, IsOnward, StandsBelow, StandsInPlace};
@@ -12,7 +15,7 @@ use crate::chunk_source::ChunkSource;
 use crate::root_fault::RootFault;
 use crate::tested::tested_chunk;
 use prolly_check::laws::tops_are_read;
-use prolly_check::{Due, Mark, Sought, falls_to, step_of};
+use prolly_check::{ChildSought, Due, Mark, Pairs, Sought, falls_to, rest_from, step_of};
 use prolly_entry::{Ref, Version};
 use std::alloc::Global;
 
@@ -34,8 +37,10 @@ pub(crate) struct ChunkOnWay<T> {
     pub(crate) place: T,
     /// Its bytes.
     pub(crate) chunk: Vec<u8>,
-    /// Where the last look-up passed over the child before the one that it went to.
-    pub(crate) mark: Mark,
+    /// In a node: where the last look-up passed over the child before the one that it went to.
+    mark: Mark,
+    /// In a leaf: the mark of the last look-up. See [`rest_from`].
+    left: usize,
 }
 
 impl<T: Copy> ChunkOnWay<T> {
@@ -61,6 +66,7 @@ impl<T: Copy> ChunkOnWay<T> {
             place,
             chunk,
             mark: Mark::first(),
+            left: 0,
         })
     }
 
@@ -71,6 +77,40 @@ impl<T: Copy> ChunkOnWay<T> {
             FallsTo due.now.above self.now.chunk.items) }
     {
         self.reference == due.reference && falls_to(due.above, &self.chunk)
+    }
+
+    /// Its pairs whose key is not less than `from`, and the mark that is kept of this look-up. A node
+    /// has none.
+    pub(crate) fn rest(&self, version: Version, from: &[u8]) -> (Pairs<'_>, usize)
+        requires { IsTested version self.now }
+        ensures pairs { result.0 ≡ pairs_from from.now (pairs_held self.now.chunk.items) }
+        ensures left { IsLeft (pairs_held self.now.chunk.items) result.1 }
+    {
+        rest_from(version, &self.chunk, self.left, from)
+    }
+
+    /// The mark that is kept of a look-up which ends here.
+    fn left_behind(&self, version: Version, sought: Sought<'_>) -> usize
+        requires { IsTested version self.now }
+        ensures { IsLeft (pairs_held self.now.chunk.items) result }
+    {
+        match sought {
+            Sought::Key(key) => self.rest(version, key).1,
+            Sought::Number(_) => self.left,
+        }
+    }
+
+    /// The child in which a look-up goes on from here; none where it ends here.
+    fn child<'a>(&self, version: Version, sought: Sought<'a>) -> Option<ChildSought<'a>>
+        requires { IsTested version self.now }
+        ensures on { IfSome result
+            (IsChildOf (sought_of sought.entry) (kind_of version self.now.chunk.items)) }
+        ensures ends { IfNone result
+            (EndsAt (sought_of sought.entry) (kind_of version self.now.chunk.items)) }
+        ensures passed { IfSome result
+            (λ child. IsMark version self.now.chunk.items child.passed) }
+    {
+        step_of(version, &self.chunk, self.mark, sought)
     }
 
     /// What a look-up comes to here. See [`ChunkSource::child`] for what is read.
@@ -93,7 +133,8 @@ impl<T: Copy> ChunkOnWay<T> {
     {
         // By this law the children of a chunk of a lawful tree are the trees below it.
         tops_are_read();
-        let Some(child) = step_of(version, &self.chunk, self.mark, sought) else {
+        let Some(child) = self.child(version, sought) else {
+            self.left = self.left_behind(version, sought);
             return Ok(Onward::End);
         };
         self.mark = child.passed;

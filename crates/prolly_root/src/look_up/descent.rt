@@ -1,19 +1,17 @@
 //! Going down by the root, from each chunk to the one that it refers to.
-ghost use Rattle.std.specs.Prelude.{◌≡◌, ◌<◌, ℕ, [], ◌∷◌, ◌++◌, List, length, map, IfOk, OnOk};
+ghost use Rattle.std.specs.Prelude.{◌≡◌, [], ◌∷◌, ◌++◌, map, IfOk, OnOk};
 ghost use Rattle.std.specs.List.{AllByRecursion};
 ghost use Rattle.prolly_check.specs.Content.{Content};
-ghost use Rattle.prolly_check.specs.HeldPairs.{pairs_held};
 ghost use Rattle.prolly_check.specs.Sought.{sought_of};
 ghost use Rattle.prolly_root.specs.ChunkSource.{HasAsked};
 ghost use Rattle.prolly_root.specs.Descent.{IsDescent, IsTested, StandsAt};
 ghost use Rattle.prolly_root.specs.Descent.{StandsInPlace, chunks_on_way};
 ghost use Rattle.prolly_root.specs.RootFault.{IsOrFails, MayFail};
-ghost use Rattle.prolly_tree.specs.Difference.{IsMap};
 
 use crate::chunk_source::ChunkSource;
 use crate::look_up::chunk_on_way::{ChunkOnWay, Onward, chunk_at};
 use crate::root_fault::RootFault;
-use prolly_check::{Due, Pairs, Sought, pairs_of};
+use prolly_check::{Due, Sought};
 use prolly_entry::{Ref, Version};
 use std::alloc::{AllocError, Global};
 
@@ -24,18 +22,6 @@ pub(crate) struct Descent<'a, T> {
     pub(crate) levels: Vec<ChunkOnWay<T>>,
     /// What is sought in the last one.
     pub(crate) sought: Sought<'a>,
-}
-
-/// The pairs of the last of these chunks. A node has none.
-pub(crate) fn last_pairs<T>(version: Version, levels: &[ChunkOnWay<T>]) -> Pairs<'_>
-    requires some { 0 < length levels.now }
-    requires all { AllByRecursion (IsTested version) levels.now }
-    ensures last { (above : List (List ℕ)) (last : List ℕ) →
-        chunks_on_way levels.now ≡ above ++ last ∷ [] → result ≡ pairs_held last }
-    ensures rising { IsMap result }
-{
-    let last = &levels[levels.len() - 1];
-    pairs_of(version, &last.chunk)
 }
 
 /// The bytes of these chunks.

@@ -1,8 +1,7 @@
 //! Looking up by the root again and again, in a tree of which no more is read than that wants.
 ghost use Rattle.std.specs.Prelude.{◌≡◌, ◌≤◌, ◌<◌, ℕ, [], ◌∷◌, ◌++◌, List, length, option_map, IfOk};
-ghost use Rattle.std.specs.Prelude.{Err, IfErr, IfSome, Ok, OnErr, OnOk};
+ghost use Rattle.std.specs.Prelude.{Err, IfErr, IfSome, Ok, OnErr, OnOk, take};
 ghost use Rattle.std.specs.List.{AllByRecursion};
-ghost use Rattle.std.specs.Option.{option_copied};
 ghost use Rattle.prolly_check.specs.Content.{Content};
 ghost use Rattle.prolly_check.specs.FoundPairs.{pair_found};
 ghost use Rattle.prolly_check.specs.HeldPairs.{pairs_held};
@@ -17,17 +16,17 @@ ghost use Rattle.prolly_root.specs.Descent.{IsWayDown};
 ghost use Rattle.prolly_root.specs.ProofFile.{IsSomeProof, proof_file};
 ghost use Rattle.prolly_root.specs.RootFault.{OnlyRead, TellsReads};
 ghost use Rattle.prolly_root.specs.Reader.{AreFirstFound, IsEmptied, IsReaderOf, LooksUp, way_of};
-ghost use Rattle.prolly_tree.specs.Difference.{IsMap};
 ghost use Rattle.prolly_tree.specs.File.{root_reference};
+ghost use Rattle.prolly_tree.specs.LookUp.{find};
 
 use crate::chunk_source::ChunkSource;
 use crate::look_up::chunk_on_way::ChunkOnWay;
-use crate::look_up::descent::{chunks_of, go_down, last_pairs};
+use crate::look_up::descent::{chunks_of, go_down};
 use crate::proof::proof_of;
 use crate::root_fault::RootFault;
 use prolly_check::laws::tops_are_read;
-use prolly_check::{Pairs, Sought, first_pairs, pair_sought, rest_from, value_in};
-use prolly_entry::{Pair, Ref, Version};
+use prolly_check::{Pairs, Sought, first_pairs, pair_sought};
+use prolly_entry::{Pair, Ref, Version, key_order};
 use std::alloc::{AllocError, Global};
 use std::marker::Model;
 use std::mem;
@@ -41,10 +40,11 @@ use std::mem;
 /// reference in the one above it, and the first with the root.
 ///
 /// It keeps the chunks of the last look-up, from the root down, and how far the frames below each
-/// were gone over. So look-ups of rising keys go over the frames of a file once, and read each
-/// chunk once. What is kept was compared with the reference above it and with the root: nothing
-/// that is answered depends on whether the source is that of the same tree. Where it is not, or has
-/// changed, a look-up may refuse it. The tree that the reader was opened for is never refused.
+/// and its entries were gone over. So look-ups of rising keys go over the frames of a file and the
+/// entries of a chunk once, and read each chunk once. What is kept was compared with the reference
+/// above it and with the root: nothing that is answered depends on whether the source is that of the
+/// same tree. Where it is not, or has changed, a look-up may refuse it. The tree that the reader was
+/// opened for is never refused.
 ///
 /// A look-up takes memory for the chunks that show what it finds, and for that. After an `Err`
 /// nothing is kept, and the next look-up reads its chunks anew.
@@ -126,7 +126,7 @@ impl<T: Copy + Drop> Reader<T> {
             self.new result }
     {
         self.descend(alloc, source, Sought::Key(key))?;
-        let value = copied(alloc, value_in(self.pairs(), key));
+        let value = first_value(alloc, &self.leaf_from(key), key);
         self.hand_on(value)
     }
 
@@ -144,7 +144,8 @@ impl<T: Copy + Drop> Reader<T> {
             self.new result }
     {
         let there = self.descend(alloc, source, Sought::Number(n))?;
-        let pair = copy_of(alloc, pair_sought(self.pairs(), there));
+        // From the empty key on there are all pairs.
+        let pair = copy_of(alloc, pair_sought(self.leaf_from(&[]), there));
         self.hand_on(pair)
     }
 
@@ -164,7 +165,7 @@ impl<T: Copy + Drop> Reader<T> {
             self.new result }
     {
         self.descend(alloc, source, Sought::Key(from))?;
-        let pairs = first_pairs(alloc, rest_from(self.pairs(), from), most);
+        let pairs = first_pairs(alloc, self.leaf_from(from), most);
         self.hand_on(pairs)
     }
 
@@ -214,7 +215,8 @@ impl<T: Copy + Drop> Reader<T> {
             way_of self.now ≡ above ++ last ∷ [] →
             result ≡ pairs_from from.now (pairs_held last) }
     {
-        rest_from(self.pairs(), from)
+        let last = &self.levels[self.levels.len() - 1];
+        last.rest(self.version, from).0
     }
 
     /// How many chunks show what the last look-up has found.
@@ -250,16 +252,6 @@ impl<T: Copy + Drop> Reader<T> {
         Ok(descent.sought)
     }
 
-    /// The pairs of the last chunk that is kept. A node has none.
-    fn pairs(&self) -> Pairs<'_>
-        requires { 0 < length (way_of self.now) }
-        ensures last { (above : List (List ℕ)) (last : List ℕ) →
-            way_of self.now ≡ above ++ last ∷ [] → result ≡ pairs_held last }
-        ensures rising { IsMap result }
-    {
-        last_pairs(self.version, &self.levels)
-    }
-
     /// The proof that the kept chunks are.
     fn proof(&self, alloc: Global) -> Result<Vec<u8>, AllocError>
         ensures { IfOk result (λ proof. AllByRecursion IsSmall (way_of self.now) ×
@@ -283,13 +275,16 @@ impl<T: Copy + Drop> Reader<T> {
     }
 }
 
-/// A copy of the value.
-fn copied(alloc: Global, value: Option<&[u8]>) -> Result<Option<Vec<u8>>, AllocError>
-    ensures { IfOk result (λ copy. option_map (λ v. v.items) copy ≡ option_copied value.entry) }
+/// A copy of the value of the key, where the first of these pairs has it.
+fn first_value(alloc: Global, pairs: &Pairs<'_>, key: &[u8]) -> Result<Option<Vec<u8>>, AllocError>
+    ensures { IfOk result (λ value.
+        option_map (λ v. v.items) value ≡ find (take 1 pairs.now) key.now) }
 {
-    match value {
-        None => Ok(None),
-        Some(value) => Ok(Some(Vec::from_slice(alloc, value)?)),
+    match pairs.first() {
+        Some((found, value)) if key_order(found, key).is_eq() => {
+            Ok(Some(Vec::from_slice(alloc, value)?))
+        }
+        _ => Ok(None),
     }
 }
 

@@ -1,8 +1,10 @@
-use Rattle.std.proofs.Common.{◌≡◌, ◌∙◌, rules}
+use Rattle.std.proofs.Common.{◌≡◌, ◌∙◌, ap, rules, subst, sym}
 use Rattle.std.proofs.lemmas.Bool.{false≢true}
+use Rattle.prolly_check.specs.Chunks.{chunks_of}
+use Rattle.prolly_check.specs.Way.{FallsTo}
+use Rattle.prolly_entry.specs.Reference.{reference_of}
 use Rattle.prolly_tree.specs.Tree.{bytes_of}
 use Rattle.prolly_root.specs.RootFault.{MayFail}
-use Rattle.prolly_root.proofs.LawfulSteps.{is_due}
 use Rattle.prolly_root.proofs.tested.tested_chunk.Goals as goal
 
 pub returns-in_err-chunk-clause-lawful : goal.returns-in_err-chunk-clause-lawful
@@ -17,9 +19,10 @@ returns-in_err-test-clause-lawful g c content has same due =
     let at = due.at in
     let is : c.deref.result.now ≡ bytes_of content.version at.level at.t =
     c.deref.ensures.value ∙ c.in_ok-chunk.ensures.is content at.level at.t has at.stands in
-    let fits = is_due g.S.ChunkSource.is_place content c.args.reference.now.0 c.args.above
-    c.args.place.now due c.tops_are_read.ensures.read c.args.version same c.deref.result.now is in
-    absurd (false≢true (c.in_err-test.ensures.fits fits.named fits.ordered fits.falls))
+    let read = c.tops_are_read.ensures.read content.version (chunks_of content) at.level at.t
+    at.below in
+    absurd (false≢true (c.in_err-test.ensures.fits (ap reference_of is ∙ sym at.named)
+    (rw (same, is) read.0) (subst (FallsTo c.args.above) (sym is) due.falls)))
 
 pub returns-clause-lawful : goal.returns-clause-lawful
 returns-clause-lawful g c content has same due =

@@ -8,8 +8,7 @@ pub returns-then-size-lt-LEAST_SIZE-clause-lawful :
 returns-then-size-lt-LEAST_SIZE-clause-lawful g c = λ content holds.
     let first = c.in-Ok.ensures.same holds.honest in
     let size = c.in-Ok-len.ensures.length (c.in-Ok.ensures.honest holds.honest) in
-    absurd (has_room (g.D.Device.seen c.args.device.now).bytes content holds.is
-    (omega (arith, size, ap length first, c.if-size-lt-LEAST_SIZE.true)))
+    absurd (has_room holds.is (omega (arith, size, ap length first, c.if-size-lt-LEAST_SIZE.true)))
 
 -- what is told behind a lawful header
 root_told : (g : _) (c : goal.After-root_at_end g) →
@@ -29,5 +28,4 @@ returns-clause-tells g c = search (rules, root_told g c)
 
 pub returns-clause-lawful : goal.returns-clause-lawful
 returns-clause-lawful g c = λ content holds.
-    names_root (g.D.Device.seen c.args.device.now).bytes content holds.is c.root_at_end.result
-    (root_told g c holds.honest)
+    names_root holds.is c.root_at_end.result (root_told g c holds.honest)

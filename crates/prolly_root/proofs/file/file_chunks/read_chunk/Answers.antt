@@ -11,8 +11,7 @@ returns-then-count-len-clause-is g c content holds of =
     let value = ap length c.deref_mut.ensures.value in
     let len = c.in_ok-chunk.ensures.len in
     let long : length buf ≡ length chunk = omega (arith, of.len) in
-    let read = chunk_there (g.D.Device.seen c.args.device.now).bytes content holds.is
-    c.args.frame.now of c.in_ok-count.count buf long (c.in_ok-count.ensures.bytes holds.honest) in
+    let read = chunk_there holds.is of c.in_ok-count.count buf long (c.in_ok-count.ensures.bytes holds.honest) in
     let taken = length-take-le c.in_ok-count.count buf (omega arith) in
     absurd (omega (arith, ap length read))
 
@@ -24,6 +23,5 @@ returns-clause-is g c content holds of =
     let len = c.in_ok-chunk.ensures.len in
     let long : length buf ≡ length chunk = omega (arith, of.len) in
     read_whole c.in_ok-count.count c.in_ok-chunk.chunk.len buf chunk _
-    (chunk_there (g.D.Device.seen c.args.device.now).bytes content holds.is c.args.frame.now of
-    c.in_ok-count.count buf long (c.in_ok-count.ensures.bytes holds.honest)) long (omega arith)
+    (chunk_there holds.is of c.in_ok-count.count buf long (c.in_ok-count.ensures.bytes holds.honest)) long (omega arith)
     (omega arith)

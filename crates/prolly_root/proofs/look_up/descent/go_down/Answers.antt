@@ -1,13 +1,12 @@
-use Rattle.std.proofs.Common.{[], ◌∷◌, ◌++◌, ◌≡◌, inl, refl, sym, subst, ◌∙◌, ap}
+use Rattle.std.proofs.Common.{Err, Ok, [], ◌∷◌, ◌++◌, inl, refl, sym, subst, ◌∙◌, ap}
 use Rattle.std.specs.List.{AllByRecursion}
 use Rattle.prolly_check.specs.Sought.{sought_of}
 use Rattle.prolly_check.specs.Way.{IsNamed}
 use Rattle.prolly_entry.specs.lemmas.Lists.{all_append}
 use Rattle.prolly_root.specs.Descent.{IsOnward, IsTested, StandsInPlace, StepsDown, chunks_on_way}
-use Rattle.prolly_root.specs.RootFault.{TellsFailure}
 use Rattle.prolly_root.specs.declared.root_fault.RootFault.TheVariants.{Memory}
 use Rattle.prolly_root.proofs.Descending.{Descended, asked_on, handed_on, less_room, next_kept}
-use Rattle.prolly_root.proofs.Descending.{none_passed, one_more, one_passed, way_ends}
+use Rattle.prolly_root.proofs.Descending.{one_more, one_passed, way_ends}
 use Rattle.prolly_root.proofs.look_up.descent.go_down.Goals as goal
 
 pub chunk_at-requires : goal.chunk_at-requires
@@ -25,9 +24,8 @@ returns-in_err-chunk g c =
           c.in_err-chunk.ensures.lawful content (before.asked.0 content has) same
           (next_kept (StandsInPlace g.S.ChunkSource.is_place content)
           _ _ _ c.next.ensures.items on.left).0 on.at;
-      asked = asked_on g.S.ChunkSource.has g.S.ChunkSource.failures
-          (λ n. TellsFailure n (g.S.ChunkSource.failures c.chunk_at.new.source) fault)
-          before.asked c.in_err-chunk.ensures.asked;
+      asked = asked_on {T = Unit {0}} g.S.ChunkSource.has g.S.ChunkSource.failures (Err fault) before.asked
+          c.in_err-chunk.ensures.asked;
     })
 
 pub returns-in_err-onward : goal.returns-in_err-onward
@@ -47,9 +45,8 @@ returns-in_err-onward g c =
           (next_kept (StandsInPlace g.S.ChunkSource.is_place content)
           _ _ _ c.next.ensures.items on.left).0 on.at in
           (stepped.lawful content (at.asked.0 content (before.asked.0 content h)) same kept).1;
-      asked = asked_on has failures (λ n. TellsFailure n (failures c.step.new.source) fault)
-          (asked_on has failures (λ n. failures c.chunk_at.new.source ≡ n) before.asked at.asked)
-          stepped.asked;
+      asked = asked_on {T = Unit {0}} has failures (Err fault)
+          (asked_on {T = Unit {0}} has failures (Ok tt) before.asked at.asked) stepped.asked;
     })
 
 pub returns-in_err-keep : goal.returns-in_err-keep
@@ -60,8 +57,7 @@ returns-in_err-keep g c =
     c.from_residual-in_err-keep.ensures) (record {
       found = tt;
       lawful = λ content h same top keeps. inl refl;
-      asked = asked_on has failures (λ n. failures c.step.new.source ≡ n)
-          (asked_on has failures (λ n. failures c.chunk_at.new.source ≡ n)
+      asked = asked_on {T = Unit {0}} has failures (Ok tt) (asked_on {T = Unit {0}} has failures (Ok tt)
           c.loop-levels.invariant.asked c.in_ok-chunk.ensures.asked) c.in_ok-onward.ensures.asked;
     })
 
@@ -76,8 +72,7 @@ returns-in-End-clause-found g c =
     let stepped = c.in_ok-onward.ensures in
     let more = c.in_ok-keep.ensures in record {
       to = record {
-        way = way_ends version c.args.root.now.0 (sought_of c.args.sought) (chunks_on_way above) due
-            before.way chunk.chunk.items
+        way = way_ends before.way
             (subst (λ r. IsNamed version r.0 chunk.chunk.items) is.reference is.is.named) is.falls
             (subst (IsOnward version (sought_of due.sought) chunk.chunk.items) c.in-End.is
             stepped.is) (chunks_on_way c.keep.new.levels.items)
@@ -120,19 +115,16 @@ loop-levels-preserved g c =
           (λ chunks. Descended version root (sought_of c.args.sought) chunks c.in-Below.next) (ap
           (λ chunk. chunks_on_way above ++ chunk.items ∷ []) (sym stepped.stays.1) ∙
           sym (one_more above c.keep.new.levels.items c.step.new.self more))
-          (one_passed version root (sought_of c.args.sought) (chunks_on_way above) due before.way
-          chunk.chunk.items
+          (one_passed before.way
           (subst (λ r. IsNamed version r.0 chunk.chunk.items) is.reference is.is.named) is.falls
           c.in-Below.next on.0 on.1);
       tested = subst (AllByRecursion (IsTested version)) (sym more)
           (all_append (IsTested version) above (c.step.new.self ∷ []) before.tested
           (stepped.level, tt));
       kept = (next_kept (IsTested version) _ _ _ c.next.ensures.items before.kept).1;
-      asked = (
-        λ content has. stepped.asked.0 content
-            (c.in_ok-chunk.ensures.asked.0 content (before.asked.0 content has)),
-        stepped.asked.1 ∙ c.in_ok-chunk.ensures.asked.1 ∙ before.asked.1,
-      );
+      asked = asked_on {T = Unit {0}} g.S.ChunkSource.has g.S.ChunkSource.failures (Ok tt)
+          (asked_on {T = Unit {0}} g.S.ChunkSource.has g.S.ChunkSource.failures (Ok tt) before.asked
+          c.in_ok-chunk.ensures.asked) stepped.asked;
       lawful = λ content has same top keeps.
           let P = StandsInPlace g.S.ChunkSource.is_place content in
           let on = before.lawful content has same top keeps in
@@ -150,7 +142,7 @@ loop-levels-preserved g c =
 
 pub loop-levels-init : goal.loop-levels-init
 loop-levels-init g c = rw (c.new-levels.ensures.items, c.into_iter-kept.ensures.rest) (record {
-  way = none_passed c.args.version c.args.root.now.0 (sought_of c.args.sought) _ refl refl refl;
+  way = record { lead = (refl, refl); down = tt; above = refl };
   tested = tt;
   kept = c.requires;
   asked = (λ content has. has, refl);
@@ -169,9 +161,6 @@ loop-levels-smaller g c =
 
 pub returns-in-End-clause-asked : goal.returns-in-End-clause-asked
 returns-in-End-clause-asked g c =
-    let before = c.loop-levels.invariant.asked in
-    let at = c.in_ok-chunk.ensures.asked in
-    let stepped = c.in_ok-onward.ensures.asked in (
-      λ content has. stepped.0 content (at.0 content (before.0 content has)),
-      stepped.1 ∙ at.1 ∙ before.1,
-    )
+    asked_on {T = Unit {0}} g.S.ChunkSource.has g.S.ChunkSource.failures (Ok tt)
+    (asked_on {T = Unit {0}} g.S.ChunkSource.has g.S.ChunkSource.failures (Ok tt)
+    c.loop-levels.invariant.asked c.in_ok-chunk.ensures.asked) c.in_ok-onward.ensures.asked

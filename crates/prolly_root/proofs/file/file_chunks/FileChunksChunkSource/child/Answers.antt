@@ -7,21 +7,17 @@ use Rattle.prolly_root.proofs.file.file_chunks.FileChunksChunkSource.child.Goals
 
 pub returns-in_err-top-clause-place : goal.returns-in_err-top-clause-place
 returns-in_err-top-clause-place g c content ts t has stands at =
-    let first = c.args.node.now.top.below in
-    let kept = subst (λ n. KeepsLastChild content n first c.args.node.now.last)
+    let kept = subst (λ n. KeepsLastChild content n c.args.node.now.top.below c.args.node.now.last)
     (one_less c.args.level) stands.1 in
-    let among = child_among content c.args.level ts c.args.number t _ stands.0 at in
     let only : OnlyRead c.in_err-top.field-0.0 = c.in_err-top.ensures.place content has kept
-    stands.0.below _ (top_nth content c.args.level t first.number c.args.number among) in
+    stands.0.below _ (top_nth (child_among stands.0 at)) in
     search rules
 
 pub returns-clause-place : goal.returns-clause-place
 returns-clause-place g c content ts t has stands at =
-    let first = c.args.node.now.top.below in
-    let kept = subst (λ n. KeepsLastChild content n first c.args.node.now.last)
-    (one_less c.args.level) stands.1 in
-    let among = child_among content c.args.level ts c.args.number t _ stands.0 at in (
-      place_found content c.args.level t first.number c.args.number among c.in_ok-top.top
+    let kept = subst (λ n. KeepsLastChild content n c.args.node.now.top.below c.args.node.now.last)
+    (one_less c.args.level) stands.1 in (
+      place_found (child_among stands.0 at) c.in_ok-top.top
           (c.in_ok-top.ensures.place content has kept stands.0.below),
       tt,
     )

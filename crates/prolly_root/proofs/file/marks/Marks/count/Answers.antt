@@ -1,8 +1,7 @@
-use Rattle.std.proofs.Common.{◌≡◌, ℕ, ◌+◌, ◌<◌, List, set, arith, sym, subst}
+use Rattle.std.proofs.Common.{◌≡◌, ◌+◌, ◌<◌, set, arith, sym, subst}
 use Rattle.prolly_check.specs.Content.{Content}
 use Rattle.prolly_root.specs.Marks.{AreRuns, IsRun}
 use Rattle.prolly_root.specs.Walk.{IsFrame}
-use Rattle.prolly_root.specs.declared.file.marks.Run.{Run}
 use Rattle.prolly_root.proofs.Marking.{Begun, all_begun, all_counted, fresh, one_behind}
 use Rattle.prolly_root.proofs.Marking.{one_begun, run_at, run_fits}
 use Rattle.prolly_root.proofs.file.marks.Marks.count.Goals as goal
@@ -14,53 +13,43 @@ loop-lower-preserved c = record {
       let runs = c.loop-lower.self.runs in
       let lower = c.loop-lower.lower in
       subst (λ n. Begun content c.args.frame.number (lower + 1) (set runs lower (fresh n)))
-      (sym next) (one_begun content c.args.frame.number lower runs
-      (omega (arith, c.loop-lower-test.true)) (c.loop-lower.invariant.begun content is next are));
+      (sym next) (one_begun (omega (arith, c.loop-lower-test.true))
+      (c.loop-lower.invariant.begun content is next are));
 }
 
 -- where the level is not counted, all runs begin anew
 pub returns-then-level-ge-LEVELS-clause-runs : goal.returns-then-level-ge-LEVELS-clause-runs
-returns-then-level-ge-LEVELS-clause-runs c content is next are =
-    subst (λ n. AreRuns content n c.loop-lower.self.runs) (sym next)
-    (all_begun content c.args.frame.number c.loop-lower.lower c.loop-lower.self.runs
+returns-then-level-ge-LEVELS-clause-runs c content is next are = rw next (all_begun
     (omega (arith, c.loop-lower-test.false, c.if-level-ge-LEVELS.true))
     (c.loop-lower.invariant.begun content is next are))
 
 module _ (c : goal.After-saturating_add) (content : Content) (is : IsFrame content c.args.frame)
     (next : c.args.next ≡ c.args.frame.number + 1)
     (are : AreRuns content c.args.frame.number c.args.self.now.runs) where
-  abbrev level : ℕ
-  level = c.args.frame.level
-
-  abbrev runs : List Run
-  runs = c.loop-lower.self.runs
-
-  few : level < 32
+  few : c.args.frame.level < 32
   few = omega (arith, c.if-level-ge-LEVELS.false)
 
-  begun : Begun content c.args.frame.number level runs
-  begun = let all : c.loop-lower.lower ≡ level = omega (arith, c.loop-lower-test.false) in
-      subst (λ n. Begun content c.args.frame.number n runs) all
-      (c.loop-lower.invariant.begun content is next are)
+  begun : Begun content c.args.frame.number c.args.frame.level c.loop-lower.self.runs
+  begun = subst (λ n. Begun content c.args.frame.number n c.loop-lower.self.runs)
+      (omega (arith, c.loop-lower-test.false)) (c.loop-lower.invariant.begun content is next are)
 
-  run : IsRun content c.args.frame.number level (run_at runs level)
-  run = begun.left level few (omega arith)
+  run : IsRun content c.args.frame.number c.args.frame.level
+      (run_at c.loop-lower.self.runs c.args.frame.level)
+  run = begun.left c.args.frame.level few (omega arith)
 
-  one : c.saturating_add.result ≡ (run_at runs level).count + 1
+  one : c.saturating_add.result ≡ (run_at c.loop-lower.self.runs c.args.frame.level).count + 1
   one = omega (
     arith,
     c.saturating_add.ensures,
     next,
     c.ranges.next.fits,
-    run_fits content level c.args.frame.number (run_at runs level) run,
+    run_fits content c.args.frame.level c.args.frame.number _ run,
   )
 
 pub returns-clause-runs : goal.returns-clause-runs
-returns-clause-runs c content is next are = rw next (all_counted content c.args.frame is
-    c.loop-lower.self.runs c.saturating_add.result (few c content is next are)
+returns-clause-runs c content is next are = rw next (all_counted is (few c content is next are)
     (begun c content is next are) (one c content is next are))
 
 pub returns-clause-behind : goal.returns-clause-behind
-returns-clause-behind c content is next are = rw next (one_behind content c.args.frame is
-    (run_at c.loop-lower.self.runs c.args.frame.level) (run c content is next are)
-    c.saturating_add.result (one c content is next are))
+returns-clause-behind c content is next are = rw next (one_behind is (run c content is next are)
+    (one c content is next are))

@@ -23,7 +23,7 @@ returns-in_err-next_of_level-clause-place g c content has keeps first =
     (only_read content c.args.level c.args.number c.loop-count.count
     c.args.self.now.top.below.number c.loop-count.walk.number before.near at.1
     (c.in_err-next_of_level.ensures.goes content
-    (holds_still (g.D.Device.seen c.args.device.now) _ content before.read.0 has.0) at.0))
+    (holds_still before.read.0 has.0) at.0))
 
 pub loop-count-preserved : goal.loop-count-preserved
 loop-count-preserved g c =
@@ -36,7 +36,7 @@ loop-count-preserved g c =
       read = reads_on old mid new (λ n. new.failures ≡ n) before.read over.read;
       reached = λ content has keeps first.
           let at = before.reached content has keeps first in
-          let goes = over.goes content (holds_still old mid content before.read.0 has.0) at.0 in (
+          let goes = over.goes content (holds_still before.read.0 has.0) at.0 in (
             goes.2,
             behind_next content c.args.level c.args.self.now.top.below.number c.loop-count.count
                 c.loop-count.walk.number c.in_ok-next_of_level.field-0.number
@@ -54,7 +54,7 @@ returns-in_err-frame-clause-place g c content has keeps first =
     (only_read content c.args.level c.args.number c.loop-count.count
     c.args.self.now.top.below.number c.loop-count.walk.number before.near at.1
     (c.in_err-frame.ensures.goes content
-    (holds_still (g.D.Device.seen c.args.device.now) _ content before.read.0 has.0) at.0))
+    (holds_still before.read.0 has.0) at.0))
 
 pub returns-clause-keeps : goal.returns-clause-keeps
 returns-clause-keeps g c content has keeps first =
@@ -66,7 +66,7 @@ returns-clause-keeps g c content has keeps first =
     omega (arith, before.near, c.loop-count-test.false) in
     let behind = subst (λ k. IsBehind content c.args.level from k walk.number) there at.1 in
     let goes = c.in_ok-frame.ensures.goes content
-    (holds_still (g.D.Device.seen c.args.device.now) _ content before.read.0 has.0) at.0 in
+    (holds_still before.read.0 has.0) at.0 in
     let nth = nth_next content c.args.level c.args.number from walk.number
     c.in_ok-frame.frame.number behind goes.1 in (
       record { frame = goes.0; nth = nth; below = at.0; behind = behind },

@@ -23,6 +23,6 @@ returns-in-None-clause-last g c content holds at first =
     let none : number ≡ from = subst (CameTo content from number) c.in-None.is came.1 in
     let all : number ≡ length (chunks_of content) =
     subst (λ next. GoesOver content number c.next.new.self (Ok next)) c.in_default.is
-    (c.in_ok-frame.ensures.goes content (holds_still (g.D.Device.seen c.args.device.now) _ content
+    (c.in_ok-frame.ensures.goes content (holds_still
     c.loop-frame.invariant.read.0 holds) came.0) in
     absurd (omega (arith, some_chunk content, none, all, first))

@@ -1,4 +1,5 @@
 use Rattle.std.proofs.Common.{rules}
+use Rattle.prolly_check.specs.lemmas.PairLists.{none_left}
 use Rattle.prolly_root.specs.RootFault.{MayFail}
 use Rattle.prolly_root.proofs.look_up.chunk_on_way.ChunkOnWay.read.Goals as goal
 
@@ -13,3 +14,6 @@ returns-clause-lawful g c content has same due = record {
   at = due.at;
   is = c.in_ok-chunk.ensures.lawful content has same due;
 }
+
+pub returns-clause-is : goal.returns-clause-is
+returns-clause-is g c = search (rules, none_left)

@@ -1,4 +1,4 @@
-use Rattle.std.proofs.Common.{ap, subst, sym, ◌∙◌}
+use Rattle.std.proofs.Common.{ap, rules, subst, sym}
 use Rattle.prolly_check.specs.Sought.{sought_of}
 use Rattle.prolly_root.specs.Descent.{IsWayDown, chunks_on_way}
 use Rattle.prolly_root.specs.Reader.{IsReaderOf}
@@ -11,12 +11,7 @@ go_down-requires g c = rw c.replace-kept.ensures.value c.self.invariant
 pub returns-in_err-descent-clause-looked : goal.returns-in_err-descent-clause-looked
 returns-in_err-descent-clause-looked g c =
     let view = c.self.view_is in
-    look_up_fails c.in_err-descent.field-0.0 c.from_residual.result c.from_residual.ensures (record {
-      version = ap (λ r. r.version) view;
-      root = ap (λ r. r.root) view;
-      top = ap (λ r. r.top) view;
-      levels = ap (λ v. v.items) c.replace-kept.ensures.after ∙ c.new.ensures.items;
-    }) (λ content has reader.
+    look_up_fails c.in_err-descent.field-0.0 c.from_residual.result c.from_residual.ensures (search rules) (λ content has reader.
     let opened = subst (IsReaderOf g.S.ChunkSource.is_place content) (sym view) reader in
     c.in_err-descent.ensures.lawful content has opened.version opened.top
     (rw c.replace-kept.ensures.value opened.levels)) c.in_err-descent.ensures.asked

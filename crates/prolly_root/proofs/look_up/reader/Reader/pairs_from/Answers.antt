@@ -1,13 +1,12 @@
 use Rattle.std.proofs.Common.{ap, refl, take, ◌∙◌}
-use Rattle.std.proofs.lemmas.Result.{IfOk-weaker}
 use Rattle.prolly_check.specs.HeldPairs.{pairs_held}
 use Rattle.prolly_check.specs.Leaves.{pairs_from}
 use Rattle.prolly_root.specs.Reader.{AreFirstFound}
 use Rattle.prolly_root.proofs.Descending.{finds, hands_on, looks_up_so, some_way}
 use Rattle.prolly_root.proofs.look_up.reader.Reader.pairs_from.Goals as goal
 
-pub pairs-requires : goal.pairs-requires
-pairs-requires g c = some_way c.in_ok-descend.ensures.found
+pub leaf_from-requires : goal.leaf_from-requires
+leaf_from-requires g c = some_way c.in_ok-descend.ensures.found
 
 pub returns-in_err-descend-clause-looked : goal.returns-in_err-descend-clause-looked
 returns-in_err-descend-clause-looked g c = looks_up_so c.in_err-descend.field-0.0
@@ -21,11 +20,10 @@ pub returns-clause-found : goal.returns-clause-found
 returns-clause-found g c =
     let from = c.args.from.now in
     let way = c.in_ok-descend.ensures.found.way in
-    finds c.descend.new.self _ c.first_pairs-pairs.result c.hand_on.result c.hand_on.ensures.ok c.hand_on.ensures.err
-    (λ pairs chunks. AreFirstFound c.args.self.now.version c.args.self.now.root from c.args.most
-    chunks pairs.items) (IfOk-weaker c.first_pairs-pairs.result _ _ (λ pairs is. record {
+    finds c.descend.new.self _ c.first_pairs-pairs.result c.hand_on.result c.hand_on.ensures.ok
+    c.hand_on.ensures.err _ (λ pairs chunks. AreFirstFound c.args.self.now.version
+    c.args.self.now.root from c.args.most chunks pairs.items) (λ pairs is. record {
       found = pairs_from from (pairs_held way.last);
       way = record { way = way; found_is = refl };
-      are = is ∙ ap (take c.args.most) (c.rest_from.ensures ∙ ap (pairs_from from)
-          (c.pairs.ensures.last way.before way.last way.are));
-    }) c.first_pairs-pairs.ensures)
+      are = is ∙ ap (take c.args.most) (c.leaf_from.ensures way.before way.last way.are);
+    }) c.first_pairs-pairs.ensures

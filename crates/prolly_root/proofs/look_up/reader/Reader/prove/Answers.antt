@@ -1,5 +1,4 @@
 use Rattle.std.proofs.Common.{ap, refl, ◌∙◌}
-use Rattle.std.proofs.lemmas.Result.{IfOk-weaker}
 use Rattle.prolly_check.specs.HeldPairs.{pairs_held}
 use Rattle.prolly_root.specs.ProofFile.{IsSomeProof, proof_file}
 use Rattle.prolly_root.specs.Reader.{way_of}
@@ -21,9 +20,10 @@ returns-clause-proves g c =
     let went = c.in_ok-descend.ensures in
     let way = went.found.way in
     let chunks = way_of c.descend.new.self in
-    finds c.descend.new.self _ c.proof-proof.result c.hand_on.result c.hand_on.ensures.ok c.hand_on.ensures.err
+    finds c.descend.new.self _ c.proof-proof.result c.hand_on.result c.hand_on.ensures.ok
+    c.hand_on.ensures.err _
     (λ proof chunks. IsSomeProof c.args.self.now.version c.args.self.now.root key proof.items)
-    (IfOk-weaker c.proof-proof.result _ _ (λ proof made. (
+    (λ proof made. (
       find (pairs_held way.last) key,
       record {
         chunks = chunks;
@@ -31,4 +31,4 @@ returns-clause-proves g c =
         is = made.1 ∙ ap (λ version. proof_file version chunks) went.looked.of.0;
         way = record { way = way; value_is = refl };
       },
-    )) c.proof-proof.ensures)
+    )) c.proof-proof.ensures
