@@ -117,7 +117,8 @@ impl<T: Copy + Drop, U: Copy + Drop> RootDifferences<T, U> {
             (lefts_of self.new)) }
         ensures stops { OnErr result (self.new.stopped ≡ true) }
         ensures goes_on { OnOk result (self.new.stopped ≡ false) }
-        ensures stopped { self.old.stopped ≡ true → result ≡ Err RootDiffFault.Stopped }
+        ensures stopped { self.old.stopped ≡ true → (result ≡ Err RootDiffFault.Stopped) ×
+            (old.new ≡ old.old) × (new.new ≡ new.old) }
         ensures only { IfErr result (λ fault. fault ≡ RootDiffFault.Stopped →
             self.old.stopped ≡ true) }
         ensures notes { OnOk result (is_some self.new.notes ≡ is_some self.old.notes) }
