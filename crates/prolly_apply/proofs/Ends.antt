@@ -26,9 +26,9 @@ use Rattle.prolly_merge.specs.Places.{Place}
 use Rattle.prolly_merge.specs.declared.heads.Peeked.{Peeked}
 use Rattle.prolly_stage.specs.Sends.{SendsPrefix, closing_of}
 use Rattle.prolly_stage.specs.lemmas.Joins.{leaves_keep}
-use Rattle.prolly_apply.specs.Applied.{EndsBy, EndsClean, IsRefused, IsVerdict, MayBe}
-use Rattle.prolly_apply.specs.Applied.{SeenAtEnd, SendsApplied, StopsAt, given}
-use Rattle.prolly_apply.specs.Applied.{stop_ends}
+use Rattle.prolly_apply.specs.Applied.{EndsBy, EndsClean, IsCleanBehind, IsRefused, IsVerdict}
+use Rattle.prolly_apply.specs.Applied.{MayBe, SeenAtEnd, SendsApplied, StopsAt, given}
+use Rattle.prolly_apply.specs.Applied.{old_tree_fault, stop_ends}
 use Rattle.prolly_apply.specs.Cutting.{AreCut, AreSeen, RestAreCut}
 use Rattle.prolly_apply.specs.Taking.{SentFirst, both, pairs_of, whole}
 use Rattle.prolly_apply.specs.declared.stage.Outcome.{Outcome}
@@ -163,6 +163,7 @@ module _ (cut : Cut) (leaves rest all : List (List Pair)) (are : all ≡ leaves 
         SendsApplied cut version all inputs before all_sent end_sent
     pub seen : refused ≡ false → SeenAtEnd cut all end_sent
     pub wrong : refused ≡ true → IsRefused cut all inputs before all_sent end_sent
+    pub clean : IsCleanBehind (end_given last) end_sent
 
   pub tells : (outcome : Result Outcome Stop) (end_sent : End) (refused : Bool)
       (all_sent : List Chunk) → all_sent ≡ sent → IsVerdict outcome end_sent refused →
@@ -182,6 +183,7 @@ module _ (cut : Cut) (leaves rest all : List (List Pair)) (are : all ≡ leaves 
             (sends_clean ok version);
         seen = λ no e. subst (AreSeen cut) (no_more ok.ended) ok.seen;
         wrong = λ yes. absurd (false≢true (sym v.1 ∙ yes));
+        clean = λ e. ap end_given (ends ok.ended).1 ∙ ok.clean_end;
       }
       go (Ok outcomes.Refused) end_sent refused v ok err = record {
         sends = λ no. absurd (false≢true (sym no ∙ v.1));
@@ -192,10 +194,12 @@ module _ (cut : Cut) (leaves rest all : List (List Pair)) (are : all ≡ leaves 
           first = λ version rises cutly. prefix_sent (ok.first (fewer cutly)) rises version
               (closing_of (stop_end inputs));
         };
+        clean = λ e. clean_fault old_tree_fault (sym v.0 ∙ e);
       }
       go (Err stop) end_sent refused v ok err = record {
         sends = λ no version. subst (SendsApplied cut version all inputs before sent) (sym v.0)
             (sends_stopped stop err version);
         seen = λ no e. stop_not_clean stop (sym v.0 ∙ e);
         wrong = λ yes. absurd (false≢true (sym v.1 ∙ yes));
+        clean = λ e. stop_not_clean stop (sym v.0 ∙ e);
       }

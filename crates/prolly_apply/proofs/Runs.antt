@@ -259,4 +259,5 @@ module _ {C : Type 0} (cut_of : C → Cut) where
           };
           seen = subst (λ ls. AreSeen (cut_of cut) ls) (sym are) seen.are;
           ended = ended;
+          clean_end = is ∙ clean_end;
         }

@@ -53,6 +53,7 @@ pub record EndsClean (cut : Cut) (leaves : List (List Pair)) (progress : Progres
       sent
   pub seen : AreSeen cut leaves
   pub ended : HasEnded progress
+  pub clean_end : end_given progress ≡ Clean
 
 -- The leaves are refused: they are not cut so, whatever leaves come behind them. What was sent comes
 -- first.
@@ -110,3 +111,7 @@ pub record IsRefused (cut : Cut) (leaves : List (List Pair)) (inputs : List (Inp
 -- What was seen, where a run came to a clean end.
 abbrev pub SeenAtEnd : Cut → List (List Pair) → End → Type 0
 SeenAtEnd cut leaves last = last ≡ Clean → AreSeen cut leaves
+
+-- A clean end is sent only where the old tree came to one.
+abbrev pub IsCleanBehind : End → End → Type 0
+IsCleanBehind end last = last ≡ Clean → end ≡ Clean

@@ -5,8 +5,8 @@ ghost use Rattle.prolly_link.specs.Progress.{end_given};
 ghost use Rattle.prolly_merge.specs.Head.{IsHeld};
 ghost use Rattle.prolly_merge.specs.Inputs.{Ends};
 ghost use Rattle.prolly_merge.specs.Peeked.{Advances, place_after};
-ghost use Rattle.prolly_apply.specs.Applied.{EndsBy, IsRefused, IsVerdict, SeenAtEnd, SendsApplied};
-ghost use Rattle.prolly_apply.specs.Applied.{StopsAt, given};
+ghost use Rattle.prolly_apply.specs.Applied.{EndsBy, IsCleanBehind, IsRefused, IsVerdict};
+ghost use Rattle.prolly_apply.specs.Applied.{SeenAtEnd, SendsApplied, StopsAt, given};
 
 use crate::cutting::Cutting;
 use crate::old_leaf::OldLeaf;
@@ -69,6 +69,7 @@ pub fn apply_stage<C: Cut, L: In<OldLeaf>, I: In<Record>, O: Out<ChunkEvent>, R:
         (given (L.received old result.old) (end_given (L.progress result.old))
         (I.received changes result.changes) (end_given (I.progress result.changes))) (O.sent out)
         (O.all_sent result.out) (O.end_sent result.out) }
+    ensures clean { IsCleanBehind (end_given (L.progress result.old)) (O.end_sent result.out) }
 {
     let mut changes = Peeked::new(rt, changes);
     let (end, refused) = verdict_of(send_merged(rt, alloc, cut, &mut old, &mut changes, &mut out));

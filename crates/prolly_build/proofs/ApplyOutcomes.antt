@@ -1,5 +1,5 @@
 -- What is answered of a run over an old tree.
-use Rattle.std.proofs.Common.{◌≡◌, ◌⊎◌, ◌≤◌, ◌+◌, ◌-◌, ℕ, Bool, true, List, [], ◌∷◌, length}
+use Rattle.std.proofs.Common.{◌≡◌, ◌⊎◌, ◌≤◌, ◌+◌, ◌-◌, ℕ, Bool, true, false, List, [], ◌∷◌, length}
 use Rattle.std.proofs.Common.{map, Option, Some, None, Result, Ok, Err, inl, inr, refl, ap, sym, subst}
 use Rattle.std.proofs.Common.{◌∙◌, arith}
 use Rattle.std.specs.Prelude.{IfSome}
@@ -35,7 +35,7 @@ use Rattle.prolly_apply.specs.Cutting.{AreCut}
 use Rattle.prolly_apply.specs.OldLoaded.{IsOldLoaded, load_end}
 use Rattle.prolly_apply.specs.Taking.{both, pairs_of}
 use Rattle.prolly_build.specs.Applied.{IsApplyOutcome, IsMapOf, IsRefusedOver, IsStoppedOver}
-use Rattle.prolly_build.specs.Applied.{OfMaps}
+use Rattle.prolly_build.specs.Applied.{IsTold, OfMaps}
 use Rattle.prolly_build.specs.BuiltFile.{AreKept, IsBegun, IsStartFault, IsUnmadeOf}
 use Rattle.prolly_build.specs.BuiltFile.{IsWriterFault}
 use Rattle.prolly_build.specs.Config.{AreLawful, Settings}
@@ -146,6 +146,7 @@ module _ {S : Type 0} (seen : S → SourceView) (has : Content → Type 0) (sett
         unstarted = λ told e s. h.unstarted (subst IsStartFault (sym (same_run fault told e)) s);
         left_behind = λ a b. h.left_behind (λ e. a (ap answers.Run e)) (λ e. b (ap answers.Run e));
         stopped = λ file. absurd (h.no_file file);
+        of_file = λ e. h.no_file (subst IsFileFault (sym (same_run fault old_tree_fault e)) tt);
         cut_so = λ e. absurd (bits_are_no_run fault (sym e));
         had = λ told content e. absurd (old_is_no_run told fault (sym e));
         refused = λ e. absurd (h.no_memory (same_run fault Memory e));
@@ -165,6 +166,7 @@ module _ {S : Type 0} (seen : S → SourceView) (has : Content → Type 0) (sett
     unstarted = λ told e s. none;
     left_behind = λ a b. kept;
     stopped = λ file. absurd (no_file file);
+    of_file = λ e. no_file (subst IsFileFault (sym (same_run fault old_tree_fault e)) tt);
     cut_so = λ e. absurd (bits_are_no_run fault (sym e));
     had = λ told content e. absurd (old_is_no_run told fault (sym e));
     refused = λ e. refused (same_run fault Memory e);
@@ -179,6 +181,7 @@ module _ {S : Type 0} (seen : S → SourceView) (has : Content → Type 0) (sett
     unstarted = λ told e s. absurd (subst IsStartFault (sym (same_run Lost told e)) s);
     left_behind = λ a b. absurd (b refl);
     stopped = λ file. absurd file;
+    of_file = λ e. subst IsFileFault (sym (same_run Lost old_tree_fault e)) tt;
     cut_so = λ e. absurd (bits_are_no_run Lost (sym e));
     had = λ told content e. absurd (old_is_no_run told Lost (sym e));
     refused = λ e. absurd (lost_is_no_memory (same_run Lost Memory e));
@@ -194,6 +197,7 @@ module _ {S : Type 0} (seen : S → SourceView) (has : Content → Type 0) (sett
     is_first = h.is_first;
     old_fault = h.old_fault;
     all = h.all;
+    of_old = h.of_old;
     inputs = h.inputs;
     count_for = h.count_for;
     named = h.named;
@@ -245,6 +249,7 @@ module _ {S : Type 0} (seen : S → SourceView) (has : Content → Type 0) (sett
       unstarted = tt;
       left_behind = tt;
       stopped = tt;
+      of_file = tt;
       cut_so = tt;
       had = tt;
       refused = tt;
@@ -271,9 +276,9 @@ module _ {S : Type 0} (seen : S → SourceView) (has : Content → Type 0) (sett
           | inr clash ↦ inr clash
         ]
 
-    fault_outcome : (fault : RunFault) → (IsStartFault fault → ⊥) →
+    fault_outcome : (fault : RunFault) → (IsStartFault fault → ⊥) → (fault ≡ old_tree_fault → ⊥) →
         IsFinished settings out old new (Err fault) → Answers (Err (answers.Run fault))
-    fault_outcome fault started finished = record {
+    fault_outcome fault started of_file finished = record {
       applied = tt;
       kept = tt;
       unmade = λ told e w m of. elim (over m of) [
@@ -292,16 +297,16 @@ module _ {S : Type 0} (seen : S → SourceView) (has : Content → Type 0) (sett
       unstarted = λ told e s. absurd (started (subst IsStartFault (sym (same_run fault told e)) s));
       left_behind = λ a b. kept;
       stopped = stopped_so fault finished;
+      of_file = λ e. of_file (same_run fault old_tree_fault e);
       cut_so = λ e. absurd (bits_are_no_run fault (sym e));
       had = λ told content e. absurd (old_is_no_run told fault (sym e));
       refused = λ e. refused_so fault finished (same_run fault Memory e);
     }
 
     run_outcome : (fault told : RunFault) → IsFinished settings out old new (Err fault) →
-        ((told ≡ fault) × (IsStartFault told → ⊥)) ⊎ ((told ≡ Lost) × IsStartFault fault) →
-        IsAnswered (Err (answers.Run told))
+        IsTold fault refused old_fault (answers.Run told) → IsAnswered (Err (answers.Run told))
     run_outcome fault told finished (inl h) = record {
-      outcome = fault_outcome told h.1
+      outcome = fault_outcome told h.1 h.2
           (subst (λ (f : RunFault). IsFinished settings out old new (Err f)) (sym h.0) finished);
       counted = λ e. h.1 (subst IsStartFault (sym (told_is e)) tt);
     }
@@ -311,9 +316,14 @@ module _ {S : Type 0} (seen : S → SourceView) (has : Content → Type 0) (sett
         told_is e = cc
     run_outcome fault told finished (inr h) =
         subst (λ (f : RunFault). IsAnswered (Err (answers.Run f))) (sym h.0) (record {
-          outcome = lost_outcome (finished.begun (start_is_no_write fault h.1));
+          outcome = lost_outcome (finished.begun (no_write h.1));
           counted = λ e. cc;
         })
+      where
+        no_write : IsStartFault fault ⊎
+            ((fault ≡ old_tree_fault) × (refused ≡ false) × (old_fault ≡ None)) → fault ≡ Write → ⊥
+        no_write (inl start) = start_is_no_write fault start
+        no_write (inr old) = old_is_no_write fault old.0
 
     as_old : (fault : RunFault) → fault ≡ old_tree_fault →
         IsFinished settings out old new (Err fault) →
@@ -333,6 +343,7 @@ module _ {S : Type 0} (seen : S → SourceView) (has : Content → Type 0) (sett
         unstarted = λ t e s. absurd (old_is_no_run told t e);
         left_behind = λ a b. kept;
         stopped = stopped_so old_tree_fault (as_old fault is finished);
+        of_file = λ e. absurd (old_is_no_run told old_tree_fault e);
         cut_so = λ e. absurd (bits_are_no_old told (sym e));
         had = λ t content e has_it version named.
             subst MayFail (same_old told t e) (subst (λ (f : Option RootFault). IfSome f MayFail)
@@ -353,6 +364,7 @@ module _ {S : Type 0} (seen : S → SourceView) (has : Content → Type 0) (sett
         unstarted = λ t e s. absurd (bits_are_no_run t e);
         left_behind = λ a b. kept;
         stopped = stopped_so old_tree_fault (as_old fault is finished);
+        of_file = λ e. absurd (bits_are_no_run old_tree_fault e);
         cut_so = λ e. never wrong;
         had = λ told content e. absurd (bits_are_no_old told e);
         refused = λ e. absurd (bits_are_no_run Memory e);
@@ -397,13 +409,14 @@ module _ {S : Type 0} (seen : S → SourceView) (has : Content → Type 0) (sett
       level + 1 ≡ settings.stages → (lent : List S) → lent ≡ before →
       (Made : Whole Chunk → Type 0) (out : Whole Chunk)
       (run : HasRun Made settings level out.items out.end) (cut : ℕ) → cut ≡ settings.bits →
-      {D : Type 0} (has_it : D → Content → Type 0) (version : Version) (source : D) →
+      {D : Type 0} (has_it : D → Content → Type 0) (failures : D → ℕ) (version : Version)
+      (source : D) →
       ((content : Content) → has content → has_it source content) → version ≡ settings.version →
       (leaves_in : Receiving (List Pair)) (changes_in : Receiving Record) (link : LinkId)
       (leaves : Receiving (List Pair)) (changes : Receiving Record) (refused : Bool) →
       IsAppliedTo cut leaves_in changes_in link leaves changes refused run.leaves →
-      (passes : LinkId) (fault : Option RootFault) (sent : Whole (List Pair)) →
-      IsOldLoadedFrom has_it version root source passes fault sent →
+      (passes : LinkId) (source' : D) (fault : Option RootFault) (sent : Whole (List Pair)) →
+      IsOldLoadedFrom has_it failures version root source passes source' fault sent →
       (outs : List (Batching Record)) (closed : List (Whole Record)) →
       IsFed seen settings.max_records lent after outs closed →
       (idle : Option (Whole Record)) (count : ℕ) → length before ≡ count →
@@ -411,14 +424,14 @@ module _ {S : Type 0} (seen : S → SourceView) (has : Content → Type 0) (sett
       (result : Result Report ApplyFault) →
       IsOldEnded settings leaves changes refused fault sent (senders_of closed idle) out old new
       result → IsAnswered result
-  lent_outcome bytes lawful few level levels lent same Made out run cut cut_is has_it version source
-      has_is version_is leaves_in changes_in link leaves changes refused applied passes fault sent
-      loaded outs closed fed idle count counted paired result (inr lost) =
+  lent_outcome bytes lawful few level levels lent same Made out run cut cut_is has_it failures version
+      source has_is version_is leaves_in changes_in link leaves changes refused applied passes source'
+      fault sent loaded outs closed fed idle count counted paired result (inr lost) =
       subst IsAnswered (sym lost.0)
       (record { outcome = lost_outcome lost.1; counted = λ e. cc })
-  lent_outcome bytes lawful few level levels lent same Made out run cut cut_is has_it version source
-      has_is version_is leaves_in changes_in link leaves changes refused applied passes fault sent
-      loaded outs closed fed idle count counted paired result (inl met) =
+  lent_outcome bytes lawful few level levels lent same Made out run cut cut_is has_it failures version
+      source has_is version_is leaves_in changes_in link leaves changes refused applied passes source'
+      fault sent loaded outs closed fed idle count counted paired result (inl met) =
       let below : level ≡ settings.stages - 1 = omega (arith, levels) in
       let leaves_met = met.leaves_met applied.old_ended in
       let changes_met = met.changes_met applied.changes_ended in

@@ -3,6 +3,7 @@ use Rattle.std.proofs.Common.{◌≡◌, ◌≢◌, ◌⊎◌, ◌≤◌, ◌<�
 use Rattle.std.proofs.Common.{false, List, [], ◌∷◌, ◌++◌, length, map, Option, Some, None}
 use Rattle.std.proofs.Common.{inl, inr, refl, ap, sym, subst, ◌∙◌, arith}
 use Rattle.std.specs.List.{AllByRecursion, flat_map}
+use Rattle.std.specs.Prelude.{IfSome}
 use Rattle.std.proofs.lemmas.List.{append-nil, length-append, length-map, map-append}
 use Rattle.prolly_check.specs.FirstFault.{chunk_bytes}
 use Rattle.prolly_entry.specs.Cut.{Cut, sha512_cut}
@@ -40,7 +41,7 @@ use Rattle.prolly_apply.specs.OldLoaded.{AreLeavesOf, IsOldLoaded, load_end}
 use Rattle.prolly_apply.specs.Taking.{both, pairs_of}
 use Rattle.prolly_apply.specs.lemmas.OldLeaves.{first_are_cut, first_pairs, leaves_are_cut, pairs_are}
 use Rattle.prolly_apply.specs.lemmas.OldLeaves.{rest_are_cut}
-use Rattle.prolly_build.specs.Applied.{IsMapOf}
+use Rattle.prolly_build.specs.Applied.{IsMapOf, IsOldFault}
 use Rattle.prolly_build.specs.BuiltFile.{AreRead, IsInputEnd, IsLoadFault, IsRunOf}
 use Rattle.prolly_build.specs.Config.{AreLawful, Settings}
 use Rattle.prolly_build.specs.InputFaults.{AreHonest, CountFor}
@@ -230,22 +231,28 @@ front_leaves : (cut : Cut) (m : List Pair) (fault : Option RootFault) (leaves : 
 front_leaves cut m None leaves h = ([], sym (append-nil leaves ∙ h))
 front_leaves cut m (Some fault) leaves h = h
 
+-- a clean end tells no fault of the old tree
+pub no_fault : (fault : Option RootFault) → fault_in (load_end fault) ≡ None → fault ≡ None
+no_fault None e = refl
+no_fault (Some roots.Memory) e = absurd cc
+no_fault (Some roots.Read) e = absurd cc
+no_fault (Some roots.Header) e = absurd cc
+no_fault (Some roots.Version) e = absurd cc
+no_fault (Some roots.Truncated) e = absurd cc
+no_fault (Some (roots.Frame chunk)) e = absurd cc
+no_fault (Some roots.Trailing) e = absurd cc
+no_fault (Some roots.Missing) e = absurd cc
+no_fault (Some (roots.Reference chunk)) e = absurd cc
+no_fault (Some (roots.Chunk chunk)) e = absurd cc
+no_fault (Some (roots.KeysOutOfOrder chunk)) e = absurd cc
+no_fault (Some (roots.Level chunk)) e = absurd cc
+
 -- at a clean end they are all
 all_pairs : (cut : Cut) (m : List Pair) (fault : Option RootFault) (leaves : List (List Pair)) →
     AreLeavesOf cut m fault leaves → fault_in (load_end fault) ≡ None → pairs_of leaves ≡ m
-all_pairs cut m None leaves h e = ap pairs_of h ∙ pairs_are cut m
-all_pairs cut m (Some roots.Memory) leaves h e = absurd cc
-all_pairs cut m (Some roots.Read) leaves h e = absurd cc
-all_pairs cut m (Some roots.Header) leaves h e = absurd cc
-all_pairs cut m (Some roots.Version) leaves h e = absurd cc
-all_pairs cut m (Some roots.Truncated) leaves h e = absurd cc
-all_pairs cut m (Some (roots.Frame chunk)) leaves h e = absurd cc
-all_pairs cut m (Some roots.Trailing) leaves h e = absurd cc
-all_pairs cut m (Some roots.Missing) leaves h e = absurd cc
-all_pairs cut m (Some (roots.Reference chunk)) leaves h e = absurd cc
-all_pairs cut m (Some (roots.Chunk chunk)) leaves h e = absurd cc
-all_pairs cut m (Some (roots.KeysOutOfOrder chunk)) leaves h e = absurd cc
-all_pairs cut m (Some (roots.Level chunk)) leaves h e = absurd cc
+all_pairs cut m fault leaves h e =
+    ap pairs_of (subst (λ (f : Option RootFault). AreLeavesOf cut m f leaves) (no_fault fault e) h)
+    ∙ pairs_are cut m
 
 -- the fault of the old tree is one of an input
 old_only : (fault : Option RootFault) → IfFault IsLoadFault (fault_in (load_end fault))
@@ -262,6 +269,22 @@ old_only (Some (roots.Reference chunk)) = tt
 old_only (Some (roots.Chunk chunk)) = tt
 old_only (Some (roots.KeysOutOfOrder chunk)) = tt
 old_only (Some (roots.Level chunk)) = tt
+
+-- as the loader sends it
+sent_fault : (fault : Option RootFault) → IfSome (fault_in (load_end fault)) IsOldFault
+sent_fault None = tt
+sent_fault (Some roots.Memory) = inl refl
+sent_fault (Some roots.Read) = inr refl
+sent_fault (Some roots.Header) = inr refl
+sent_fault (Some roots.Version) = inr refl
+sent_fault (Some roots.Truncated) = inr refl
+sent_fault (Some (roots.Frame chunk)) = inr refl
+sent_fault (Some roots.Trailing) = inr refl
+sent_fault (Some roots.Missing) = inr refl
+sent_fault (Some (roots.Reference chunk)) = inr refl
+sent_fault (Some (roots.Chunk chunk)) = inr refl
+sent_fault (Some (roots.KeysOutOfOrder chunk)) = inr refl
+sent_fault (Some (roots.Level chunk)) = inr refl
 
 -- ---- the run
 
@@ -288,6 +311,7 @@ module _ {S : Type 0} (seen : S → SourceView) (settings : Settings) (before af
     pub is_first : IsPrefix first m
     pub old_fault : Option RunFault
     pub all : old_fault ≡ None → first ≡ m
+    pub of_old : IfSome old_fault IsOldFault
     pub inputs : Inputs
     pub count_for : CountFor seen 0 settings.max_records before after inputs
     pub named : stop_fault (stop (map_input first old_fault ∷ inputs)) ≡ Some fault
@@ -530,6 +554,7 @@ module _ {S : Type 0} (seen : S → SourceView) (settings : Settings) (before af
               is_first = first_of_m;
               old_fault = fault_in (load_end old.fault);
               all = all_pairs cut m old.fault old.sent are;
+              of_old = sent_fault old.fault;
               inputs = counts.0;
               count_for = counts.1;
               named = ap stop_fault counts.2.stopped ∙ ap Some last.2;

@@ -40,3 +40,5 @@ pub mod Outcomes
 pub mod Applying
 -- What is answered of a run over an old tree.
 pub mod ApplyOutcomes
+-- What is told of the reads of an old tree whose source is given back.
+pub mod GivenBack

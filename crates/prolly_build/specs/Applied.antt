@@ -1,7 +1,7 @@
 -- What applying changes to an old tree has answered, and what it has made of its sources and of the
 -- sink then.
 use Rattle.std.specs.Prelude.{◌≡◌, ◌≢◌, ◌<◌, ◌^◌, ◌⊎◌, ℕ, Bool, true, false, List, ◌∷◌, length, Option}
-use Rattle.std.specs.Prelude.{Some, None, Result, IfOk, IfErr, OnOk}
+use Rattle.std.specs.Prelude.{Some, None, Result, IfOk, IfErr, IfSome, OnOk}
 use Rattle.std.specs.List.{AllByRecursion}
 use Rattle.prolly_check.specs.Content.{Content}
 use Rattle.prolly_check.specs.FirstFault.{chunk_bytes}
@@ -37,10 +37,13 @@ use Rattle.prolly_report.specs.declared.report.Report.{Report}
 
 -- The answer to a fault of a run, where the old tree was refused or not, and its loader had a fault
 -- or none: a fault of the old tree is told as its loader told it, or as wrong bits where it was
--- refused; and where a worker seems to tell a fault of its start, it is lost.
+-- refused; and where a worker seems to tell a fault of its start, or of an old tree that was not
+-- refused and had no fault, it is lost.
 abbrev pub IsTold : RunFault → Bool → Option RootFault → ApplyFault → Type 0
 IsTold fault refused old (answers.Run told) =
-    ((told ≡ fault) × (IsStartFault told → ⊥)) ⊎ ((told ≡ Lost) × IsStartFault fault)
+    ((told ≡ fault) × (IsStartFault told → ⊥) × (told ≢ old_tree_fault)) ⊎
+    ((told ≡ Lost) × (IsStartFault fault ⊎
+    ((fault ≡ old_tree_fault) × (refused ≡ false) × (old ≡ None))))
 IsTold fault refused old (answers.Old told) = (fault ≡ old_tree_fault) × (refused ≡ false) ×
     (old ≡ Some told)
 IsTold fault refused old answers.WrongBits = (fault ≡ old_tree_fault) × (refused ≡ true)
@@ -59,6 +62,10 @@ pub record IsMapOf (settings : Settings) (root : List ℕ) (m : List Pair) : Typ
 abbrev pub OfMaps : Settings → List ℕ → (List Pair → Type 0) → Type 0
 OfMaps settings root So = (m : List Pair) → IsMapOf settings root m →
     So m ⊎ FoundClashIn (chunk_bytes settings.version settings.bits m)
+
+-- What the loader of an old tree sends as its fault: want of memory, or that the old tree is at fault.
+abbrev pub IsOldFault : RunFault → Type 0
+IsOldFault fault = (fault ≡ Memory) ⊎ (fault ≡ old_tree_fault)
 
 module _ {S : Type 0} (seen : S → SourceView) where
   -- The sources were read, each to its end, and the file of the map with their records laid over it
@@ -85,6 +92,7 @@ module _ {S : Type 0} (seen : S → SourceView) where
     pub is_first : IsPrefix first m
     pub old_fault : Option RunFault
     pub all : old_fault ≡ None → first ≡ m
+    pub of_old : IfSome old_fault IsOldFault
     pub inputs : List (Input RunFault)
     pub count_for : CountFor seen 0 settings.max_records before after inputs
     pub named : stop_fault (stop (map_input first old_fault ∷ inputs)) ≡ Some fault
@@ -140,6 +148,8 @@ pub record IsApplyOutcome {S : Type 0} (seen : S → SourceView) (has : Content 
   -- the pairs before it close.
   pub stopped : IfErr result (λ fault. IsFileFault (fault_told fault) → AreHonest seen before →
       OfMaps settings root (IsStoppedOver seen settings before after old new (fault_told fault)))
+  -- A fault of the old tree is never told as one of a file.
+  pub of_file : IfErr result (λ fault. fault ≢ answers.Run old_tree_fault)
   -- Wrong bits are told of no map of the root.
   pub cut_so : IfErr result (λ fault. fault ≡ answers.WrongBits → OfMaps settings root (λ m. ⊥))
   -- Where the source has the tree of the root, it has no fault but want of memory and a failed read.

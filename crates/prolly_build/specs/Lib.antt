@@ -37,3 +37,5 @@ pub mod OldBase
 pub mod Applied
 -- What the end of a run over an old tree makes of it, once its workers have all ended.
 pub mod OldEnd
+-- What becomes of the source of an old tree, and what is told of its reads.
+pub mod GivenBack

@@ -13,21 +13,24 @@ use Rattle.prolly_link.specs.Progress.{end_given, HasEnded}
 use Rattle.prolly_link.specs.declared.message.End.TheVariants.{Fault}
 use Rattle.prolly_root.specs.RootFault.{MayFail}
 use Rattle.prolly_root.specs.declared.root_fault.RootFault.{RootFault}
-use Rattle.prolly_apply.specs.Applied.{SendsApplied, given, old_tree_fault}
+use Rattle.prolly_apply.specs.Applied.{IsCleanBehind, SendsApplied, given, old_tree_fault}
 use Rattle.prolly_apply.specs.Cutting.{AreCut}
-use Rattle.prolly_apply.specs.OldLoaded.{IsOldLoaded, load_end}
+use Rattle.prolly_apply.specs.OldLoaded.{IsOldLoaded, TellsReadsOf, load_end}
 
 -- The leaves of an old tree were loaded into the output of this link. The tree of a source that has
--- it is not refused.
-pub record IsOldLoadedFrom {D : Type 0} (has : D → Content → Type 0) (version : Version)
-    (root : List ℕ) (source : D) (link : LinkId) (fault : Option RootFault)
-    (closed : Whole (List Pair)) : Type 0 where
+-- it is not refused, a failed read is told exactly where a call of the source failed, and the source
+-- has what it had.
+pub record IsOldLoadedFrom {D : Type 0} (has : D → Content → Type 0) (failures : D → ℕ)
+    (version : Version) (root : List ℕ) (source : D) (link : LinkId) (source' : D)
+    (fault : Option RootFault) (closed : Whole (List Pair)) : Type 0 where
   pub writes : closed.link ≡ link
   pub loaded : IsOldLoaded version root [] closed.items fault
   pub end_is : closed.end ≡ load_end fault
   pub lawful : (content : Content) → has source content → version ≡ content.version →
       root ≡ root_reference (sha512_cut content.bits) content.version content.pairs →
       IfSome fault MayFail
+  pub reads : TellsReadsOf (failures source) (failures source') fault
+  pub keeps : (content : Content) → has source content → has source' content
 
 -- Both inputs of the stage of an old tree's leaves have ended, and what it makes of them was sent, on
 -- the links that it was given; or the old tree was refused, since its leaves are not cut so.
@@ -44,3 +47,4 @@ pub record IsAppliedTo (cut : ℕ) (old : Receiving (List Pair)) (changes : Rece
       (end_given changes'.progress)) [] closed.items closed.end
   pub wrong : refused ≡ true → AreCut (sha512_cut cut) old'.items → ⊥
   pub refuses : refused ≡ true → closed.end ≡ Fault old_tree_fault
+  pub clean : IsCleanBehind (end_given old'.progress) closed.end

@@ -1,27 +1,22 @@
 //! The next tree from an old one and files of changes.
-ghost use Rattle.std.specs.Prelude.{◌≡◌, ◌+◌, ◌<◌, ◌≤◌, ◌-◌, ◌↔◌, [], Err, vec_len, IfErr, IfOk};
-ghost use Rattle.prolly_file.specs.Sink.{SinkView};
-ghost use Rattle.prolly_link.specs.Progress.{end_given, HasEnded};
+ghost use Rattle.std.specs.Prelude.{◌≡◌, ◌+◌, ◌<◌, ◌≤◌, ◌↔◌, [], Err, vec_len};
 ghost use Rattle.prolly_link.specs.declared.fault.RunFault.TheVariants.{TooManyFiles};
-ghost use Rattle.prolly_tree.specs.File.{header};
-ghost use Rattle.prolly_build.specs.Applied.{IsApplyOutcome, IsTold};
+ghost use Rattle.prolly_build.specs.Applied.{IsApplyOutcome};
 ghost use Rattle.prolly_build.specs.Config.{AreLawful};
-ghost use Rattle.prolly_build.specs.OldBase.{AreChangesPaired, IsChangesLink, senders_of};
-ghost use Rattle.prolly_build.specs.OldEnd.{IsOldEnded};
-ghost use Rattle.prolly_build.specs.WriterState.{HasWritten};
+ghost use Rattle.prolly_build.specs.GivenBack.{IsGivenBack};
+ghost use Rattle.prolly_build.specs.OldBase.{AreChangesPaired};
 ghost use Rattle.prolly_report.specs.declared.apply_fault.ApplyFault.TheVariants.{Run};
 
 use crate::config::Config;
-use crate::end::finish;
 use crate::links::{StageLinks, both};
-use crate::run::{BaseResult, OldBase, RunResult, meet_old, new_old, run_scoped};
-use crate::start::{AllStart, AppliedEnds, Lent, Permit};
-use prolly_apply::{OLD_TREE, OldLeaf};
-use prolly_entry::{Record, Ref};
+use crate::old_end::{AppliedChanges, end_old};
+use crate::run::{OldBase, OldLinks, run_scoped};
+use crate::start::{AllStart, Lent, Permit};
+use prolly_entry::Ref;
 use prolly_file::{Sink, Source};
-use prolly_link::{ClosedBatch, RunFault};
-use prolly_report::{ApplyFault, Report};
-use prolly_root::{ChunkSource, RootFault};
+use prolly_link::RunFault;
+use prolly_report::ApplyFault;
+use prolly_root::ChunkSource;
 use prolly_stage::Gate;
 use std::alloc::Global;
 use std::mem;
@@ -30,69 +25,6 @@ use std::thread::Threads;
 
 /// The greatest number of files of changes that are laid over a tree: it is an input, too.
 pub const CHANGES_LIMIT: usize = 15;
-
-/// What is told of a fault of a run, where the old tree was refused or not, and its loader had this
-/// fault. `NoThread` and `TooManyFiles` never come from a worker. If one does, the answer is `Lost`.
-fn told_fault(fault: RunFault, refused: bool, old: Option<RootFault>) -> ApplyFault
-    ensures { IsTold fault refused old result }
-{
-    match fault {
-        RunFault::Read { file } => {
-            if file != OLD_TREE {
-                return ApplyFault::Run(fault);
-            }
-            if refused {
-                return ApplyFault::WrongBits;
-            }
-            match old {
-                Some(old) => ApplyFault::Old(old),
-                None => ApplyFault::Run(fault),
-            }
-        }
-        RunFault::NoThread | RunFault::TooManyFiles => ApplyFault::Run(RunFault::Lost),
-        _ => ApplyFault::Run(fault),
-    }
-}
-
-/// Meets the links into the stage of the leaves, and ends the file.
-fn end_old<R: Wait, W: Sink>(
-    rt: &R,
-    config: Config,
-    ran: RunResult<AppliedEnds, Option<RootFault>, OldLeaf>,
-    idle: Option<ClosedBatch<Record>>,
-    sink: &mut W,
-) -> Result<Report, ApplyFault>
-    requires lawful { AreLawful config }
-    requires link { ran.out.link ≡ ran.base.wrote.last.link }
-    requires ended { HasEnded ran.base.wrote.last.progress }
-    requires end { ran.base.wrote.end ≡ end_given ran.base.wrote.last.progress }
-    requires leaves { ran.base.sent.link ≡ ran.base.leaves.old.link }
-    requires changes { IsChangesLink (senders_of ran.base.closed.items idle)
-        ran.base.leaves.changes.link }
-    ensures { (old : SinkView) →
-        HasWritten (header config.version config.bits) (config.stages - 1)
-        ran.base.wrote.last.items old (W.seen sink.old) ran.base.wrote.written →
-        IsOldEnded config ran.base.leaves.old ran.base.leaves.changes ran.base.leaves.refused
-        ran.base.middle ran.base.sent (senders_of ran.base.closed.items idle) ran.out old
-        (W.seen sink.new) result }
-{
-    let RunResult { out, base } = ran;
-    let BaseResult {
-        leaves,
-        middle,
-        sent,
-        closed,
-        wrote,
-    } = base;
-    let refused = leaves.refused;
-    if let Err(halt) = meet_old(rt, leaves, sent, closed, idle) {
-        return Err(ApplyFault::Run(halt.fault()));
-    }
-    match finish(rt, config, out, wrote, sink) {
-        Ok(report) => Ok(report),
-        Err(fault) => Err(told_fault(fault, refused, middle)),
-    }
-}
 
 /// Runs all workers over these links, and the writer on this thread, until all of them have ended;
 /// then ends the file.
@@ -109,7 +41,7 @@ fn run_old<
     old: OldBase<D>,
     sources: &mut Vec<S>,
     sink: &mut W,
-) -> Result<Report, ApplyFault>
+) -> AppliedChanges<D>
 where
     D::Place: Send,
     requires lawful { AreLawful lent.now.config }
@@ -124,8 +56,10 @@ where
         old.base.leaves.changes old.idle }
     ensures outcome { IsApplyOutcome S.seen (D.has old.base.middle.source)
         lent.now.config old.base.middle.root.0 sources.old.items sources.new.items (W.seen sink.old)
-        (W.seen sink.new) (sink.new ≡ sink.old) result }
-    ensures counted { result ≡ Err (Run TooManyFiles) → ⊥ }
+        (W.seen sink.new) (sink.new ≡ sink.old) result.answer }
+    ensures counted { result.answer ≡ Err (Run TooManyFiles) → ⊥ }
+    ensures given_back { IsGivenBack D.has D.failures old.base.middle.source result.source
+        result.answer }
 {
     let OldBase { base, idle } = old;
     let taken = mem::replace(sources, Vec::new(lent.alloc));
@@ -133,7 +67,10 @@ where
     *sources = back;
     match ran {
         Ok(ran) => end_old(lent.rt, lent.config, ran, idle, sink),
-        Err(halt) => Err(ApplyFault::Run(halt.fault())),
+        Err(halt) => AppliedChanges {
+            answer: Err(ApplyFault::Run(halt.fault())),
+            source: None,
+        },
     }
 }
 
@@ -162,10 +99,14 @@ where
 ///
 /// After a fault the sink holds the beginning of a file, and nothing of its end record; after
 /// `Run(Write)` that may have been begun. After every answer but `Run(NoThread)` and `Run(Lost)` the
-/// sources are there in their order, each as its loader left it; after those two some may be gone.
+/// sources are there in their order, and the old tree's is given back, each as its loader left it;
+/// after those two some may be gone.
+///
+/// A read of the old tree is told to have failed only where one did. Where the new tree was made none
+/// did.
 ///
 /// Before a worker sends an item `gate` is asked, and before a worker is started `permit`. The
-/// loader of the old tree is to both the loader of number [`OLD_TREE`].
+/// loader of the old tree is to both the loader of number [`OLD_TREE`](prolly_apply::OLD_TREE).
 ///
 /// Takes one hash of each chunk of the old tree, and for what changes those of a build. Takes the
 /// memory of a build, and that of the leaves that [`load_old`](prolly_apply::load_old) reads ahead
@@ -187,20 +128,29 @@ pub fn apply_changes_with<
     sink: &mut W,
     gate: &G,
     permit: &P,
-) -> Result<Report, ApplyFault>
+) -> AppliedChanges<D>
 where
     D::Place: Send,
-    ensures too_many { (result ≡ Err (Run TooManyFiles)) ↔ (15 < vec_len sources.old) }
+    ensures too_many { (result.answer ≡ Err (Run TooManyFiles)) ↔ (15 < vec_len sources.old) }
     ensures outcome { IsApplyOutcome S.seen (D.has old) config.now root.now.0
-        sources.old.items sources.new.items (W.seen sink.old) (W.seen sink.new) (sink.new ≡ sink.old) result }
+        sources.old.items sources.new.items (W.seen sink.old) (W.seen sink.new) (sink.new ≡ sink.old)
+        result.answer }
+    ensures given_back { IsGivenBack D.has D.failures old result.source result.answer }
 {
     if sources.len() > CHANGES_LIMIT {
-        return Err(ApplyFault::Run(RunFault::TooManyFiles));
+        return AppliedChanges {
+            answer: Err(ApplyFault::Run(RunFault::TooManyFiles)),
+            source: Some(old),
+        };
     }
-    let base = new_old(rt, alloc, config, *root, old, sources.len());
-    let Ok((links, old)) = both(StageLinks::new(alloc, config), base) else {
-        return Err(ApplyFault::Run(RunFault::Memory));
+    let old_links = OldLinks::new(rt, alloc, config, sources.len());
+    let Ok((links, old_links)) = both(StageLinks::new(alloc, config), old_links) else {
+        return AppliedChanges {
+            answer: Err(ApplyFault::Run(RunFault::Memory)),
+            source: Some(old),
+        };
     };
+    let old = old_links.base_over(config, *root, old);
     let lent = Lent {
         rt,
         alloc,
@@ -227,12 +177,14 @@ pub fn apply_changes<
     sources: &mut Vec<S>,
     sink: &mut W,
     gate: &G,
-) -> Result<Report, ApplyFault>
+) -> AppliedChanges<D>
 where
     D::Place: Send,
-    ensures too_many { (result ≡ Err (Run TooManyFiles)) ↔ (15 < vec_len sources.old) }
+    ensures too_many { (result.answer ≡ Err (Run TooManyFiles)) ↔ (15 < vec_len sources.old) }
     ensures outcome { IsApplyOutcome S.seen (D.has old) config.now root.now.0
-        sources.old.items sources.new.items (W.seen sink.old) (W.seen sink.new) (sink.new ≡ sink.old) result }
+        sources.old.items sources.new.items (W.seen sink.old) (W.seen sink.new) (sink.new ≡ sink.old)
+        result.answer }
+    ensures given_back { IsGivenBack D.has D.failures old result.source result.answer }
 {
     apply_changes_with(rt, alloc, config, root, old, sources, sink, gate, &AllStart)
 }

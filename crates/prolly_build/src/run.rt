@@ -13,6 +13,6 @@ mod writer;
 
 pub(crate) use base::{Base, BaseResult, RunResult};
 pub(crate) use files::{meet_files, new_files};
-pub(crate) use old_tree::{OldBase, meet_old, new_old};
+pub(crate) use old_tree::{OldBase, OldLinks, meet_old};
 pub(crate) use scoped::run_scoped;
 pub(crate) use writer::{OpenFile, WriterResult, WriterState};

@@ -6,6 +6,6 @@ mod site;
 
 pub(crate) use job::{Input, Job, Runtime};
 pub(crate) use jobs::{CutLeaves, CutNodes, Load, MergeLast, MergeTwo};
-pub(crate) use old_jobs::{AppliedEnds, ApplyLeaves, LoadOld};
+pub(crate) use old_jobs::{AppliedEnds, ApplyLeaves, LoadOld, OldRead};
 pub use site::{AllStart, Permit};
 pub(crate) use site::{Context, Lent};

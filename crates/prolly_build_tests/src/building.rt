@@ -16,6 +16,7 @@ mod faults;
 mod gates;
 mod growths;
 mod merging;
+mod old_sources;
 mod ranges;
 mod refusals;
 mod whole;

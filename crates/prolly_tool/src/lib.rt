@@ -15,8 +15,8 @@ pub use prolly_answer::{
     answer_verify_set, bits_note, laws, read_keys,
 };
 pub use prolly_build::{
-    AllStart, ApplyFault, CHANGES_LIMIT, Config, ConfigFault, FILES_LIMIT, Permit, Report,
-    apply_changes, apply_changes_with, build, build_with,
+    AllStart, AppliedChanges, ApplyFault, CHANGES_LIMIT, Config, ConfigFault, FILES_LIMIT, Permit,
+    Report, apply_changes, apply_changes_with, build, build_with,
 };
 pub use prolly_line::{Command, ParseFault, RootPair, Sought, WriteMode, parse};
 pub use prolly_text::{

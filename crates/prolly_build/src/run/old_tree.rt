@@ -65,49 +65,66 @@ fn new_changes<R: Wait>(
     })
 }
 
-/// New links from an old tree and so many files of changes to the stage of the leaves.
-pub(crate) fn new_old<D: Drop, R: Wait>(
-    rt: &R,
-    alloc: Global,
-    config: &Config,
-    root: Ref,
-    source: D,
-    files: usize,
-) -> Result<OldBase<D>, AllocError>
-    requires { files ≤ 15 }
-    ensures files { IfOk result (λ old. old.base.feed.files ≡ files) }
-    ensures cut { IfOk result (λ old. old.base.leaves.cut ≡ config.now.bits) }
-    ensures job { IfOk result (λ old. old.base.middle ≡ record {
-      version = config.now.version;
-      root = root;
-      source = source;
-    }) }
-    ensures unread { IfOk result (λ old. (old.base.leaves.old.items ≡ []) ×
-        (old.base.leaves.changes.items ≡ [])) }
-    ensures unsent { IfOk result (λ old. old.base.out.items ≡ []) }
-    ensures leaves { IfOk result (λ old. old.base.out.link ≡ old.base.leaves.old.link) }
-    ensures changes { IfOk result (λ old. AreChangesPaired files old.base.feed.outs.items
-        old.base.leaves.changes old.idle) }
-{
-    let leaves = new_link(alloc, config);
-    let (leaves, changes) = both(leaves, new_changes(rt, alloc, config, files))?;
-    let NewLink { sender, receiver } = leaves;
-    let Changes { feed, input, idle } = changes;
-    let base = Base {
-        leaves: ApplyLeaves {
-            cut: config.cut(),
-            old: receiver,
-            changes: input,
-        },
-        middle: LoadOld {
-            version: config.version(),
-            root,
-            source,
-        },
-        out: sender,
-        feed,
-    };
-    Ok(OldBase { base, idle })
+/// The links from an old tree and from files of changes to the stage of the leaves.
+#[derive(Drop)]
+pub(crate) struct OldLinks {
+    leaves: NewLink<OldLeaf>,
+    changes: Changes,
+}
+
+impl OldLinks {
+    /// New links, from so many files.
+    pub(crate) fn new<R: Wait>(
+        rt: &R,
+        alloc: Global,
+        config: &Config,
+        files: usize,
+    ) -> Result<OldLinks, AllocError>
+        requires { files ≤ 15 }
+        ensures files { IfOk result (λ links. links.changes.feed.files ≡ files) }
+        ensures unread { IfOk result (λ links. links.changes.input.items ≡ []) }
+        ensures paired { IfOk result (λ links. AreChangesPaired files
+            links.changes.feed.outs.items links.changes.input links.changes.idle) }
+    {
+        let leaves = new_link(alloc, config);
+        let (leaves, changes) = both(leaves, new_changes(rt, alloc, config, files))?;
+        Ok(OldLinks { leaves, changes })
+    }
+
+    /// The base over these links of a run over the tree with this root.
+    pub(crate) fn base_over<D: Drop>(self, config: &Config, root: Ref, source: D) -> OldBase<D>
+        ensures feed { result.base.feed ≡ self.changes.feed }
+        ensures input { result.base.leaves.changes ≡ self.changes.input }
+        ensures idle { result.idle ≡ self.changes.idle }
+        ensures cut { result.base.leaves.cut ≡ config.now.bits }
+        ensures job { result.base.middle ≡ record {
+          version = config.now.version;
+          root = root;
+          source = source;
+        } }
+        ensures unread { result.base.leaves.old.items ≡ [] }
+        ensures unsent { result.base.out.items ≡ [] }
+        ensures leaves { result.base.out.link ≡ result.base.leaves.old.link }
+    {
+        let OldLinks { leaves, changes } = self;
+        let NewLink { sender, receiver } = leaves;
+        let Changes { feed, input, idle } = changes;
+        let base = Base {
+            leaves: ApplyLeaves {
+                cut: config.cut(),
+                old: receiver,
+                changes: input,
+            },
+            middle: LoadOld {
+                version: config.version(),
+                root,
+                source,
+            },
+            out: sender,
+            feed,
+        };
+        OldBase { base, idle }
+    }
 }
 
 /// The sender of the changes.

@@ -11,7 +11,7 @@ use std::alloc::Global;
 use std::sync::Wait;
 use std::thread::Threads;
 
-/// To load the leaves of an old tree. It gives back why not all of them were sent, if so.
+/// To load the leaves of an old tree. It gives the source back.
 #[derive(Drop)]
 pub(crate) struct LoadOld<D> {
     pub version: Version,
@@ -19,17 +19,26 @@ pub(crate) struct LoadOld<D> {
     pub source: D,
 }
 
+/// What that gives back.
+#[derive(Drop)]
+pub(crate) struct OldRead<D> {
+    /// The source, as the reads left it.
+    pub source: D,
+    /// Why not all leaves were sent; none where they were.
+    pub fault: Option<RootFault>,
+}
+
 impl<D: ChunkSource + Drop> Job for LoadOld<D> {
     ghost use Rattle.prolly_build.specs.OldWorkers.{IsOldLoadedFrom};
 
     type Item = OldLeaf;
 
-    type Done = Option<RootFault>;
+    type Done = OldRead<D>;
 
     ghost IsReady = { λ _. Unit {0} };
 
-    ghost Gives = { λ job link fault closed. IsOldLoadedFrom D.has job.version job.root.0
-        job.source link fault closed };
+    ghost Gives = { λ job link done closed. IsOldLoadedFrom D.has D.failures job.version job.root.0
+        job.source link done.source done.fault closed };
 
     /// The loader of the old tree has the number by which faults name the tree.
     fn worker(&self) -> Worker {
@@ -41,18 +50,14 @@ impl<D: ChunkSource + Drop> Job for LoadOld<D> {
         rt: &R,
         alloc: Global,
         out: O,
-    ) -> (Option<RootFault>, O::Closed) {
+    ) -> (OldRead<D>, O::Closed) {
         let LoadOld {
             version,
             root,
             source,
         } = self;
-        let OldLoaded {
-            source: _,
-            out,
-            fault,
-        } = load_old(rt, alloc, version, &root, source, out);
-        (fault, out)
+        let OldLoaded { source, out, fault } = load_old(rt, alloc, version, &root, source, out);
+        (OldRead { source, fault }, out)
     }
 }
 

@@ -9,7 +9,7 @@ use prolly_stage::Worker;
 use std::sync::atomic::{AtomicUsize, Ordering};
 
 /// The root of the tree of a map, and its file.
-fn tree_of<R: Wait + Threads + Sync + Abort>(
+pub(super) fn tree_of<R: Wait + Threads + Sync + Abort>(
     rt: &R,
     alloc: Global,
     config: &Config,
@@ -33,8 +33,8 @@ fn applied<R: Wait + Threads + Sync + Abort>(
 ) -> Result<u64, ApplyFault> {
     let (root, file) = tree;
     let old = FileChunks::new(ScriptDevice::new(file, fail_at));
-    let report = apply_changes(rt, alloc, config, &root, old, sources, sink, &OpenGate)?;
-    Ok(report.pairs)
+    let made = apply_changes(rt, alloc, config, &root, old, sources, sink, &OpenGate);
+    Ok(made.answer?.pairs)
 }
 
 const FIFTEEN_FILES: &[&[u8]] = &[
@@ -241,10 +241,11 @@ fn workers_over_an_old_tree_may_be_refused(rt: HostRuntime) -> Result<(), Fail> 
         let turns = permit.out_of_turn.load(Ordering::SeqCst);
         expect_eq(&rt, &(asked, turns), &((granted + 1).min(WORKERS.len()), 0));
         if granted < WORKERS.len() {
-            expect_eq(&rt, &made.err(), &Some(ApplyFault::Run(RunFault::NoThread)));
+            let told = made.answer.err();
+            expect_eq(&rt, &told, &Some(ApplyFault::Run(RunFault::NoThread)));
             expect_bytes(&rt, sink.taken(), b"");
         } else {
-            expect_eq(&rt, &made.err(), &None);
+            expect_eq(&rt, &made.answer.err(), &None);
             expect_bytes(&rt, sink.taken(), &file_of(alloc, b"a2")?);
         }
     }

@@ -42,4 +42,5 @@ returns g c =
       sends = told.sends;
       seen = told.seen;
       refused = told.wrong;
+      clean = told.clean;
     }

@@ -1,5 +1,7 @@
-use Rattle.std.proofs.Common.{ap, sym, ◌∙◌, arith}
+use Rattle.std.proofs.Common.{ap, sym, subst, ◌∙◌, arith}
+use Rattle.prolly_build.specs.GivenBack.{IsGivenBack}
 use Rattle.prolly_build.proofs.ApplyOutcomes.{changes_link, halted_outcome, lent_outcome}
+use Rattle.prolly_build.proofs.GivenBack.{given_back, gone}
 use Rattle.prolly_build.proofs.Makings.{at_ok, at_err}
 use Rattle.prolly_build.proofs.apply.run_old.Goals as goal
 
@@ -43,14 +45,27 @@ returns-in-Ok g c =
     source.left_are_bytes c.requires.lawful
     (omega (arith, c.requires.files, c.args.sources.now.ok.0)) _ c.requires.levels _
     (ap (λ v. v.items) c.replace-taken.ensures.value) _ c.in-Ok.ran.out run _ c.requires.cut
-    g.D.ChunkSource.has _ c.args.old.base.middle.source (λ content h. h)
-    c.requires.version _ _ _ _ _ _ run.made.cuts _ _ _ run.made.passes _ _ run.made.fed _ _
+    g.D.ChunkSource.has g.D.ChunkSource.failures _ c.args.old.base.middle.source (λ content h. h)
+    c.requires.version _ _ _ _ _ _ run.made.cuts _ _ _ _ run.made.passes _ _ run.made.fed _ _
     (omega (arith, c.args.sources.now.ok.0)) c.requires.changes _
-    (c.end_old.ensures _ written.written) in
-    record { outcome = answered.outcome; counted = answered.counted }
+    (c.end_old.ensures.ended _ written.written) in
+    record {
+      outcome = answered.outcome;
+      counted = answered.counted;
+      given_back = subst (λ s. IsGivenBack g.D.ChunkSource.has g.D.ChunkSource.failures
+          c.args.old.base.middle.source s c.end_old.result.answer) (sym c.end_old.ensures.source)
+          (given_back g.D.ChunkSource.has g.D.ChunkSource.failures _ _ _ _ _ _ _ run.made.passes _ _
+          _ _ _ _ _ _ _ _ c.in-Ok.ran.out run run.made.cuts _ _ _ c.end_old.result.answer
+          (c.end_old.ensures.ended _ written.written));
+    }
 
 pub returns-in-Err-clause-outcome : goal.returns-in-Err-clause-outcome
 returns-in-Err-clause-outcome g c =
     halted_outcome _ _ _ _ _ _ _ _ _ c.in-Err.halt c.fault.result c.fault.ensures
     (at_err _ _ _ c.in-Err.is c.run_scoped-ran.ensures.hands_on.refused)
     (at_err _ _ _ c.in-Err.is c.run_scoped-ran.ensures.hands_on.begun)
+
+pub returns-in-Err-clause-given_back : goal.returns-in-Err-clause-given_back
+returns-in-Err-clause-given_back g c =
+    gone g.D.ChunkSource.has g.D.ChunkSource.failures c.args.old.base.middle.source c.in-Err.halt
+    c.fault.result c.fault.ensures
