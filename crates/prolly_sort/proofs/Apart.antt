@@ -1,6 +1,6 @@
 -- Records of which no two have one key.
 use Rattle.std.proofs.Common.{◌≡◌, ℕ, zero, suc, ◌<◌, ◌≤◌, Bool, true, false, cond, List, [], ◌∷◌, filter}
-use Rattle.std.proofs.Common.{length, get_or, None, IsPermutation, refl, sym, ap, ◌∙◌, subst, arith}
+use Rattle.std.proofs.Common.{length, get_or, map, None, refl, sym, ap, ◌∙◌, subst, arith}
 use Rattle.std.specs.List.Sorted.{IsStableBy}
 use Rattle.std.specs.Ordering.{is_eq}
 use Rattle.prolly_entry.specs.Keys.{Rising, key_order}
@@ -8,10 +8,10 @@ use Rattle.prolly_entry.specs.Record.{Record, keys_of}
 use Rattle.prolly_entry.specs.lemmas.Orders.{eq_true, not_eq_above, order_same, order_self}
 use Rattle.prolly_entry.specs.lemmas.RisingRecords.{AllAbove, IsRising, is_rising}
 use Rattle.prolly_sort.specs.declared.place.Place.{Place}
-use Rattle.prolly_sort.specs.Place.{is_below, records_in}
+use Rattle.prolly_sort.specs.Place.{SamePlaces, is_below, records_in, unranked}
 use Rattle.prolly_sort.specs.Run.{AreDoubled}
 use Rattle.prolly_sort.proofs.Coming.{has}
-use Rattle.prolly_sort.proofs.Sorting.{those_of_records, those_stay}
+use Rattle.prolly_sort.proofs.Sorting.{same_of_key}
 
 -- ---- of a key there is at most one record among those that rise
 
@@ -87,11 +87,9 @@ rising_apart records i j h two = apart records i j two
     (λ key. one_at_most key records (is_rising records h))
 
 -- Where they rise once the places are sorted, no two records have one key.
-pub sorted_apart : (bytes : List ℕ) (xs ys : List Place) (i j : ℕ) → IsPermutation xs ys →
-    IsStableBy (is_below bytes) xs ys → Rising (keys_of (records_in bytes ys)) →
-    AreDoubled (records_in bytes xs) i j → ⊥
+pub sorted_apart : (bytes : List ℕ) (xs ys : List Place) (i j : ℕ) → SamePlaces xs ys →
+    IsStableBy (is_below bytes) (map unranked xs) (map unranked ys) →
+    Rising (keys_of (records_in bytes ys)) → AreDoubled (records_in bytes xs) i j → ⊥
 sorted_apart bytes xs ys i j same stable h two = apart (records_in bytes xs) i j two (λ key.
-    subst (λ rs. length rs ≤ 1) (those_of_records bytes key ys ∙
-    ap (records_in bytes) (those_stay bytes key xs ys same stable) ∙
-    sym (those_of_records bytes key xs)) (one_at_most key (records_in bytes ys)
-    (is_rising (records_in bytes ys) h)))
+    subst (λ rs. length rs ≤ 1) (same_of_key bytes xs ys same stable key)
+    (one_at_most key (records_in bytes ys) (is_rising (records_in bytes ys) h)))

@@ -9,7 +9,8 @@ use Rattle.prolly_entry.specs.Record.{Record, keys_of}
 use Rattle.prolly_entry.specs.lemmas.Orders.{order_same}
 use Rattle.prolly_sort.specs.declared.place.Place.{Place}
 use Rattle.prolly_sort.specs.Overlaid.{overlaid}
-use Rattle.prolly_sort.specs.Place.{StandsIn, is_below, kept_before, key_in, record_in, records_in}
+use Rattle.prolly_sort.specs.Place.{AreInOrder, Precedes, StandsIn, is_below, kept_before, key_in}
+use Rattle.prolly_sort.specs.Place.{record_in, records_in}
 use Rattle.prolly_sort.specs.Run.{AreNeighbours}
 use Rattle.prolly_sort.proofs.Coming.{come_to}
 use Rattle.prolly_sort.proofs.Keeping.{equal_from, kept_in_its_place, kept_with_next, last_less, rises_behind}
@@ -72,6 +73,11 @@ module _ (bytes : List ℕ) (places : List Place) where
           ap (λ p. is_below bytes (get_or places n place) p) (sym (was place)) ∙
           subst (λ k. is_below bytes (get_or places k place) (get_or places (n - 1) place) ≡ false) e
           (sorted (n - 1) place (omega arith) (omega arith))
+
+      pub in_order : AreInOrder bytes places → Precedes bytes last place
+      in_order all = subst (λ p. Precedes bytes p place) (was place)
+          (subst (Precedes bytes (get_or places (n - 1) place)) (there place)
+          (all (n - 1) n place (omega arith) within))
 
       -- Where the next key is greater, the last place is kept.
       pub kept_more : is_below bytes last place ≡ true → IsKept bytes places n kept last →

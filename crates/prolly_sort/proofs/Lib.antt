@@ -8,12 +8,18 @@ mod Lasting
 mod Sorting
 -- The numbers of places, and places with one key.
 mod Numbering
+-- The same places in another order, however they are ranked.
+mod Same
+-- Places in the order of their keys and numbers.
+mod Standing
 -- Records of which no two have one key.
 mod Apart
 -- Bytes of keys as numbers, and places in the order of these.
 mod Prefixes
 -- Places that are ranked behind a front which their keys have in common.
 mod Ranking
+-- Places that are sorted group by group.
+mod Grouping
 -- Where records lie among bytes.
 mod Lying
 -- A record file that is written record by record.

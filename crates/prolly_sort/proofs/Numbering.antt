@@ -24,7 +24,7 @@ numbered_more n [] p h e = (omega (arith, e), tt)
 numbered_more n (q ∷ places) p h e = (h.0, numbered_more (suc n) places p h.1 (omega (arith, e)))
 
 -- The numbers are that of the first, and how far the place is behind it.
-number_at : (n : ℕ) (places : List Place) (i : ℕ) (d : Place) → NumberedFrom n places →
+pub number_at : (n : ℕ) (places : List Place) (i : ℕ) (d : Place) → NumberedFrom n places →
     i < length places → (get_or places i d).number ≡ n + i
 number_at n [] i d h l = absurd (omega arith)
 number_at n (p ∷ places) zero d h l = omega (arith, h.0)

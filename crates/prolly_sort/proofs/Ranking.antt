@@ -3,18 +3,17 @@ use Rattle.std.proofs.Common.{◌≡◌, ℕ, zero, suc, ◌+◌, ◌<◌, ◌�
 use Rattle.std.proofs.Common.{All, IsPermutation, drop, get_or, length, map, min, nat_eq, set, take, refl, sym, ap}
 use Rattle.std.proofs.Common.{◌∙◌, arith, length-append, append-nil, subst}
 use Rattle.std.proofs.lemmas.Bool.Decides.{Decides-eqb}
-use Rattle.std.proofs.lemmas.List.{drop_all, take-append-le, take_all, take_more}
+use Rattle.std.proofs.lemmas.List.{drop_all, take_all, take_more}
 use Rattle.std.proofs.lemmas.List.Edits.{map_over_more}
-use Rattle.std.proofs.lemmas.List.Elements.{All-from_recursion, All-map, All-push, All-weaker}
-use Rattle.std.proofs.lemmas.List.Sorted.{All-permutation}
+use Rattle.std.proofs.lemmas.List.Elements.{All-map, All-push, All-weaker}
+use Rattle.std.proofs.lemmas.List.Sorted.{IsPermutation-refl}
 use Rattle.std.specs.List.{common_prefix_len}
 use Rattle.prolly_entry.specs.Prefix.{IsPrefix}
 use Rattle.prolly_entry.specs.lemmas.Lists.{prefix_trans}
 use Rattle.prolly_sort.specs.declared.place.Place.{Place}
-use Rattle.prolly_sort.specs.Place.{AreRanked, IsRanked, StandsIn, WereRanked, key_in, ranked_behind}
-use Rattle.prolly_sort.specs.Place.{prefix_of, record_in, records_in}
-use Rattle.prolly_sort.specs.Run.{NumberedFrom}
+use Rattle.prolly_sort.specs.Place.{SamePlaces, WereRanked, key_in, prefix_of, ranked_behind, unranked}
 use Rattle.prolly_sort.proofs.Lasting.{same_there}
+use Rattle.prolly_sort.proofs.Prefixes.{IsRanked}
 
 -- ---- fronts
 
@@ -69,72 +68,25 @@ nothing_more (a ∷ x) (b ∷ y) (suc n) h = nothing_more x y n (omega (arith, h
 
 -- ---- places that were ranked
 
-stands_ranked : (bytes : List ℕ) (n : ℕ) (p : Place) → StandsIn bytes p →
-    StandsIn bytes (ranked_behind n bytes p)
-stands_ranked bytes n p h = record {
-  ordered = h.ordered;
-  within = h.within;
-  spelled = h.spelled;
-  lawful = h.lawful;
-}
-
-records_ranked : (bytes : List ℕ) (n : ℕ) (places : List Place) →
-    records_in bytes (map (ranked_behind n bytes) places) ≡ records_in bytes places
-records_ranked bytes n [] = refl
-records_ranked bytes n (p ∷ places) = ap (λ rs. record_in bytes p ∷ rs) (records_ranked bytes n places)
-
-numbered_ranked : (bytes : List ℕ) (n first : ℕ) (places : List Place) → NumberedFrom first places →
-    NumberedFrom first (map (ranked_behind n bytes) places)
-numbered_ranked bytes n first [] h = tt
-numbered_ranked bytes n first (p ∷ places) h = (h.0, numbered_ranked bytes n (suc first) places h.1)
+same_unranked : (bytes : List ℕ) (n : ℕ) (places : List Place) →
+    map unranked (map (ranked_behind n bytes) places) ≡ map unranked places
+same_unranked bytes n [] = refl
+same_unranked bytes n (p ∷ places) = ap (λ ps. unranked p ∷ ps) (same_unranked bytes n places)
 
 module _ (bytes : List ℕ) (xs ys : List Place) (h : WereRanked bytes xs ys) where
-  -- They are ranked.
-  pub are_ranked : AreRanked bytes ys
-  are_ranked = record {
-    front = h.front;
-    each = subst (All (IsRanked bytes h.front)) (sym h.new_are)
-        (All-map (IsRanked bytes h.front) (ranked_behind (length h.front) bytes) xs
-        (All-weaker (λ p. IsPrefix h.front (key_in bytes p))
-        (λ p. IsRanked bytes h.front (ranked_behind (length h.front) bytes p))
-        (λ p shares. record { shares = shares; begins = refl }) xs h.shared));
-  }
+  -- They are ranked,
+  pub all_ranked_behind : All (IsRanked bytes h.front) ys
+  all_ranked_behind = subst (All (IsRanked bytes h.front)) (sym h.new_are)
+      (All-map (IsRanked bytes h.front) (ranked_behind (length h.front) bytes) xs
+      (All-weaker (λ p. IsPrefix h.front (key_in bytes p))
+      (λ p. IsRanked bytes h.front (ranked_behind (length h.front) bytes p))
+      (λ p shares. record { shares = shares; begins = refl }) xs h.shared))
 
-  -- They stand where they stood,
-  pub still_stand : All (StandsIn bytes) xs → All (StandsIn bytes) ys
-  still_stand stand = subst (All (StandsIn bytes)) (sym h.new_are)
-      (All-map (StandsIn bytes) (ranked_behind (length h.front) bytes) xs
-      (All-weaker (StandsIn bytes) (λ p. StandsIn bytes (ranked_behind (length h.front) bytes p))
-      (stands_ranked bytes (length h.front)) xs stand))
-
-  -- have their records,
-  pub same_records : records_in bytes ys ≡ records_in bytes xs
-  same_records = ap (records_in bytes) h.new_are ∙ records_ranked bytes (length h.front) xs
-
-  -- and their numbers.
-  pub same_numbers : NumberedFrom zero xs → NumberedFrom zero ys
-  same_numbers numbered = subst (NumberedFrom zero) (sym h.new_are)
-      (numbered_ranked bytes (length h.front) zero xs numbered)
-
--- Ranked places in another order are ranked.
-pub ranked_in_order : (bytes : List ℕ) (xs ys : List Place) → IsPermutation xs ys →
-    AreRanked bytes xs → AreRanked bytes ys
-ranked_in_order bytes xs ys same h = record {
-  front = h.front;
-  each = All-permutation (IsRanked bytes h.front) xs ys same h.each;
-}
-
--- Two of ranked places are ranked.
-pub two_ranked : (bytes : List ℕ) (places : List Place) (i j : ℕ) (p q : Place) →
-    AreRanked bytes places → i < length places → j < length places → get_or places i p ≡ p →
-    get_or places j q ≡ q → AreRanked bytes (p ∷ q ∷ [])
-two_ranked bytes places i j p q h k l e f = record {
-  front = h.front;
-  each = All-from_recursion (IsRanked bytes h.front) (p ∷ q ∷ []) (
-    subst (IsRanked bytes h.front) e (h.each i p k),
-    (subst (IsRanked bytes h.front) f (h.each j q l), tt),
-  );
-}
+  -- and the places that they were.
+  pub same_ranked : SamePlaces xs ys
+  same_ranked = subst (IsPermutation (map unranked xs))
+      (sym (ap (map unranked) h.new_are ∙ same_unranked bytes (length h.front) xs))
+      (IsPermutation-refl (map unranked xs))
 
 -- ---- a loop that ranks
 
@@ -183,20 +135,17 @@ module _ (bytes : List ℕ) (n : ℕ) (old now : List Place) (i : ℕ) (d : Plac
       map_over_more (ranked_behind n bytes) old now i (get_or now i d) within is
       (same_there now i d (get_or now i d) inside)
 
--- At its end all places are ranked, in the memory in which they stood.
-pub all_ranked : (bytes front : List ℕ) (xs old now : List Place) (i len : ℕ) → old ≡ xs →
-    All (λ p. IsPrefix front (key_in bytes p)) xs → length now ≡ length xs → length now ≤ i →
-    len ≡ length xs →
+-- At its end all places are ranked.
+pub all_ranked : (bytes front : List ℕ) (old now : List Place) (i : ℕ) →
+    All (λ p. IsPrefix front (key_in bytes p)) old → length now ≡ length old → length now ≤ i →
     now ≡ map (ranked_behind (length front) bytes) (take i old) ++ drop i old →
-    WereRanked bytes xs (take len (now ++ drop (length now) xs))
-all_ranked bytes front xs old now i len same shared few done whole is =
+    WereRanked bytes old now
+all_ranked bytes front old now i shared few done is =
     let f = ranked_behind (length front) bytes in
     record {
       front = front;
       shared = shared;
-      new_are = take-append-le len now (drop (length now) xs) (omega (arith, few, whole)) ∙
-          take_all len now (omega (arith, few, whole)) ∙ is ∙
-          ap (λ ps. map f (take i ps) ++ drop i ps) same ∙
-          ap (λ ps. map f ps ++ drop i xs) (take_all i xs (omega (arith, few, done))) ∙
-          ap (λ ps. map f xs ++ ps) (drop_all i xs (omega (arith, few, done))) ∙ append-nil (map f xs);
+      new_are = is ∙ ap (λ ps. map f ps ++ drop i old) (take_all i old (omega (arith, few, done))) ∙
+          ap (λ ps. map f old ++ ps) (drop_all i old (omega (arith, few, done))) ∙
+          append-nil (map f old);
     }

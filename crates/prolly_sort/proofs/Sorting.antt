@@ -1,6 +1,6 @@
 -- Places in the order of their keys.
 use Rattle.std.proofs.Common.{◌≡◌, ℕ, Bool, true, false, cond, not, ◌&&◌, List, [], ◌∷◌}
-use Rattle.std.proofs.Common.{filter, Ordering, is_lt, is_eq, refl, sym, ap, ◌∙◌}
+use Rattle.std.proofs.Common.{filter, map, Ordering, is_lt, is_eq, refl, sym, ap, ◌∙◌}
 use Rattle.std.proofs.Common.{subst, IsPermutation, ◌⊎◌, inl, inr}
 use Rattle.std.proofs.lemmas.List.Elements.{All-from_recursion}
 use Rattle.std.proofs.lemmas.List.Elements.{recursion_from_All}
@@ -14,7 +14,7 @@ use Rattle.prolly_entry.specs.Record.{keys_of}
 use Rattle.prolly_entry.specs.lemmas.Orders.{eq_true, order_back, order_same}
 use Rattle.prolly_sort.specs.declared.place.Place.{Place}
 use Rattle.prolly_sort.specs.Overlaid.{overlaid}
-use Rattle.prolly_sort.specs.Place.{is_below, key_in, record_in, records_in}
+use Rattle.prolly_sort.specs.Place.{SamePlaces, is_below, key_in, record_in, records_in, unranked}
 use Rattle.prolly_sort.proofs.Coming.{has, overlaid_rises, said, said_by_those, same_come}
 
 -- The place's key is this one.
@@ -98,22 +98,33 @@ those_of_records bytes key (p ∷ places) = go (is_of bytes key p) (those_of_rec
     go true e = ap (λ rs. record_in bytes p ∷ rs) e
     go false e = e
 
--- Records come to the same once they are sorted.
-pub sorted_come : (bytes : List ℕ) (xs ys : List Place) → IsPermutation xs ys →
-    IsStableBy (is_below bytes) xs ys → overlaid (records_in bytes ys) ≡ overlaid (records_in bytes xs)
-sorted_come bytes xs ys same stable = same_come (records_in bytes ys) (records_in bytes xs) (λ key.
-    sym (said_by_those (records_in bytes ys) key) ∙
-    ap (λ rs. said rs key) (those_of_records bytes key ys ∙
-    ap (records_in bytes) (those_stay bytes key xs ys same stable) ∙
-    sym (those_of_records bytes key xs)) ∙
-    said_by_those (records_in bytes xs) key)
+-- However places are ranked, they have their records.
+pub records_unranked : (bytes : List ℕ) (places : List Place) →
+    records_in bytes (map unranked places) ≡ records_in bytes places
+records_unranked bytes [] = refl
+records_unranked bytes (p ∷ places) = ap (λ rs. record_in bytes p ∷ rs) (records_unranked bytes places)
 
--- What is kept of sorted places has what the records come to, and rises.
-module _ (bytes : List ℕ) (xs ys kept : List Place) (same : IsPermutation xs ys)
-    (stable : IsStableBy (is_below bytes) xs ys)
-    (are : records_in bytes kept ≡ overlaid (records_in bytes ys)) where
-  pub kept_come : records_in bytes kept ≡ overlaid (records_in bytes xs)
-  kept_come = are ∙ sorted_come bytes xs ys same stable
+module _ (bytes : List ℕ) (xs ys : List Place) (same : SamePlaces xs ys)
+    (stable : IsStableBy (is_below bytes) (map unranked xs) (map unranked ys)) where
+  -- The records of a key stay in their order.
+  pub same_of_key : (key : List ℕ) →
+      filter (has key) (records_in bytes ys) ≡ filter (has key) (records_in bytes xs)
+  same_of_key key = ap (filter (has key)) (sym (records_unranked bytes ys)) ∙
+      those_of_records bytes key (map unranked ys) ∙
+      ap (records_in bytes) (those_stay bytes key (map unranked xs) (map unranked ys) same stable) ∙
+      sym (those_of_records bytes key (map unranked xs)) ∙
+      ap (filter (has key)) (records_unranked bytes xs)
 
-  pub kept_rises : Rising (keys_of (records_in bytes kept))
-  kept_rises = subst (λ rs. Rising (keys_of rs)) (sym kept_come) (overlaid_rises (records_in bytes xs))
+  -- Records come to the same once they are sorted.
+  pub sorted_come : overlaid (records_in bytes ys) ≡ overlaid (records_in bytes xs)
+  sorted_come = same_come (records_in bytes ys) (records_in bytes xs) (λ key.
+      sym (said_by_those (records_in bytes ys) key) ∙ ap (λ rs. said rs key) (same_of_key key) ∙
+      said_by_those (records_in bytes xs) key)
+
+  -- What is kept of sorted places has what the records come to, and rises.
+  module _ (kept : List Place) (are : records_in bytes kept ≡ overlaid (records_in bytes ys)) where
+    pub kept_come : records_in bytes kept ≡ overlaid (records_in bytes xs)
+    kept_come = are ∙ sorted_come
+
+    pub kept_rises : Rising (keys_of (records_in bytes kept))
+    kept_rises = subst (λ rs. Rising (keys_of rs)) (sym kept_come) (overlaid_rises (records_in bytes xs))

@@ -1,8 +1,10 @@
 -- Where a record lies among the bytes of a run.
-use Rattle.std.specs.Prelude.{◌≡◌, ℕ, zero, suc, ◌+◌, ◌*◌, ◌^◌, ◌≤◌, nat_lt, Bool, List, [], ◌∷◌}
-use Rattle.std.specs.Prelude.{◌++◌, All, drop, length, map, Option, Some, None, is_some, slice_range}
-use Rattle.std.specs.Prelude.{if◌then◌else◌}
-use Rattle.std.specs.Ordering.{is_lt}
+use Rattle.std.specs.Prelude.{◌≡◌, ℕ, zero, suc, ◌+◌, ◌*◌, ◌^◌, ◌<◌, ◌≤◌, nat_lt, Bool, false, List, []}
+use Rattle.std.specs.Prelude.{◌∷◌, ◌++◌, All, drop, length, map, Option, Some, None, is_some, slice_range}
+use Rattle.std.specs.Prelude.{if◌then◌else◌, IsPermutation, slice_index_or}
+use Rattle.std.specs.List.{AllPairs}
+use Rattle.std.specs.Ordering.{is_lt, nat_cmp, ordering_then}
+use Rattle.std.specs.declared.cmp.Ordering.{Ordering}
 use Rattle.prolly_entry.specs.Keys.{key_order}
 use Rattle.prolly_entry.specs.Prefix.{IsPrefix}
 use Rattle.prolly_entry.specs.Record.{Record, IsRecord}
@@ -23,10 +25,6 @@ abbrev pub prefix_of : ℕ → List ℕ → ℕ
 prefix_of zero bytes = 0
 prefix_of (suc n) [] = 0
 prefix_of (suc n) (byte ∷ bytes) = byte * 256 ^ n + prefix_of n bytes
-
--- The place's number for bytes of its key, and the key behind it.
-abbrev pub ranked_in : List ℕ → Place → List ℕ
-ranked_in bytes p = p.prefix ∷ key_in bytes p
 
 -- The value that stands behind the key and the value's length; none where the key is removed.
 abbrev pub value_in : List ℕ → Place → Option (List ℕ)
@@ -59,25 +57,57 @@ ranked_behind n bytes p = record {
   is_put = p.is_put;
 }
 
--- The place's key begins with this front, and the place has the number of the eight bytes behind it.
-pub record IsRanked (bytes front : List ℕ) (p : Place) : Type 0 where
-  pub shares : IsPrefix front (key_in bytes p)
-  pub begins : p.prefix ≡ prefix_of 8 (drop (length front) (key_in bytes p))
-
--- The places are ranked behind one front.
-pub record AreRanked (bytes : List ℕ) (places : List Place) : Type 0 where
-  pub front : List ℕ
-  pub each : All (IsRanked bytes front) places
-
 -- The new places are the old ones, ranked behind a front that all their keys have in common.
 pub record WereRanked (bytes : List ℕ) (old new : List Place) : Type 0 where
   pub front : List ℕ
   pub shared : All (λ p. IsPrefix front (key_in bytes p)) old
   pub new_are : new ≡ map (ranked_behind (length front) bytes) old
 
+-- The place before it was ranked.
+abbrev pub unranked : Place → Place
+unranked p = record {
+  prefix = 0;
+  number = p.number;
+  start = p.start;
+  end = p.end;
+  key_len = p.key_len;
+  is_put = p.is_put;
+}
+
+-- The new places are the old ones in some order, however they were ranked.
+abbrev pub SamePlaces : List Place → List Place → Type 0
+SamePlaces old new = IsPermutation (map unranked old) (map unranked new)
+
+-- The first places, so many, are all up to the next one that are ranked as the first one.
+pub record IsFirstGroup (places : List Place) (len : ℕ) : Type 0 where
+  pub some : 0 < len
+  pub within : len ≤ length places
+  pub alike : (k : ℕ) (d : Place) → k < len →
+      (slice_index_or places k d).prefix ≡ (slice_index_or places 0 d).prefix
+  pub ends : (d : Place) → len < length places →
+      (slice_index_or places len d).prefix ≡ (slice_index_or places 0 d).prefix → ⊥
+
+-- Places are compared by their keys, and by their numbers where these are equal.
+abbrev pub place_order : List ℕ → Place → Place → Ordering
+place_order bytes p q =
+    ordering_then (key_order (key_in bytes p) (key_in bytes q)) (nat_cmp p.number q.number)
+
+-- So compared, the one place is less than the other.
+abbrev pub comes_before : List ℕ → Place → Place → Bool
+comes_before bytes p q = is_lt (place_order bytes p q)
+
 -- The one place's key is less than the other's.
 abbrev pub is_below : List ℕ → Place → Place → Bool
 is_below bytes p q = is_lt (key_order (key_in bytes p) (key_in bytes q))
+
+-- The other place does not come before the one, and is ranked alike where they have one key.
+pub record Precedes (bytes : List ℕ) (p q : Place) : Type 0 where
+  pub order : comes_before bytes q p ≡ false
+  pub alike : key_in bytes p ≡ key_in bytes q → p.prefix ≡ q.prefix
+
+-- Each place precedes all later ones.
+abbrev pub AreInOrder : List ℕ → List Place → Type 0
+AreInOrder bytes places = AllPairs (Precedes bytes) places
 
 -- The place of a record of this number, whose spelling lies from `start` up to `stop`. It is not
 -- ranked yet.

@@ -7,6 +7,7 @@
 #![tactic(auto)]
 
 mod fault;
+mod group;
 mod key_rule;
 pub mod laws;
 mod merging;

@@ -1,25 +1,26 @@
 //! Places in the order of their keys.
-ghost use Rattle.std.specs.Prelude.{◌≡◌, ◌∷◌, [], All, IfNone, IfOk, IfSome, IsPermutation, IsSortedBy, OnOk};
+ghost use Rattle.std.specs.Prelude.{◌≡◌, All, IfNone, IfOk, IfSome, IsSortedBy, OnOk, map, zero};
 ghost use Rattle.std.specs.List.Sorted.{IsStableBy};
 ghost use Rattle.prolly_entry.specs.Keys.{Rising};
 ghost use Rattle.prolly_entry.specs.Record.{keys_of};
 ghost use Rattle.prolly_sort.specs.Overlaid.{overlaid};
-ghost use Rattle.prolly_sort.specs.Place.{AreRanked, StandsIn, is_below, kept_before, records_in};
-ghost use Rattle.prolly_sort.specs.Run.{AreNeighbours};
+ghost use Rattle.prolly_sort.specs.Place.{AreInOrder, Precedes, SamePlaces, StandsIn, is_below, kept_before, records_in, unranked};
+ghost use Rattle.prolly_sort.specs.Run.{AreNeighbours, NumberedFrom};
 
-use crate::place::{Place, is_below, place_order};
+use crate::group::{LEVELS, sort_group};
+use crate::place::{Place, is_below};
 use std::alloc::{AllocError, Global};
 
-/// Puts places in the order of their keys; those of one key stay in their order. Takes memory for
-/// as many places, unless they are few or in order already. The bytes are looked at only for keys
-/// whose places have one prefix.
-pub(crate) fn sort_places(bytes: &[u8], places: &mut Vec<Place>) -> Result<(), AllocError>
-    requires { AreRanked bytes.now places.old.items }
-    ensures same { IsPermutation places.old.items places.new.items }
-    ensures sorted { OnOk result (IsSortedBy (is_below bytes.now) places.new.items) }
-    ensures stable { IsStableBy (is_below bytes.now) places.old.items places.new.items }
+/// Puts places in the order of their keys; those of one key stay in their order. Takes no memory.
+pub(crate) fn sort_places(bytes: &[u8], places: &mut Vec<Place>)
+    requires { NumberedFrom zero places.old.items }
+    ensures same { SamePlaces places.old.items places.new.items }
+    ensures sorted { IsSortedBy (is_below bytes.now) places.new.items }
+    ensures stable { IsStableBy (is_below bytes.now) (map unranked places.old.items)
+        (map unranked places.new.items) }
+    ensures in_order { AreInOrder bytes.now places.new.items }
 {
-    places.sort_by(|one, other| place_order(bytes, *one, *other))
+    sort_group(bytes, places, LEVELS);
 }
 
 /// Of places in the order of their keys, the last one of each key. Takes memory for as many places.
@@ -30,7 +31,7 @@ pub(crate) fn last_of_each(
 ) -> Result<Vec<Place>, AllocError>
     requires sorted { IsSortedBy (is_below bytes.now) places.now }
     requires stand { All (StandsIn bytes.now) places.now }
-    requires ranked { AreRanked bytes.now places.now }
+    requires in_order { AreInOrder bytes.now places.now }
     ensures records { IfOk result (λ kept.
         records_in bytes.now kept.items ≡ overlaid (records_in bytes.now places.now)) }
     ensures stand { IfOk result (λ kept. All (StandsIn bytes.now) kept.items) }
@@ -51,7 +52,7 @@ pub(crate) fn last_of_each(
 
 /// Keeps a place where the next one's key is greater.
 fn keep(bytes: &[u8], kept: &mut Vec<Place>, place: Place, next: Place) -> Result<(), AllocError>
-    requires { AreRanked bytes.now (place ∷ next ∷ []) }
+    requires { Precedes bytes.now place next }
     ensures { OnOk result (kept.new.items ≡
         kept_before bytes.now kept.old.items place next) }
 {
@@ -64,7 +65,7 @@ fn keep(bytes: &[u8], kept: &mut Vec<Place>, place: Place, next: Place) -> Resul
 /// The first two neighbours with one key among places in the order of their keys, if there are two.
 pub(crate) fn first_doubled(bytes: &[u8], places: &[Place]) -> Option<(Place, Place)>
     requires sorted { IsSortedBy (is_below bytes.now) places.now }
-    requires ranked { AreRanked bytes.now places.now }
+    requires in_order { AreInOrder bytes.now places.now }
     ensures none { IfNone result (Rising (keys_of (records_in bytes.now places.now))) }
     ensures some { IfSome result (λ two. AreNeighbours bytes.now places.now two.0 two.1) }
 {

@@ -1,8 +1,7 @@
 //! Where a record lies among the bytes of a run.
-ghost use Rattle.std.specs.Prelude.{◌≡◌, ◌∷◌, [], slice_range};
+ghost use Rattle.std.specs.Prelude.{◌≡◌, slice_range};
 ghost use Rattle.std.specs.Option.{option_copied};
-ghost use Rattle.prolly_entry.specs.Keys.{key_order};
-ghost use Rattle.prolly_sort.specs.Place.{AreRanked, StandsIn, is_below, key_in, prefix_of, ranked_in, value_in};
+ghost use Rattle.prolly_sort.specs.Place.{Precedes, StandsIn, is_below, key_in, place_order, prefix_of, value_in};
 
 use prolly_entry::{KEY_START, key_order};
 use std::cmp::Ordering;
@@ -16,9 +15,9 @@ const PREFIX_SIZE: usize = 8;
 /// Where a record lies among the bytes of a run.
 #[derive(Clone, Copy)]
 pub(crate) struct Place {
-    /// Bytes of its key as a number ([`prefix_of`]): those behind the front that all keys have in
-    /// common. Most keys differ there, so they are compared without a look at the bytes. It is 0
-    /// until the places are ranked (`rank_places`), just before they are sorted.
+    /// Bytes of its key as a number ([`prefix_of`]), by which most places are compared without a
+    /// look at the bytes. It is 0 until a sort fills it (`rank_places`). Where it differs behind a
+    /// sort, keys differ.
     pub(crate) prefix: u64,
     /// How many records came before it.
     pub(crate) number: u32,
@@ -79,20 +78,17 @@ pub(crate) fn prefix_of(bytes: &[u8]) -> u64
     prefix
 }
 
-/// Compares two places by their prefixes, and by their keys where these are equal.
+/// Compares two places by their keys, and by their numbers where these are equal.
 pub(crate) fn place_order(bytes: &[u8], one: Place, other: Place) -> Ordering
-    ensures { result ≡ key_order (ranked_in bytes.now one) (ranked_in bytes.now other) }
+    ensures { result ≡ place_order bytes.now one other }
 {
-    match one.prefix.cmp(&other.prefix) {
-        Ordering::Equal => key_order(one.key(bytes), other.key(bytes)),
-        apart => apart,
-    }
+    key_order(one.key(bytes), other.key(bytes)).then(one.number.cmp(&other.number))
 }
 
-/// Whether the one place's key is less than the other's.
-pub(crate) fn is_below(bytes: &[u8], one: Place, other: Place) -> bool
-    requires { AreRanked bytes.now (one ∷ other ∷ []) }
-    ensures { result ≡ is_below bytes.now one other }
+/// Whether the one place's key is less than that of the next one, of places in order.
+pub(crate) fn is_below(bytes: &[u8], one: Place, next: Place) -> bool
+    requires { Precedes bytes.now one next }
+    ensures { result ≡ is_below bytes.now one next }
 {
-    place_order(bytes, one, other).is_lt()
+    one.prefix != next.prefix || key_order(one.key(bytes), next.key(bytes)).is_lt()
 }

@@ -6,11 +6,11 @@ ghost use Rattle.prolly_sort.specs.Place.{WereRanked, key_in, ranked_behind};
 
 use crate::place::{Place, prefix_of};
 
-/// Fills the prefix of each place from behind the front that all keys have in common. Keys of one
-/// table often begin alike, as `user:000017` and `user:000018`, so that their first bytes tell
-/// nothing apart.
-pub(crate) fn rank_places(bytes: &[u8], places: &mut Vec<Place>)
-    ensures { WereRanked bytes.now places.old.items places.new.items }
+/// Fills the prefix of each place from behind the front that the keys of all these places have in
+/// common. Keys of one table often begin alike, as `user:000017` and `user:000018`, so that their
+/// first bytes tell nothing apart.
+pub(crate) fn rank_places(bytes: &[u8], places: &mut [Place])
+    ensures { WereRanked bytes.now places.old places.new }
 {
     let skipped = common_front(bytes, places).len();
     for place in places.iter_mut() {

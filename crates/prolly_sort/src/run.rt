@@ -8,14 +8,13 @@ ghost use Rattle.prolly_sort.specs.Place.{place_of, records_in};
 use crate::fault::{PushFault, SortFault};
 use crate::order::{first_doubled, last_of_each, sort_places};
 use crate::place::{LENGTHS_SIZE, Place};
-use crate::rank::rank_places;
 use crate::sorted_run::SortedRun;
 use prolly_entry::{Record, append_record, key_order};
 use std::alloc::{AllocError, Global};
 use std::marker::Model;
 
 /// How much of a budget a record takes beside its spelling: the 24 bytes of its place, and as many
-/// while the places are put in order.
+/// while the last place of each key is picked.
 const PLACE_COST: usize = 48;
 
 /// Records in memory, in the order in which they came, up to a budget.
@@ -106,7 +105,8 @@ impl Run {
     /// one counts.
     ///
     /// Where the keys rise ([`Run::is_rising`]) this takes neither time nor memory. Else it takes O(n
-    /// log n) comparisons of keys, and memory for two tables of places, one after the other.
+    /// log n) comparisons, of eight bytes where these tell keys apart and else of keys, and memory
+    /// for one more table of places.
     pub fn sort(self, alloc: Global) -> Result<SortedRun, AllocError>
         ensures records { IfOk result (λ sorted. sorted ≡ overlaid self.records) }
         ensures rising { IfOk result (λ sorted. Rising (keys_of sorted)) }
@@ -120,8 +120,7 @@ impl Run {
         if is_rising {
             return Ok(SortedRun { bytes, places });
         }
-        rank_places(&bytes, &mut places);
-        sort_places(&bytes, &mut places)?;
+        sort_places(&bytes, &mut places);
         let kept = last_of_each(alloc, &bytes, &places)?;
         Ok(SortedRun {
             bytes,
@@ -133,7 +132,7 @@ impl Run {
     /// two records that have one key, the earlier one first. Which of several such keys it is, is
     /// not promised.
     ///
-    /// It takes the time that [`Run::sort`] takes, and memory for one table of places.
+    /// It takes the time that [`Run::sort`] takes, and no memory.
     pub fn sort_unique(self) -> Result<SortedRun, SortFault>
         ensures records { IfOk result (λ sorted. sorted ≡ overlaid self.records) }
         ensures rising { IfOk result (λ sorted. Rising (keys_of sorted)) }
@@ -152,8 +151,7 @@ impl Run {
         if is_rising {
             return Ok(SortedRun { bytes, places });
         }
-        rank_places(&bytes, &mut places);
-        sort_places(&bytes, &mut places)?;
+        sort_places(&bytes, &mut places);
         match first_doubled(&bytes, &places) {
             None => Ok(SortedRun { bytes, places }),
             Some((one, next)) => Err(SortFault::Doubled {

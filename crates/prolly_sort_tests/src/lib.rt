@@ -14,3 +14,5 @@ mod growths;
 mod runs;
 #[cfg(test)]
 mod sorters;
+#[cfg(test)]
+mod tables;

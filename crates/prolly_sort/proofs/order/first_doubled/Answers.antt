@@ -1,14 +1,14 @@
 use Rattle.std.proofs.Common.{◌∙◌, ◌-◌, [], arith, sym}
-use Rattle.prolly_sort.proofs.Lasting.{neighbours, rising_more, same_there}
-use Rattle.prolly_sort.proofs.Ranking.{two_ranked}
+use Rattle.prolly_sort.proofs.Lasting.{in_order, neighbours, rising_more, same_there}
 use Rattle.prolly_sort.proofs.order.first_doubled.Goals as goal
 
 pub is_below-requires : goal.is_below-requires
 is_below-requires c =
     let places = c.args.places.now in
     let at = c.loop-behind.behind in
-    two_ranked c.args.bytes.now places (at - 1) at _ _ c.requires.ranked (omega arith) (omega arith)
-    (same_there places (at - 1) _ _ (omega arith)) (same_there places at _ _ (omega arith))
+    in_order c.args.bytes.now places at [] _ _ (omega arith) (omega arith)
+    (λ d. same_there places at d _ (omega arith)) (λ d. same_there places (at - 1) d _ (omega arith))
+    c.requires.in_order
 
 pub returns-then-not-is_below-clause-some : goal.returns-then-not-is_below-clause-some
 returns-then-not-is_below-clause-some c =

@@ -1,10 +1,9 @@
-use Rattle.std.proofs.Common.{◌∙◌, ◌-◌, ap, arith, sym, subst}
+use Rattle.std.proofs.Common.{◌∙◌, [], ap, arith, sym, subst}
 use Rattle.std.proofs.lemmas.List.Elements.{All-nil, All-push}
 use Rattle.std.specs.Option.{option_copied}
 use Rattle.prolly_sort.specs.Place.{StandsIn, records_in}
-use Rattle.prolly_sort.proofs.Lasting.{first_kept, first_there, kept_step, none_kept}
+use Rattle.prolly_sort.proofs.Lasting.{first_kept, first_there, in_order, kept_step, none_kept}
 use Rattle.prolly_sort.proofs.Lasting.{same_there, stands_step}
-use Rattle.prolly_sort.proofs.Ranking.{two_ranked}
 use Rattle.prolly_sort.proofs.order.last_of_each.Goals as goal
 
 pub returns-in_default-clause-records : goal.returns-in_default-clause-records
@@ -28,9 +27,9 @@ pub keep-requires : goal.keep-requires
 keep-requires c =
     let places = c.args.places.now in
     let at = c.loop-number.number in
-    two_ranked c.args.bytes.now places (at - 1) at c.loop-number.last _ c.requires.ranked (omega arith)
-    (omega arith) (c.loop-number.invariant.kept.last_is c.loop-number.last)
-    (same_there places at _ _ (omega arith))
+    in_order c.args.bytes.now places at [] c.loop-number.last _ (omega arith) (omega arith)
+    (λ d. same_there places at d _ (omega arith)) c.loop-number.invariant.kept.last_is
+    c.requires.in_order
 
 pub loop-number-preserved : goal.loop-number-preserved
 loop-number-preserved c =

@@ -1,25 +1,36 @@
-use Rattle.std.proofs.Common.{arith, rules}
-use Rattle.std.proofs.lemmas.Cmp.{nat_list_cmp_total}
-use Rattle.std.proofs.lemmas.Fn.{always_returns_same}
-use Rattle.std.proofs.lemmas.List.Sorted.{ranks_by}
-use Rattle.std.proofs.lemmas.Result.{on_ok_weaker}
-use Rattle.prolly_sort.specs.Place.{ranked_in}
-use Rattle.prolly_sort.proofs.Prefixes.{all_bytes, ranks_below, sorted_by_keys, stable_by_keys}
-use Rattle.prolly_sort.proofs.Ranking.{ranked_in_order}
+use Rattle.std.proofs.Common.{◌≡◌, ◌∙◌, ◌++◌, ℕ, List, arith, drop, length, map, subst, sym, take}
+use Rattle.std.proofs.lemmas.List.{take-append-le, take_all}
+use Rattle.std.specs.List.Sorted.{IsStableBy}
+use Rattle.prolly_sort.specs.declared.place.Place.{Place}
+use Rattle.prolly_sort.specs.Place.{AreInOrder, SamePlaces, is_below, unranked}
+use Rattle.prolly_sort.proofs.Same.{in_order_unranked, numbered_unranked, same_long}
+use Rattle.prolly_sort.proofs.Standing.{stable_in_order}
 use Rattle.prolly_sort.proofs.order.sort_places.Goals as goal
 
-pub returns-clause-sorted : goal.returns-clause-sorted
-returns-clause-sorted c =
-    let bytes = c.args.bytes.now in
-    on_ok_weaker c.sort_by.result (λ sorted.
-    sorted_by_keys bytes (all_bytes bytes (λ k. omega (arith, c.type_inv.bytes k))) _
-    (ranked_in_order bytes _ _ c.sort_by.ensures.permutation c.requires)
-    (sorted (ranks_below bytes) (ranks_by nat_list_cmp_total (ranked_in bytes))
-    (always_returns_same _ _ _ (λ a r f k. search rules)))) c.sort_by.ensures.sorted
+-- What is written over all of a vector is what the vector holds.
+written_over : (old new : List Place) (len : ℕ) → length old ≡ len → SamePlaces old new →
+    new ≡ take len (new ++ drop (length new) old)
+written_over old new len whole same =
+    let long : length new ≡ len = same_long old new same ∙ whole in
+    sym (take-append-le len new (drop (length new) old) (omega (arith, long)) ∙
+    take_all len new (omega (arith, long)))
 
 pub returns-clause-stable : goal.returns-clause-stable
 returns-clause-stable c =
     let bytes = c.args.bytes.now in
-    stable_by_keys bytes _ _ c.requires c.sort_by.ensures.permutation
-    (c.sort_by.ensures.stable (ranks_below bytes) (ranks_by nat_list_cmp_total (ranked_in bytes))
-    (always_returns_same _ _ _ (λ a r f k. search rules)))
+    let old = c.args.places.now in
+    let new = c.sort_group.new.places in
+    let same : SamePlaces old.items new = rw c.deref_mut.ensures.value at c.sort_group.ensures.same in
+    subst (λ ps. IsStableBy (is_below bytes) (map unranked old.items) (map unranked ps))
+    (written_over old.items new old.len (omega (arith, old.ok.0)) same)
+    (stable_in_order bytes (map unranked old.items) (map unranked new)
+    (numbered_unranked 0 old.items c.requires) same
+    (in_order_unranked bytes new c.sort_group.ensures.sorted))
+
+pub returns-clause-in_order : goal.returns-clause-in_order
+returns-clause-in_order c =
+    let old = c.args.places.now in
+    let new = c.sort_group.new.places in
+    subst (AreInOrder c.args.bytes.now)
+    (written_over old.items new old.len (omega (arith, old.ok.0))
+    (rw c.deref_mut.ensures.value at c.sort_group.ensures.same)) c.sort_group.ensures.sorted

@@ -1,14 +1,12 @@
 use Rattle.std.proofs.Common.{◌∙◌, ap, length, sym, subst}
 use Rattle.std.proofs.lemmas.List.{length-map}
-use Rattle.std.proofs.lemmas.List.Sorted.{All-permutation, length_permutation}
 use Rattle.prolly_sort.specs.Overlaid.{overlaid}
-use Rattle.prolly_sort.specs.Place.{StandsIn, record_in, records_in}
+use Rattle.prolly_sort.specs.Place.{record_in, records_in}
 use Rattle.prolly_sort.specs.Run.{AreDoubled, Held}
 use Rattle.prolly_sort.proofs.Apart.{rising_apart, sorted_apart}
 use Rattle.prolly_sort.proofs.Coming.{rising_stay}
-use Rattle.prolly_sort.proofs.Numbering.{doubled_by, doubled_told}
-use Rattle.prolly_sort.proofs.Ranking.{are_ranked, ranked_in_order, same_numbers, same_records}
-use Rattle.prolly_sort.proofs.Ranking.{still_stand}
+use Rattle.prolly_sort.proofs.Numbering.{doubled_told}
+use Rattle.prolly_sort.proofs.Same.{doubled_same, same_long, still_stand}
 use Rattle.prolly_sort.proofs.Sorting.{sorted_come}
 use Rattle.prolly_sort.proofs.run.Run.sort_unique.Goals as goal
 
@@ -19,56 +17,38 @@ returns-then-is_rising-clause-records c =
     (c.self.invariant.rising.0 c.if-is_rising.true)) ∙
     ap (λ (h : Held). overlaid h.records) c.self.view_is
 
-pub sort_places-requires : goal.sort_places-requires
-sort_places-requires c =
-    rw c.deref-2.ensures.value
-    (are_ranked _ _ _ (rw c.deref.ensures.value at c.rank_places.ensures))
-
-pub first_doubled-requires-clause-ranked : goal.first_doubled-requires-clause-ranked
-first_doubled-requires-clause-ranked c =
-    rw (c.deref-3.ensures.value, c.deref-4.ensures.value)
-    (ranked_in_order c.self.inside.bytes.items _ _ c.sort_places.ensures.same
-    (are_ranked _ _ _ (rw c.deref.ensures.value at c.rank_places.ensures)))
-
 pub invariant_of-result-in-None : goal.invariant_of-result-in-None
-invariant_of-result-in-None c = All-permutation (StandsIn c.self.inside.bytes.items) _ _
-    c.sort_places.ensures.same
-    (still_stand _ _ _ (rw c.deref.ensures.value at c.rank_places.ensures) c.self.invariant.stand)
+invariant_of-result-in-None c =
+    still_stand c.self.inside.bytes.items _ _ c.sort_places.ensures.same c.self.invariant.stand
 
 pub returns-in-None-clause-records : goal.returns-in-None-clause-records
 returns-in-None-clause-records c =
     let bytes = c.self.inside.bytes.items in
     let ys = c.sort_places.new.places.items in
     sym (rising_stay (records_in bytes ys)
-    (rw (c.deref-3.ensures.value, c.deref-4.ensures.value) at c.in-None.ensures.none)) ∙
-    sorted_come bytes c.rank_places.new.places.items ys c.sort_places.ensures.same
-    (rw c.deref-2.ensures.value at c.sort_places.ensures.stable) ∙
-    ap overlaid (same_records bytes _ _ (rw c.deref.ensures.value at c.rank_places.ensures)) ∙
+    (rw (c.deref-2.ensures.value, c.deref-3.ensures.value) at c.in-None.ensures.none)) ∙
+    sorted_come bytes c.self.inside.places.items ys c.sort_places.ensures.same
+    (rw c.deref.ensures.value at c.sort_places.ensures.stable) ∙
     ap (λ (h : Held). overlaid h.records) c.self.view_is
 
 pub returns-in-None-clause-all : goal.returns-in-None-clause-all
 returns-in-None-clause-all c =
     let bytes = c.self.inside.bytes.items in
-    let xs = c.rank_places.new.places.items in
+    let xs = c.self.inside.places.items in
     let ys = c.sort_places.new.places.items in
-    length-map ys (record_in bytes) ∙ length_permutation xs ys c.sort_places.ensures.same ∙
-    sym (length-map xs (record_in bytes)) ∙
-    ap length (same_records bytes _ _ (rw c.deref.ensures.value at c.rank_places.ensures)) ∙
-    ap (λ (h : Held). length h.records) c.self.view_is
+    length-map ys (record_in bytes) ∙ same_long xs ys c.sort_places.ensures.same ∙
+    sym (length-map xs (record_in bytes)) ∙ ap (λ (h : Held). length h.records) c.self.view_is
 
 pub returns-in-Some-clause-doubled : goal.returns-in-Some-clause-doubled
 returns-in-Some-clause-doubled c = λ first second told.
-    let bytes = c.self.inside.bytes.items in
-    let one = c.in-Some.one.number in
-    let next = c.in-Some.next.number in
-    let ranked = rw c.deref.ensures.value at c.rank_places.ensures in
-    doubled_told one next first second told c.args.self.records
-    (subst (λ (h : Held). AreDoubled h.records one next) c.self.view_is
-    (subst (λ records. AreDoubled records one next) (same_records bytes _ _ ranked)
-    (doubled_by bytes c.rank_places.new.places.items c.sort_places.new.places.items c.in-Some.one
-    c.in-Some.next (same_numbers bytes _ _ ranked c.self.invariant.numbered)
-    c.sort_places.ensures.same (rw c.deref-2.ensures.value at c.sort_places.ensures.stable)
-    (rw (c.deref-3.ensures.value, c.deref-4.ensures.value) at c.in-Some.ensures.some))))
+    let one = c.in-Some.one in
+    let next = c.in-Some.next in
+    doubled_told one.number next.number first second told c.args.self.records
+    (subst (λ (h : Held). AreDoubled h.records one.number next.number) c.self.view_is
+    (doubled_same c.self.inside.bytes.items c.self.inside.places.items
+    c.sort_places.new.places.items c.sort_places.ensures.same one next c.self.invariant.numbered
+    (rw c.deref.ensures.value at c.sort_places.ensures.stable)
+    (rw (c.deref-2.ensures.value, c.deref-3.ensures.value) at c.in-Some.ensures.some)))
 
 pub returns-then-is_rising-clause-apart : goal.returns-then-is_rising-clause-apart
 returns-then-is_rising-clause-apart c = λ first second two.
@@ -79,10 +59,8 @@ returns-then-is_rising-clause-apart c = λ first second two.
 
 pub returns-in-None-clause-apart : goal.returns-in-None-clause-apart
 returns-in-None-clause-apart c = λ first second two.
-    let bytes = c.self.inside.bytes.items in
-    let ranked = rw c.deref.ensures.value at c.rank_places.ensures in
-    sorted_apart bytes c.rank_places.new.places.items c.sort_places.new.places.items first second
-    c.sort_places.ensures.same (rw c.deref-2.ensures.value at c.sort_places.ensures.stable)
-    (rw (c.deref-3.ensures.value, c.deref-4.ensures.value) at c.in-None.ensures.none)
-    (subst (λ records. AreDoubled records first second) (sym (same_records bytes _ _ ranked))
-    (subst (λ (h : Held). AreDoubled h.records first second) (sym c.self.view_is) two))
+    sorted_apart c.self.inside.bytes.items c.self.inside.places.items c.sort_places.new.places.items
+    first second c.sort_places.ensures.same
+    (rw c.deref.ensures.value at c.sort_places.ensures.stable)
+    (rw (c.deref-2.ensures.value, c.deref-3.ensures.value) at c.in-None.ensures.none)
+    (subst (λ (h : Held). AreDoubled h.records first second) (sym c.self.view_is) two)
