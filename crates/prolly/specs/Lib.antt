@@ -1,2 +1,3 @@
--- What is asked of a build.
+-- What is asked of a build, and which commands each module answers.
+pub mod Kinds
 pub mod Requests

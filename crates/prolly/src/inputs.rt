@@ -2,13 +2,16 @@
 use crate::file_id::Found;
 use crate::refusal::Refusal;
 use crate::streams::Stream;
-use prolly_answer::{Fault, INPUT_LIMIT, NameFault, Notation, read_keys};
+use prolly_answer::{Fault, INPUT_LIMIT, NameFault};
 use prolly_check::CheckFault;
 use prolly_file::{Blocks, FromFile, FromRead};
 use prolly_root::FileChunks;
 use std::fs;
 use std::fs::File;
 use std::os::unix::fs::FileExt;
+
+/// The chunks of a file of which any part is read.
+pub type Chunks = FileChunks<Blocks<FromFile>>;
 
 /// A file that is open to be read.
 #[derive(Drop)]
@@ -79,17 +82,18 @@ impl Input {
         self.into_whole(rt, Fault::Check(CheckFault::TooLong))
     }
 
+    /// The chunk file, of which any part is read, by blocks where the parts are short.
+    pub fn into_chunks(self, rt: &HostRuntime) -> Result<Chunks, Refusal> {
+        let blocks = Blocks::new(rt.alloc(), self.into_device())?;
+        Ok(FileChunks::new(blocks))
+    }
+
     /// Whether the file begins with these four bytes. What was read is read again by who reads the
     /// file.
     pub fn begins_with(&self, letters: &[u8; 4]) -> bool {
         let mut front = [0; 4];
         self.file.read_exact_at(&mut front, 0).is_ok() && front == *letters
     }
-}
-
-/// The chunk file of this name, to be read whole.
-pub fn chunk_file(rt: &HostRuntime, name: &str) -> Result<FromRead<File>, Refusal> {
-    Input::open(rt, name)?.into_chunk_file(rt)
 }
 
 /// Refuses a standard input that is the file to which is printed.
@@ -127,30 +131,4 @@ pub fn refuse_read_twice(
         }
     }
     Ok(())
-}
-
-/// The keys that the lines of the file of this name stand for, where it is not the one that is to be
-/// written; and what that file is.
-pub fn listed_keys(
-    rt: &HostRuntime,
-    name: &str,
-    notation: Notation,
-    output: Found,
-) -> Result<(Vec<Vec<u8>>, Found), Refusal> {
-    let input = Input::open_beside(rt, name, output)?;
-    let found = input.found();
-    let mut source = input.into_whole(rt, Fault::InputTooLong)?;
-    match read_keys(rt.alloc(), notation, &mut source) {
-        Ok(keys) => Ok((keys, found)),
-        Err(fault) => Err(Refusal::of_fault(rt, fault)),
-    }
-}
-
-/// The chunks of a file of which any part is read, by blocks where the parts are short.
-pub type Chunks = FileChunks<Blocks<FromFile>>;
-
-/// The chunks of this file.
-pub fn chunks_of(rt: &HostRuntime, input: Input) -> Result<Chunks, Refusal> {
-    let blocks = Blocks::new(rt.alloc(), input.into_device())?;
-    Ok(FileChunks::new(blocks))
 }

@@ -5,27 +5,30 @@
 mod access;
 mod commands;
 mod file_id;
-mod hashing;
+mod host;
 mod inputs;
+mod known_root;
 mod links;
-mod named_file;
+mod listed_keys;
+mod named_tree;
 mod output;
 mod output_kind;
 mod patient;
 mod place;
 mod refusal;
 mod run_files;
+mod sinks;
 mod streams;
 mod target;
 mod words;
 
 use crate::commands::answer_of;
-use crate::patient::Patient;
+use crate::host::Host;
+use crate::sinks::print;
 use crate::streams::ClosedStreams;
 use crate::words::read_words;
 use prolly_answer::{Answer, Fault, parse};
 use std::alloc::AllocError;
-use std::io::Write;
 use std::process::ExitCode;
 use std::sync::Wait;
 use std::thread::Threads;
@@ -33,32 +36,32 @@ use std::time::Clock;
 
 fn main(rt: HostRuntime) -> ExitCode {
     let _closed = ClosedStreams::hold(&rt);
-    match answer(&rt, &rt) {
-        Ok(answer) => ExitCode::from(print(&rt, &answer)),
-        Err(AllocError) => ExitCode::from(report(&rt, Fault::Memory)),
-    }
+    let host = Host {
+        rt: &rt,
+        threads: &rt,
+    };
+    ExitCode::from(match answer(&host) {
+        Ok(answer) => tell(&rt, &answer),
+        Err(AllocError) => report(&rt, Fault::Memory),
+    })
 }
 
-/// Does what the words say. Threads are started, and waited for, by `threads`.
-fn answer<T: Wait + Threads + Clock + Sync>(
-    rt: &HostRuntime,
-    threads: &T,
-) -> Result<Answer, AllocError> {
+/// Does what the words say.
+fn answer<T: Wait + Threads + Clock + Sync>(host: &Host<'_, T>) -> Result<Answer, AllocError> {
+    let rt = host.rt;
     let words = match read_words(rt) {
         Ok(words) => words,
         Err(fault) => return Answer::of_fault(rt.alloc(), fault),
     };
     match parse(rt.alloc(), &words) {
-        Ok(command) => answer_of(rt, threads, command),
+        Ok(command) => answer_of(host, command),
         Err(refusal) => Answer::of_refusal(rt.alloc(), refusal),
     }
 }
 
-/// Prints the answer, and gives the status to end with. Where standard error fails there is no one
-/// to tell; the status tells.
-fn print(rt: &HostRuntime, answer: &Answer) -> u8 {
-    let _ = Patient::new(rt, rt.stderr()).write_all(&answer.err);
-    match Patient::new(rt, rt.stdout()).write_all(&answer.out) {
+/// Prints the answer, and gives the status to end with.
+fn tell(rt: &HostRuntime, answer: &Answer) -> u8 {
+    match print(rt, answer) {
         Ok(()) => answer.status,
         Err(_) => report(rt, Fault::Write),
     }

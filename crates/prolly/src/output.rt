@@ -1,7 +1,6 @@
 //! The file that a command writes.
 use crate::access::Access;
 use crate::file_id::Found;
-use crate::named_file::NamedFile;
 use crate::place::{Place, Replaced, Replacement};
 use crate::refusal::Refusal;
 use crate::target::Target;
@@ -9,11 +8,7 @@ use prolly_answer::{Answer, Fault, NameFault};
 use std::alloc::AllocError;
 use std::fs::File;
 use std::io::{ErrorKind, Seek, SeekFrom, Write};
-use std::path::PathBuf;
 use std::{fs, io};
-
-/// How many bytes are written to an output at once.
-pub const OUTPUT_BYTES: usize = 65_536;
 
 /// The greatest status of a command that is done: by it `diff` says that the maps differ.
 const DONE: u8 = 1;
@@ -37,7 +32,7 @@ impl<'a> Output<'a> {
     pub fn open(rt: &HostRuntime, target: Target<'a>) -> Result<Output<'a>, Refusal> {
         target.refuse_input_pipe(rt)?;
         target.refuse_printed(rt)?;
-        let (file, place) = target.made(rt)?;
+        let (file, place) = target.open(rt)?;
         Ok(Output {
             target,
             file,
@@ -55,7 +50,7 @@ impl<'a> Output<'a> {
 
     /// Makes a further file beside the output. What that is, and what standard output is, was looked at
     /// for the first one.
-    pub fn beside(
+    pub fn make_beside(
         rt: &HostRuntime,
         target: Target<'a>,
         replaced: Replaced,
@@ -97,22 +92,17 @@ impl<'a> Output<'a> {
         }
     }
 
-    /// The name of the file, and what that is, where it stands beside the output.
-    pub fn named_beside(&self, rt: &HostRuntime) -> Result<Option<NamedFile>, Refusal> {
-        let Some(name) = self.name_beside() else {
-            return Ok(None);
-        };
-        let found = self.told(rt, self.found())?;
-        let name = PathBuf::from(format!(in rt.alloc(); "{name}")?);
-        Ok(Some(NamedFile { name, found }))
-    }
-
     /// The name of the file, where that stands beside the output.
     pub fn name_beside(&self) -> Option<&str> {
         match &self.place {
             Place::Beside(replacement) => Some(replacement.beside.as_str()),
             _ => None,
         }
+    }
+
+    /// What the file is.
+    pub fn found(&self, rt: &HostRuntime) -> Result<Found, Refusal> {
+        told(rt, self.look())
     }
 
     /// The file, where it stands beside the output, to be read from its start. It loses its name, which
@@ -131,7 +121,7 @@ impl<'a> Output<'a> {
     /// Puts the file in its place, and on the disk where that was asked for.
     fn keep(&self, rt: &HostRuntime) -> Result<(), Refusal> {
         match self.put(rt) {
-            Ok(Some(folder)) => self.told(rt, synced(&folder)),
+            Ok(Some(folder)) => sync(rt, &folder),
             Ok(None) => Ok(()),
             Err(refusal) => {
                 self.remove(rt);
@@ -142,12 +132,12 @@ impl<'a> Output<'a> {
 
     /// Puts the file in its place. Gives its folder, where that is to be brought to the disk.
     fn put(&self, rt: &HostRuntime) -> Result<Option<File>, Refusal> {
-        self.told(rt, self.bring_to_disk())?;
+        self.bring_to_disk(rt)?;
         self.refuse_lost(rt)?;
         let Place::Beside(replacement) = &self.place else {
-            return self.told(rt, self.folder_of(rt, self.target.name()));
+            return self.folder_of(rt, self.target.name());
         };
-        let folder = self.told(rt, self.folder_of(rt, replacement.beside.as_str()))?;
+        let folder = self.folder_of(rt, replacement.beside.as_str())?;
         self.replace(rt, replacement)?;
         Ok(folder)
     }
@@ -170,7 +160,7 @@ impl<'a> Output<'a> {
     /// Gives the file these rights, on the disk, too, where that was asked for.
     fn give(&self, rt: &HostRuntime, access: Access) -> Result<(), Refusal> {
         match access.give_to(&self.file) {
-            Ok(()) => self.told(rt, self.bring_to_disk()),
+            Ok(()) => self.bring_to_disk(rt),
             Err(_) => Err(self.target.refused(rt, NameFault::CannotReplace)),
         }
     }
@@ -182,36 +172,27 @@ impl<'a> Output<'a> {
             Place::Beside(replacement) if self.is_own(rt, replacement.beside.as_str()) => Ok(()),
             Place::Beside(_) => Err(self.target.refused(rt, NameFault::CannotReplace)),
             _ => {
-                let found = self.told(rt, self.found())?;
+                let found = self.found(rt)?;
                 self.target.refuse_other_file(rt, found)
             }
         }
     }
 
-    /// What the file is.
-    fn found(&self) -> Result<Found, Lost> {
-        Ok(Found::of(&self.file.metadata()?))
-    }
-
     /// Brings the file to the disk where that was asked for.
-    fn bring_to_disk(&self) -> Result<(), Lost> {
+    fn bring_to_disk(&self, rt: &HostRuntime) -> Result<(), Refusal> {
         if self.target.mode().sync {
-            synced(&self.file)?;
+            sync(rt, &self.file)?;
         }
         Ok(())
     }
 
     /// Opens the folder which has this name, where the file was to be brought to the disk. That is
     /// done before the file takes its place, since after that nothing may want memory.
-    fn folder_of(&self, rt: &HostRuntime, name: &str) -> Result<Option<File>, Lost> {
+    fn folder_of(&self, rt: &HostRuntime, name: &str) -> Result<Option<File>, Refusal> {
         if !self.target.mode().sync {
             return Ok(None);
         }
-        let path = fs::canonicalize(rt, name)?;
-        match path.parent() {
-            Some(folder) => Ok(Some(fs::open(rt, folder)?)),
-            None => Ok(None),
-        }
+        told(rt, open_folder(rt, name))
     }
 
     /// Removes the file where it stands beside its name, or is new and has no byte, and the name is
@@ -230,19 +211,15 @@ impl<'a> Output<'a> {
 
     /// Whether the name is the file's own still.
     fn is_own(&self, rt: &HostRuntime, name: &str) -> bool {
-        match self.found() {
+        match self.look() {
             Ok(found) => found.has_name(rt, name),
             Err(_) => false,
         }
     }
 
-    /// What was done, or what the user is told of what was lost.
-    fn told<T>(&self, rt: &HostRuntime, done: Result<T, Lost>) -> Result<T, Refusal> {
-        match done {
-            Ok(done) => Ok(done),
-            Err(Lost::Memory) => Err(Refusal::Memory),
-            Err(Lost::Disk) => Err(Refusal::of_fault(rt, Fault::Write)),
-        }
+    /// Looks at what the file is.
+    fn look(&self) -> io::Result<Found> {
+        Ok(Found::of(&self.file.metadata()?))
     }
 }
 
@@ -264,26 +241,28 @@ impl Write for Output<'_> {
     }
 }
 
-/// Why a file did not come to the disk.
-#[derive(Drop)]
-enum Lost {
-    Memory,
-    Disk,
-}
-
-impl From<io::Error> for Lost {
-    fn from(error: io::Error) -> Lost {
-        match error.kind() {
-            ErrorKind::OutOfMemory => Lost::Memory,
-            _ => Lost::Disk,
-        }
+/// Opens the folder which has this name.
+fn open_folder(rt: &HostRuntime, name: &str) -> io::Result<Option<File>> {
+    let path = fs::canonicalize(rt, name)?;
+    match path.parent() {
+        Some(folder) => Ok(Some(fs::open(rt, folder)?)),
+        None => Ok(None),
     }
 }
 
 /// Brings a file, or a folder's names, to the disk.
-fn synced(file: &File) -> Result<(), Lost> {
+fn sync(rt: &HostRuntime, file: &File) -> Result<(), Refusal> {
     match file.sync_all() {
         Ok(()) => Ok(()),
-        Err(_) => Err(Lost::Disk),
+        Err(_) => Err(Refusal::of_fault(rt, Fault::Write)),
+    }
+}
+
+/// What was done to the output, or what the user is told where that failed.
+fn told<T>(rt: &HostRuntime, done: io::Result<T>) -> Result<T, Refusal> {
+    match done {
+        Ok(done) => Ok(done),
+        Err(error) if error.kind() == ErrorKind::OutOfMemory => Err(Refusal::Memory),
+        Err(_) => Err(Refusal::of_fault(rt, Fault::Write)),
     }
 }

@@ -1,13 +1,19 @@
 //! What kind of file a command writes, and whether a file is one.
 use prolly_answer::NameFault;
-use prolly_entry::{FrontRecord, front_record};
+use prolly_entry::{FrontRecord, KEY_LIMIT, VALUE_LIMIT, front_record};
 use prolly_file::{FromRead, take_front};
 use std::alloc::AllocError;
 use std::fs;
 
-/// The greatest size of a record: the lengths of key and value, and both of them as long as they
-/// may be.
-const RECORD_BYTES: usize = 2 + 1_024 + 4 + 65_536;
+/// The letters that a chunk file begins with.
+pub const CHUNK_FILE_LETTERS: &[u8; 4] = b"PRLY";
+
+/// The letters that a proof begins with.
+const PROOF_LETTERS: &[u8; 4] = b"PRLP";
+
+/// The greatest size of a record: the lengths of key and value, of two and of four bytes, and both of
+/// them as long as they may be.
+const RECORD_BYTES: usize = 2 + KEY_LIMIT + 4 + VALUE_LIMIT;
 
 /// How much of a file is looked at to tell whether it is one of lines. All other kinds have a byte
 /// that no line has among their first ones.
@@ -72,8 +78,8 @@ impl OutputKind {
     /// first record has to be a whole one.
     fn begins(self, front: &[u8]) -> bool {
         match self {
-            OutputKind::ChunkFile => front.starts_with(b"PRLY"),
-            OutputKind::Proof => front.starts_with(b"PRLP"),
+            OutputKind::ChunkFile => front.starts_with(CHUNK_FILE_LETTERS),
+            OutputKind::Proof => front.starts_with(PROOF_LETTERS),
             OutputKind::RecordFile => matches!(
                 front_record(front),
                 FrontRecord::Put { .. } | FrontRecord::Remove { .. }

@@ -1,5 +1,7 @@
 //! Standard streams that may be non-blocking.
+use prolly_file::FromRead;
 use std::io::{ErrorKind, IsTerminal, Read, Write};
+use std::rt::Stdin;
 use std::time::Duration;
 use std::{io, thread};
 
@@ -23,13 +25,6 @@ impl<'a, S> Patient<'a, S> {
     /// The stream, which is waited for.
     pub fn new(rt: &'a HostRuntime, stream: S) -> Patient<'a, S> {
         Patient { rt, stream }
-    }
-}
-
-/// Says that lines are read from the terminal, where standard input is one.
-pub fn tell_of_terminal(rt: &HostRuntime) {
-    if rt.stdin().is_terminal() {
-        let _ = eprintln!(rt; "prolly: reading lines from the terminal; Control-D ends them");
     }
 }
 
@@ -71,4 +66,16 @@ impl<S: Write> Write for Patient<'_, S> {
 fn longer_behind(rt: &HostRuntime, pause: u64) -> u64 {
     thread::sleep(rt, Duration::from_millis(pause));
     pause.saturating_mul(2).min(MOST_PAUSE)
+}
+
+/// Standard input, as the source of a command.
+pub fn stdin_source(rt: &HostRuntime) -> FromRead<Patient<'_, Stdin>> {
+    FromRead::new(Patient::new(rt, rt.stdin()))
+}
+
+/// Says that lines are read from the terminal, where standard input is one.
+pub fn tell_of_terminal(rt: &HostRuntime) {
+    if rt.stdin().is_terminal() {
+        let _ = eprintln!(rt; "prolly: reading lines from the terminal; Control-D ends them");
+    }
 }

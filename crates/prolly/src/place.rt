@@ -46,9 +46,8 @@ pub struct Replaced {
 impl Replaced {
     /// The same once more.
     pub fn copied(&self, rt: &HostRuntime) -> Result<Replaced, AllocError> {
-        let path = self.path.as_str();
         Ok(Replaced {
-            path: PathBuf::from(format!(in rt.alloc(); "{path}")?),
+            path: PathBuf::from_str(rt.alloc(), self.path.as_str())?,
             access: self.access,
         })
     }
@@ -63,35 +62,35 @@ pub struct Replacement {
 
 impl Target<'_> {
     /// Opens or makes the file to write. What the output holds stays as it is.
-    pub fn made(self, rt: &HostRuntime) -> Result<(File, Place), Refusal> {
+    pub fn open(self, rt: &HostRuntime) -> Result<(File, Place), Refusal> {
         self.refuse_other_kind(rt)?;
         let is_atomic = self.mode().atomic;
         let is_whole = is_atomic || self.kind() != OutputKind::ChunkFile;
         match self.found() {
-            Found::Nothing if is_atomic => self.beside(rt, NameFault::CannotReplace),
-            Found::Nothing if is_whole => self.beside(rt, NameFault::CannotOpen),
-            Found::Nothing => self.new_file(rt),
-            Found::Regular(..) if is_whole => self.beside_old(rt),
-            Found::Regular(..) => Ok((self.locked(rt, self.opened_as_found(rt)?)?, Place::Old)),
+            Found::Nothing if is_atomic => self.make_beside_place(rt, NameFault::CannotReplace),
+            Found::Nothing if is_whole => self.make_beside_place(rt, NameFault::CannotOpen),
+            Found::Nothing => self.make(rt),
+            Found::Regular(..) if is_whole => self.make_beside_old(rt),
+            Found::Regular(..) => Ok((self.lock(rt, self.open_as_found(rt)?)?, Place::Old)),
             _ if is_atomic => Err(self.refused(rt, NameFault::CannotReplace)),
-            _ => Ok((self.stream(rt)?, Place::Stream)),
+            _ => Ok((self.open_stream(rt)?, Place::Stream)),
         }
     }
 
-    /// The pipe or the device that was found, to be written as it is. One that can't be brought to the
-    /// disk, where that is asked for, is refused before anything is written.
-    fn stream(self, rt: &HostRuntime) -> Result<File, Refusal> {
-        let file = self.opened_as_found(rt)?;
+    /// Opens the pipe or the device that was found, to be written as it is. One that can't be brought
+    /// to the disk, where that is asked for, is refused before anything is written.
+    fn open_stream(self, rt: &HostRuntime) -> Result<File, Refusal> {
+        let file = self.open_as_found(rt)?;
         if self.mode().sync && file.sync_all().is_err() {
             return Err(Refusal::of_fault(rt, Fault::Write));
         }
         Ok(file)
     }
 
-    /// The file that was found, to be written as it is. One that came in its place meanwhile may be
-    /// another run's, or an input, and is refused.
-    fn opened_as_found(self, rt: &HostRuntime) -> Result<File, Refusal> {
-        let file = self.opened(rt)?;
+    /// Opens the file that was found, to be written as it is. One that came in its place meanwhile may
+    /// be another run's, or an input, and is refused.
+    fn open_as_found(self, rt: &HostRuntime) -> Result<File, Refusal> {
+        let file = self.open_to_write(rt)?;
         match file.metadata() {
             Ok(metadata) if Found::of(&metadata).is_still(self.found()) => Ok(file),
             Ok(_) => Err(self.refused(rt, NameFault::IsBusy)),
@@ -99,8 +98,8 @@ impl Target<'_> {
         }
     }
 
-    /// The file that is there, to be written as it is.
-    fn opened(self, rt: &HostRuntime) -> Result<File, Refusal> {
+    /// Opens the file that is there, to be written as it is.
+    fn open_to_write(self, rt: &HostRuntime) -> Result<File, Refusal> {
         match OpenOptions::new().write(true).open(rt, self.name()) {
             Ok(file) => Ok(file),
             Err(_) => Err(self.refused(rt, NameFault::CannotOpen)),
@@ -109,40 +108,40 @@ impl Target<'_> {
 
     /// The same, to be read, too, where that is allowed: a network's file system gives a shared lock
     /// only then.
-    fn opened_to_look(self, rt: &HostRuntime) -> Result<File, Refusal> {
+    fn open_to_look(self, rt: &HostRuntime) -> Result<File, Refusal> {
         match OpenOptions::new()
             .read(true)
             .write(true)
             .open(rt, self.name())
         {
             Ok(file) => Ok(file),
-            Err(_) => self.opened(rt),
+            Err(_) => self.open_to_write(rt),
         }
     }
 
-    /// A new file in the output's place.
-    fn new_file(self, rt: &HostRuntime) -> Result<(File, Place), Refusal> {
+    /// Makes a new file in the output's place.
+    fn make(self, rt: &HostRuntime) -> Result<(File, Place), Refusal> {
         let path = path_behind(rt, self.name(), self.found())?;
         match new_options(NEW_MODE).open(rt, &path) {
-            Ok(file) => Ok((self.locked(rt, file)?, Place::New(path))),
+            Ok(file) => Ok((self.lock(rt, file)?, Place::New(path))),
             Err(_) => Err(self.refused(rt, NameFault::CannotOpen)),
         }
     }
 
-    /// The file, locked against other runs, so that no two write to it at a time. A file that the
+    /// Locks the file against other runs, so that no two write to it at a time. A file that the
     /// system can't lock is taken without.
-    fn locked(self, rt: &HostRuntime, file: File) -> Result<File, Refusal> {
+    fn lock(self, rt: &HostRuntime, file: File) -> Result<File, Refusal> {
         match file.try_lock() {
             Err(TryLockError::WouldBlock) => Err(self.refused(rt, NameFault::IsBusy)),
             _ => Ok(file),
         }
     }
 
-    /// A new file beside the regular one that is there. That has to be one that could be written as
-    /// it is, and that no other run writes. The lock ends here: a file that is written beside the
+    /// Makes a new file beside the regular one that is there. That has to be one that could be written
+    /// as it is, and that no other run writes. The lock ends here: a file that is written beside the
     /// output does not hinder another one.
-    fn beside_old(self, rt: &HostRuntime) -> Result<(File, Place), Refusal> {
-        let old = self.opened_to_look(rt)?;
+    fn make_beside_old(self, rt: &HostRuntime) -> Result<(File, Place), Refusal> {
+        let old = self.open_to_look(rt)?;
         if let Err(TryLockError::WouldBlock) = old.try_lock_shared() {
             return Err(self.refused(rt, NameFault::IsBusy));
         }
@@ -156,9 +155,13 @@ impl Target<'_> {
         }
     }
 
-    /// A new file beside the place of the output, where none is. Where it can't be made, it is this
-    /// fault.
-    fn beside(self, rt: &HostRuntime, fault: NameFault) -> Result<(File, Place), Refusal> {
+    /// Makes a new file beside the place of the output, where none is. Where it can't be made, it is
+    /// this fault.
+    fn make_beside_place(
+        self,
+        rt: &HostRuntime,
+        fault: NameFault,
+    ) -> Result<(File, Place), Refusal> {
         let path = path_behind(rt, self.name(), self.found())?;
         self.make_beside(rt, Replaced { path, access: None }, fault)
     }

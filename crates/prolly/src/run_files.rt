@@ -1,14 +1,17 @@
 //! The files in which sorted runs wait: beside the output, as long as they have a name.
 ghost use Rattle.std.specs.Prelude.{false};
 
-use crate::named_file::NamedFile;
-use crate::output::{OUTPUT_BYTES, Output};
+use crate::file_id::Found;
+use crate::output::Output;
 use crate::place::Replaced;
 use crate::refusal::Refusal;
+use crate::sinks::buffered;
 use crate::target::Target;
 use prolly_file::{Buffered, FromRead, ToWrite};
 use prolly_sort::{RunStore, StoreFault};
+use std::fs;
 use std::fs::File;
+use std::path::PathBuf;
 
 /// A run that is written. The last one takes the output's place.
 pub type RunFile<'a> = Buffered<ToWrite<Output<'a>>>;
@@ -62,9 +65,9 @@ impl<'a> RunFiles<'a> {
     }
 
     /// Makes a further file, and notes its name.
-    fn made(&mut self) -> Result<Output<'a>, Refusal> {
+    fn make(&mut self) -> Result<Output<'a>, Refusal> {
         let replaced = self.replaced.copied(self.rt)?;
-        let output = Output::beside(self.rt, self.target, replaced)?;
+        let output = Output::make_beside(self.rt, self.target, replaced)?;
         if let Err(refusal) = self.note(&output) {
             output.remove(self.rt);
             return Err(refusal);
@@ -74,8 +77,10 @@ impl<'a> RunFiles<'a> {
 
     /// Notes the name of a file.
     fn note(&mut self, output: &Output<'_>) -> Result<(), Refusal> {
-        if let Some(file) = output.named_beside(self.rt)? {
-            self.named.push(file)?;
+        if let Some(name) = output.name_beside() {
+            let found = output.found(self.rt)?;
+            let name = PathBuf::from_str(self.rt.alloc(), name)?;
+            self.named.push(NamedFile { name, found })?;
         }
         Ok(())
     }
@@ -108,14 +113,13 @@ impl<'a> RunStore<RunFile<'a>, FromRead<File>> for RunFiles<'a> {
     fn create(&mut self) -> Result<RunFile<'a>, StoreFault> {
         let output = match self.first.take() {
             Some(first) => first,
-            None => match self.made() {
+            None => match self.make() {
                 Ok(output) => output,
                 Err(Refusal::Memory) => return Err(StoreFault::Memory),
                 Err(Refusal::Told(_)) => return Err(StoreFault::Make),
             },
         };
-        let sink = ToWrite::new(output);
-        Ok(Buffered::with_capacity(self.rt.alloc(), OUTPUT_BYTES, sink)?)
+        Ok(buffered(self.rt, ToWrite::new(output))?)
     }
 
     fn read_back(&mut self, file: RunFile<'a>) -> Result<FromRead<File>, StoreFault> {
@@ -127,5 +131,21 @@ impl<'a> RunStore<RunFile<'a>, FromRead<File>> for RunFiles<'a> {
             self.forget(name);
         }
         Ok(FromRead::new(back))
+    }
+}
+
+/// A file that this run has made, and the name that it was given.
+#[derive(Drop)]
+struct NamedFile {
+    name: PathBuf,
+    found: Found,
+}
+
+impl NamedFile {
+    /// Removes the file where the name is its own still. Where that fails, it stays.
+    fn remove(&self, rt: &HostRuntime) {
+        if self.found.has_name(rt, self.name.as_str()) {
+            let _ = fs::remove_file(rt, &self.name);
+        }
     }
 }

@@ -59,10 +59,8 @@ impl<'a> Target<'a> {
 
     /// Refuses an output that is the file behind standard input.
     pub fn refuse_input(self, rt: &HostRuntime) -> Result<(), Refusal> {
-        if self.found.keeps_bytes() {
-            if self.found.is_same_file(Stream::Input.found(rt)?) {
-                return Err(Refusal::of_name(rt, NameFault::IsInput, Stream::Input.name()));
-            }
+        if self.is_file_behind(rt, Stream::Input)? {
+            return Err(Refusal::of_name(rt, NameFault::IsInput, Stream::Input.name()));
         }
         Ok(())
     }
@@ -70,12 +68,38 @@ impl<'a> Target<'a> {
     /// Refuses an output that is the pipe behind standard input, also of a command that does not read
     /// that: what is written would wait there for whoever reads it.
     pub fn refuse_input_pipe(self, rt: &HostRuntime) -> Result<(), Refusal> {
-        if matches!(self.found, Found::Pipe(_)) {
-            if self.found.is_same_pipe(Stream::Input.found(rt)?) {
-                return Err(Refusal::of_name(rt, NameFault::IsInput, Stream::Input.name()));
-            }
+        if self.is_pipe_behind(rt, Stream::Input)? {
+            return Err(Refusal::of_name(rt, NameFault::IsInput, Stream::Input.name()));
         }
         Ok(())
+    }
+
+    /// Refuses an output that is the file behind standard output.
+    pub fn refuse_printed(self, rt: &HostRuntime) -> Result<(), Refusal> {
+        if self.is_file_behind(rt, Stream::Output)? {
+            return Err(Refusal::of_fault(rt, Fault::OutIsStdout));
+        }
+        Ok(())
+    }
+
+    /// Refuses an output that is the pipe behind standard output.
+    pub fn refuse_printed_pipe(self, rt: &HostRuntime) -> Result<(), Refusal> {
+        if self.is_pipe_behind(rt, Stream::Output)? {
+            return Err(Refusal::of_fault(rt, Fault::OutIsStdout));
+        }
+        Ok(())
+    }
+
+    /// Whether the output is the file behind a standard stream. Of an output that keeps nothing that is
+    /// not asked: the system may not be able to tell what the stream is.
+    fn is_file_behind(self, rt: &HostRuntime, stream: Stream) -> Result<bool, Refusal> {
+        Ok(self.found.keeps_bytes() && self.found.is_same_file(stream.found(rt)?))
+    }
+
+    /// The same of the pipe behind it, of an output that is a pipe.
+    fn is_pipe_behind(self, rt: &HostRuntime, stream: Stream) -> Result<bool, Refusal> {
+        let is_pipe = matches!(self.found, Found::Pipe(_));
+        Ok(is_pipe && self.found.is_same_pipe(stream.found(rt)?))
     }
 
     /// Refuses an output that holds something, unless `--force` is given: of a command without
@@ -84,26 +108,6 @@ impl<'a> Target<'a> {
         self.refuse_other_kind(rt)?;
         if self.is_kept() {
             return Err(self.refused(rt, NameFault::NotEmpty));
-        }
-        Ok(())
-    }
-
-    /// Refuses an output that is the file behind standard output.
-    pub fn refuse_printed(self, rt: &HostRuntime) -> Result<(), Refusal> {
-        if self.found.keeps_bytes() {
-            if self.found.is_same_file(Stream::Output.found(rt)?) {
-                return Err(Refusal::of_fault(rt, Fault::OutIsStdout));
-            }
-        }
-        Ok(())
-    }
-
-    /// Refuses an output that is the pipe behind standard output.
-    pub fn refuse_printed_pipe(self, rt: &HostRuntime) -> Result<(), Refusal> {
-        if matches!(self.found, Found::Pipe(_)) {
-            if self.found.is_same_pipe(Stream::Output.found(rt)?) {
-                return Err(Refusal::of_fault(rt, Fault::OutIsStdout));
-            }
         }
         Ok(())
     }
@@ -141,10 +145,8 @@ impl<'a> Target<'a> {
             Err(_) => return Err(self.refused(rt, NameFault::CannotOpen)),
         };
         let now = Target {
-            name: self.name,
             found: Found::of(&metadata),
-            kind: self.kind,
-            mode: self.mode,
+            ..self
         };
         if !metadata.is_file() {
             return Err(self.refused(rt, NameFault::CannotReplace));

@@ -1,46 +1,142 @@
 //! The command `diff`, of two files that are checked, and of two of which only the roots are
 //! believed.
+ghost use Rattle.prolly_line.specs.GivenCommand.{IsWithinLimits};
+ghost use Rattle.prolly.specs.Kinds.{IsDiff};
+
+use crate::commands::version_of;
 use crate::file_id::Found;
-use crate::inputs::{Chunks, Input, chunks_of, refuse_read_twice};
-use crate::output::{OUTPUT_BYTES, Output};
+use crate::host::Host;
+use crate::inputs::{Chunks, Input, refuse_read_twice};
+use crate::output::Output;
 use crate::output_kind::OutputKind;
 use crate::patient::Patient;
 use crate::refusal::Refusal;
+use crate::sinks::buffered;
 use crate::streams::Stream;
 use crate::target::Target;
 use prolly_answer::{
-    Answer, Fault, Notation, RecordForm, RootDiff, RootPair, WriteMode, answer_diff,
+    Answer, Command, Fault, Notation, RecordForm, RootDiff, RootPair, answer_diff,
     answer_diff_by_root,
 };
-use prolly_check::{CheckFault, ChunkHasher};
+use prolly_check::CheckFault;
 use prolly_entry::Version;
-use prolly_file::{Buffered, FromRead, ToWrite};
+use prolly_file::{FromRead, ToWrite};
 use std::alloc::AllocError;
 use std::fs::File;
 use std::io::Write;
+use std::thread::Threads;
 
-/// What a difference is asked for.
-#[derive(Clone, Copy)]
-pub struct DiffRequest {
-    /// The roots that are believed, in place of the files.
-    pub roots: Option<RootPair>,
-    /// The version of the chunks of these roots' trees.
-    pub version: Version,
-    /// Whether it is said how much has changed.
-    pub stat: bool,
-    /// How keys and values are written in lines.
-    pub notation: Notation,
+/// `diff [--text] [--stat] [--old-root ROOT] [--new-root ROOT] [--format V] OLD NEW [--out FILE]
+/// [--atomic] [--sync] [--force]`
+pub fn answer<T: Threads + Sync>(host: &Host<'_, T>, command: Command) -> Result<Answer, Refusal>
+    requires limits { IsWithinLimits command }
+    requires diff { IsDiff command }
+{
+    let Command::Diff {
+        old,
+        new,
+        roots,
+        version,
+        out,
+        stat,
+        notation,
+        mode,
+    } = command
+    else {
+        unreachable!()
+    };
+    let rt = host.rt;
+    let version = version_of(version);
+    let trees = TreePair {
+        old,
+        new,
+        roots,
+        version,
+    };
+    match out {
+        None => print_changes(host, &trees, stat, notation),
+        Some(out) => {
+            let target = Target::look(rt, &out, OutputKind::RecordFile, mode)?;
+            write_changes(host, &trees, stat, target)
+        }
+    }
 }
 
-/// Two chunk files that are open to be compared.
+/// Prints how much has changed, or else the changes, in lines.
+fn print_changes<T: Threads + Sync>(
+    host: &Host<'_, T>,
+    trees: &TreePair,
+    stat: bool,
+    notation: Notation,
+) -> Result<Answer, Refusal> {
+    let rt = host.rt;
+    let trees = trees.open(rt, Stream::Output.found(rt)?)?;
+    let form = if stat {
+        None
+    } else {
+        Some(RecordForm::Lines(notation))
+    };
+    Ok(trees.compare(host, form, stat, Patient::new(rt, rt.stdout()))?)
+}
+
+/// Writes the changes to a record file, and prints how much has changed where that is asked for.
+fn write_changes<T: Threads + Sync>(
+    host: &Host<'_, T>,
+    trees: &TreePair,
+    stat: bool,
+    target: Target<'_>,
+) -> Result<Answer, Refusal> {
+    let rt = host.rt;
+    let trees = trees.open(rt, target.found())?;
+    let mut output = if stat {
+        Output::open_beside_answer(rt, target)?
+    } else {
+        Output::open(rt, target)?
+    };
+    let answer = trees.compare(host, Some(RecordForm::Records), stat, &mut output);
+    output.finish(rt, answer)
+}
+
+/// The two trees that the words name: those of two chunk files, which are checked, or those of two
+/// roots, of whose files nothing else is believed.
 #[derive(Drop)]
-enum Compared {
-    /// They are to be checked.
+struct TreePair {
+    old: String,
+    new: String,
+    roots: Option<RootPair>,
+    version: Version,
+}
+
+impl TreePair {
+    /// Opens the files, where neither is the output.
+    fn open(&self, rt: &HostRuntime, output: Found) -> Result<OpenPair, Refusal> {
+        let old = Input::open_beside(rt, &self.old, output)?;
+        let new = Input::open_beside(rt, &self.new, output)?;
+        refuse_read_twice(rt, new.found(), &[old.found()], &self.new)?;
+        match self.roots {
+            None => Ok(OpenPair::Whole {
+                old: old.into_whole(rt, Fault::CheckOld(CheckFault::TooLong))?,
+                new: new.into_whole(rt, Fault::CheckNew(CheckFault::TooLong))?,
+            }),
+            Some(roots) => Ok(OpenPair::Rooted {
+                old: old.into_chunks(rt)?,
+                new: new.into_chunks(rt)?,
+                roots,
+                version: self.version,
+            }),
+        }
+    }
+}
+
+/// Two trees whose files are open.
+#[derive(Drop)]
+enum OpenPair {
+    /// The files are to be read whole, and checked.
     Whole {
         old: FromRead<File>,
         new: FromRead<File>,
     },
-    /// Only the roots are believed.
+    /// What is needed of the files is to be read, and only the roots are believed.
     Rooted {
         old: Chunks,
         new: Chunks,
@@ -49,52 +145,24 @@ enum Compared {
     },
 }
 
-impl Compared {
-    /// The files of these two names, where neither is the output.
-    fn open(
-        rt: &HostRuntime,
-        old: &str,
-        new: &str,
-        output: Found,
-        request: DiffRequest,
-    ) -> Result<Compared, Refusal> {
-        let old = Input::open_beside(rt, old, output)?;
-        let name = new;
-        let new = Input::open_beside(rt, name, output)?;
-        refuse_read_twice(rt, new.found(), &[old.found()], name)?;
-        match request.roots {
-            None => Ok(Compared::Whole {
-                old: old.into_whole(rt, Fault::CheckOld(CheckFault::TooLong))?,
-                new: new.into_whole(rt, Fault::CheckNew(CheckFault::TooLong))?,
-            }),
-            Some(roots) => Ok(Compared::Rooted {
-                old: chunks_of(rt, old)?,
-                new: chunks_of(rt, new)?,
-                roots,
-                version: request.version,
-            }),
-        }
-    }
-
+impl OpenPair {
     /// Writes what turns the map of the one into that of the other, where there is a form, and
     /// answers how much that is where `stat` asks for it.
-    fn write<H: ChunkHasher, W: Write + Drop>(
+    fn compare<T: Threads + Sync, W: Write + Drop>(
         self,
-        rt: &HostRuntime,
-        hasher: &H,
+        host: &Host<'_, T>,
         form: Option<RecordForm>,
         stat: bool,
         writer: W,
-    ) -> Result<Answer, AllocError>
-        requires { H.can_hash hasher.now }
-    {
-        let alloc = rt.alloc();
-        let mut sink = Buffered::with_capacity(alloc, OUTPUT_BYTES, ToWrite::new(writer))?;
+    ) -> Result<Answer, AllocError> {
+        let alloc = host.rt.alloc();
+        let mut sink = buffered(host.rt, ToWrite::new(writer))?;
         match self {
-            Compared::Whole { mut old, mut new } => {
-                answer_diff(hasher, alloc, &mut old, &mut new, form, stat, &mut sink)
+            OpenPair::Whole { mut old, mut new } => {
+                let hasher = host.hasher();
+                answer_diff(&hasher, alloc, &mut old, &mut new, form, stat, &mut sink)
             }
-            Compared::Rooted {
+            OpenPair::Rooted {
                 mut old,
                 mut new,
                 roots,
@@ -111,56 +179,4 @@ impl Compared {
             }
         }
     }
-}
-
-/// `diff [--text] [--stat] [--old-root ROOT] [--new-root ROOT] [--format V] OLD NEW [--out FILE]
-/// [--atomic] [--sync] [--force]`
-pub fn diff<H: ChunkHasher>(
-    rt: &HostRuntime,
-    hasher: &H,
-    old: &str,
-    new: &str,
-    request: DiffRequest,
-    out: Option<String>,
-    mode: WriteMode,
-) -> Result<Answer, Refusal>
-    requires { H.can_hash hasher.now }
-{
-    match out {
-        None => {
-            let files = Compared::open(rt, old, new, Stream::Output.found(rt)?, request)?;
-            let form = if request.stat {
-                None
-            } else {
-                Some(RecordForm::Lines(request.notation))
-            };
-            let stdout = Patient::new(rt, rt.stdout());
-            Ok(files.write(rt, hasher, form, request.stat, stdout)?)
-        }
-        Some(out) => diff_to(rt, hasher, old, new, request, &out, mode),
-    }
-}
-
-/// The same with `--out FILE`.
-fn diff_to<H: ChunkHasher>(
-    rt: &HostRuntime,
-    hasher: &H,
-    old: &str,
-    new: &str,
-    request: DiffRequest,
-    out: &str,
-    mode: WriteMode,
-) -> Result<Answer, Refusal>
-    requires { H.can_hash hasher.now }
-{
-    let target = Target::look(rt, out, OutputKind::RecordFile, mode)?;
-    let files = Compared::open(rt, old, new, target.found(), request)?;
-    let mut output = if request.stat {
-        Output::open_beside_answer(rt, target)?
-    } else {
-        Output::open(rt, target)?
-    };
-    let form = Some(RecordForm::Records);
-    let answer = files.write(rt, hasher, form, request.stat, &mut output);
-    output.finish(rt, answer)
 }

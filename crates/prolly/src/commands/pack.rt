@@ -1,70 +1,99 @@
 //! The command `pack`.
+ghost use Rattle.prolly_line.specs.GivenCommand.{IsWithinLimits};
+ghost use Rattle.prolly.specs.Kinds.{IsPack};
+
+use crate::host::Host;
 use crate::inputs::refuse_printed_input;
 use crate::output::Output;
 use crate::output_kind::OutputKind;
-use crate::patient::{Patient, tell_of_terminal};
+use crate::patient::{stdin_source, tell_of_terminal};
 use crate::refusal::Refusal;
 use crate::run_files::{RunFile, RunFiles};
 use crate::target::Target;
-use prolly_answer::{Answer, LineForm, SortedPack, WriteMode, answer_pack_in, answer_pack_sorted};
-use prolly_file::{FromRead, ToWrite};
+use prolly_answer::{
+    Answer, Command, LineForm, SortedPack, WriteMode, answer_pack_in, answer_pack_sorted,
+};
+use prolly_file::ToWrite;
 use std::sync::Wait;
-
-/// `pack [--text] [--removals] [--atomic] [--sync] [--force] OUT`
-pub fn pack(
-    rt: &HostRuntime,
-    form: LineForm,
-    out: &str,
-    mode: WriteMode,
-) -> Result<Answer, Refusal> {
-    let target = Target::look(rt, out, OutputKind::RecordFile, mode)?;
-    target.refuse_input(rt)?;
-    refuse_printed_input(rt)?;
-    let mut output = Output::open_beside_answer(rt, target)?;
-    tell_of_terminal(rt);
-    let answer = answer_pack_in(
-        rt.alloc(),
-        &mut FromRead::new(Patient::new(rt, rt.stdin())),
-        &mut ToWrite::new(&mut output),
-        form,
-    );
-    output.finish(rt, answer)
-}
 
 /// What memory a run is not given, in bytes: for the text that is read, and for readers of runs.
 const BESIDE_RUNS: u32 = 4_000_000;
 
-/// `pack --sort [--unique] [--memory MB] [--text] [--removals] [--atomic] [--sync] [--force] OUT`
-pub fn pack_sorted<'a, R: Wait>(
-    rt: &'a HostRuntime,
-    waiting: &R,
-    form: LineForm,
-    unique: bool,
-    memory: u32,
-    out: &'a str,
-    mode: WriteMode,
-) -> Result<Answer, Refusal> {
-    // A run may become the output, and a pipe or a device can't be one.
-    let mode = WriteMode {
-        atomic: true,
-        ..mode
-    };
+/// The answer of a command that makes a record file of lines.
+pub fn answer<T: Wait>(host: &Host<'_, T>, command: Command) -> Result<Answer, Refusal>
+    requires { IsPack command }
+{
+    match command {
+        Command::Pack {
+            out,
+            notation,
+            removals,
+            mode,
+        } => {
+            let form = LineForm { notation, removals };
+            pack(host.rt, form, target_of(host.rt, &out, mode)?)
+        }
+        Command::PackSorted {
+            out,
+            notation,
+            removals,
+            unique,
+            memory,
+            mode,
+        } => {
+            let form = LineForm { notation, removals };
+            // A run may become the output, and a pipe or a device can't be one.
+            let mode = WriteMode {
+                atomic: true,
+                ..mode
+            };
+            let target = target_of(host.rt, &out, mode)?;
+            pack_sorted(host, form, unique, budget_of(memory), target)
+        }
+        _ => unreachable!(),
+    }
+}
+
+/// The record file of this name, which is to be written of standard input.
+fn target_of<'a>(rt: &HostRuntime, out: &'a str, mode: WriteMode) -> Result<Target<'a>, Refusal> {
     let target = Target::look(rt, out, OutputKind::RecordFile, mode)?;
     target.refuse_input(rt)?;
     refuse_printed_input(rt)?;
+    Ok(target)
+}
+
+/// `pack [--text] [--removals] [--atomic] [--sync] [--force] OUT`
+fn pack(rt: &HostRuntime, form: LineForm, target: Target<'_>) -> Result<Answer, Refusal> {
+    let mut output = Output::open_beside_answer(rt, target)?;
+    tell_of_terminal(rt);
+    let mut sink = ToWrite::new(&mut output);
+    let answer = answer_pack_in(rt.alloc(), &mut stdin_source(rt), &mut sink, form);
+    output.finish(rt, answer)
+}
+
+/// `pack --sort [--unique] [--memory MB] [--text] [--removals] [--atomic] [--sync] [--force] OUT`,
+/// where runs take so many bytes of memory.
+fn pack_sorted<T: Wait>(
+    host: &Host<'_, T>,
+    form: LineForm,
+    unique: bool,
+    budget: u32,
+    target: Target<'_>,
+) -> Result<Answer, Refusal> {
+    let rt = host.rt;
     let mut files = RunFiles::new(rt, target)?;
     tell_of_terminal(rt);
     let sorted = answer_pack_sorted(
-        waiting,
+        host.threads,
         rt.alloc(),
-        &mut FromRead::new(Patient::new(rt, rt.stdin())),
+        &mut stdin_source(rt),
         &mut files,
         form,
-        budget_of(memory),
+        budget,
         unique,
     );
     match sorted {
-        Ok(SortedPack { answer, file }) => kept(rt, &files, answer, file),
+        Ok(SortedPack { answer, file }) => keep(rt, &files, answer, file),
         Err(refused) => {
             files.remove_but(None);
             Err(refused.into())
@@ -73,7 +102,7 @@ pub fn pack_sorted<'a, R: Wait>(
 }
 
 /// Puts the sorted file in the output's place, where there is one, and takes all others away.
-fn kept(
+fn keep(
     rt: &HostRuntime,
     files: &RunFiles<'_>,
     answer: Answer,

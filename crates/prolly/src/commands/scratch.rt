@@ -1,30 +1,38 @@
 //! The command `scratch`.
 ghost use Rattle.std.specs.Prelude.{◌≤◌};
+ghost use Rattle.prolly_line.specs.GivenCommand.{IsWithinLimits};
+ghost use Rattle.prolly.specs.Kinds.{IsScratch};
 
 use crate::commands::bits::chosen_bits;
+use crate::commands::version_of;
 use crate::inputs::refuse_printed_input;
 use crate::output::Output;
 use crate::output_kind::OutputKind;
-use crate::patient::Patient;
+use crate::patient::stdin_source;
 use crate::refusal::Refusal;
 use crate::target::Target;
-use prolly_answer::{Answer, Fault, Sample, WriteMode, answer_scratch};
+use prolly_answer::{Answer, Command, Fault, Sample, answer_scratch};
 use prolly_entry::Version;
-use prolly_file::{FromRead, Rejoined, Sink, ToWrite};
+use prolly_file::{Rejoined, Sink, ToWrite};
 use std::alloc::AllocError;
 use std::fs::File;
 
 /// `scratch [--bits Q] [--chunk-bytes N] [--format V] [--out FILE] [--atomic] [--sync] [--force]`
-pub fn scratch(
-    rt: &HostRuntime,
-    bits: u8,
-    chunk_bytes: Option<u32>,
-    version: Version,
-    out: Option<String>,
-    mode: WriteMode,
-) -> Result<Answer, Refusal>
-    requires bits { bits ≤ 24 }
+pub fn answer(rt: &HostRuntime, command: Command) -> Result<Answer, Refusal>
+    requires limits { IsWithinLimits command }
+    requires scratch { IsScratch command }
 {
+    let Command::Scratch {
+        bits,
+        chunk_bytes,
+        version,
+        out,
+        mode,
+    } = command
+    else {
+        unreachable!()
+    };
+    let version = version_of(version);
     refuse_printed_input(rt)?;
     let Some(out) = out else {
         let mut sink: Option<ToWrite<&File>> = None;
@@ -50,7 +58,7 @@ fn scratch_into<W: Sink>(
     requires bits { bits ≤ 24 }
 {
     let alloc = rt.alloc();
-    let mut records = FromRead::new(Patient::new(rt, rt.stdin()));
+    let mut records = stdin_source(rt);
     let Some(chunk_bytes) = chunk_bytes else {
         return answer_scratch(alloc, &mut records, bits, version, sink);
     };
@@ -59,11 +67,6 @@ fn scratch_into<W: Sink>(
         return Answer::of_fault(alloc, Fault::Read);
     };
     let bits = chosen_bits(rt, &sample, chunk_bytes, bits)?;
-    answer_scratch(
-        alloc,
-        &mut Rejoined::new(&front, records),
-        bits,
-        version,
-        sink,
-    )
+    let mut records = Rejoined::new(&front, records);
+    answer_scratch(alloc, &mut records, bits, version, sink)
 }

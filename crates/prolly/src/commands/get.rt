@@ -1,0 +1,119 @@
+//! The command `get`, of one key and of many.
+ghost use Rattle.prolly_line.specs.GivenCommand.{IsWithinLimits};
+ghost use Rattle.prolly.specs.Kinds.{IsGet};
+
+use crate::commands::version_of;
+use crate::file_id::Found;
+use crate::host::Host;
+use crate::inputs::Chunks;
+use crate::known_root::KnownRoot;
+use crate::listed_keys::ListedKeys;
+use crate::named_tree::{NamedTree, OpenTree};
+use crate::refusal::Refusal;
+use crate::sinks::stdout_sink;
+use crate::streams::Stream;
+use prolly_answer::{
+    Answer, Command, Notation, answer_found, answer_found_raw, answer_get_in, answer_get_keys,
+    answer_get_keys_by_root, answer_get_raw,
+};
+use prolly_root::{Reader, RootFault};
+use std::alloc::Global;
+use std::thread::Threads;
+
+/// The answer of a `get`.
+pub fn answer<T: Threads + Sync>(host: &Host<'_, T>, command: Command) -> Result<Answer, Refusal>
+    requires limits { IsWithinLimits command }
+    requires get { IsGet command }
+{
+    match command {
+        Command::Get {
+            file,
+            key,
+            root,
+            version,
+            notation,
+            raw,
+        } => {
+            let tree = NamedTree::of(file, root, version_of(version));
+            get(host, &tree, &key, notation, raw)
+        }
+        Command::GetKeys {
+            file,
+            keys,
+            root,
+            version,
+            notation,
+        } => {
+            let tree = NamedTree::of(file, root, version_of(version));
+            get_keys(host, &tree, &keys, notation)
+        }
+        _ => unreachable!(),
+    }
+}
+
+/// `get [--text] [--raw] [--root ROOT] [--format V] FILE KEY`. With a root no more of the file is read
+/// than is needed.
+fn get<T: Threads + Sync>(
+    host: &Host<'_, T>,
+    tree: &NamedTree,
+    key: &[u8],
+    notation: Notation,
+    raw: bool,
+) -> Result<Answer, Refusal> {
+    let alloc = host.rt.alloc();
+    let answer = match tree.open(host.rt, Found::Nothing)? {
+        OpenTree::Whole(mut source) => {
+            if raw {
+                answer_get_raw(&host.hasher(), alloc, &mut source, key)
+            } else {
+                answer_get_in(&host.hasher(), alloc, &mut source, key, notation)
+            }
+        }
+        OpenTree::Rooted(mut chunks, known) => {
+            let found = value_in(alloc, &mut chunks, &known, key);
+            if raw {
+                answer_found_raw(alloc, &found)
+            } else {
+                answer_found(alloc, notation, &found)
+            }
+        }
+    };
+    Ok(answer?)
+}
+
+/// The value of the key in the tree of this root, or none.
+fn value_in(
+    alloc: Global,
+    chunks: &mut Chunks,
+    known: &KnownRoot,
+    key: &[u8],
+) -> Result<Option<Vec<u8>>, RootFault> {
+    let mut reader = Reader::open(alloc, chunks, known.version, &known.root)?;
+    reader.get(alloc, chunks, key)
+}
+
+/// `get [--text] [--root ROOT] [--format V] --keys FILE FILE`, which prints a line for each key.
+fn get_keys<T: Threads + Sync>(
+    host: &Host<'_, T>,
+    tree: &NamedTree,
+    keys: &str,
+    notation: Notation,
+) -> Result<Answer, Refusal> {
+    let rt = host.rt;
+    let printed = Stream::Output.found(rt)?;
+    let listed = ListedKeys::read(rt, keys, notation, printed)?;
+    let opened = tree.open_after(rt, listed.file, printed)?;
+    let (alloc, keys) = (rt.alloc(), &listed.keys);
+    let mut sink = stdout_sink(rt)?;
+    let answer = match opened {
+        OpenTree::Whole(mut source) => {
+            let hasher = host.hasher();
+            answer_get_keys(&hasher, alloc, &mut source, keys, notation, &mut sink)
+        }
+        OpenTree::Rooted(mut chunks, known) => {
+            let (chunks, KnownRoot { version, root }) = (&mut chunks, known);
+            answer_get_keys_by_root(alloc, chunks, version, &root, keys, notation, &mut sink)
+        }
+    };
+    Ok(answer?)
+}

@@ -1,0 +1,59 @@
+//! The command `nth`.
+ghost use Rattle.prolly_line.specs.GivenCommand.{IsWithinLimits};
+ghost use Rattle.prolly.specs.Kinds.{IsNth};
+
+use crate::commands::version_of;
+use crate::file_id::Found;
+use crate::host::Host;
+use crate::inputs::Chunks;
+use crate::named_tree::{NamedTree, OpenTree};
+use crate::refusal::Refusal;
+use prolly_answer::{Answer, Command, Fault, answer_found_pair, answer_nth_in};
+use prolly_entry::{Pair, Ref, Version};
+use prolly_root::{Reader, RootFault};
+use std::alloc::Global;
+use std::thread::Threads;
+
+/// `nth [--text] [--root ROOT] [--format V] FILE N`. Chunks of version One have no counts to go by.
+pub fn answer<T: Threads + Sync>(host: &Host<'_, T>, command: Command) -> Result<Answer, Refusal>
+    requires limits { IsWithinLimits command }
+    requires nth { IsNth command }
+{
+    let Command::Nth {
+        file,
+        n,
+        root,
+        version,
+        notation,
+    } = command
+    else {
+        unreachable!()
+    };
+    let rt = host.rt;
+    let alloc = rt.alloc();
+    let tree = NamedTree::of(file, root, version_of(version));
+    if matches!(tree.root(), Some(known) if known.version == Version::One) {
+        return Err(Refusal::of_fault(rt, Fault::NoCounts));
+    }
+    let answer = match tree.open(rt, Found::Nothing)? {
+        OpenTree::Whole(mut source) => {
+            answer_nth_in(&host.hasher(), alloc, &mut source, n, notation)
+        }
+        OpenTree::Rooted(mut chunks, known) => {
+            let found = pair_in(alloc, &mut chunks, &known.root, n);
+            answer_found_pair(alloc, notation, &found)
+        }
+    };
+    Ok(answer?)
+}
+
+/// The pair of the number in the tree of this root, whose chunks are of version Two, or none.
+fn pair_in(
+    alloc: Global,
+    chunks: &mut Chunks,
+    root: &Ref,
+    n: u64,
+) -> Result<Option<Pair>, RootFault> {
+    let mut reader = Reader::open(alloc, chunks, Version::Two, root)?;
+    reader.nth(alloc, chunks, n)
+}

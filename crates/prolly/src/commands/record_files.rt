@@ -1,0 +1,65 @@
+//! The record files that become a tree.
+use crate::file_id::Found;
+use crate::inputs::{Input, refuse_read_twice};
+use crate::output_kind::OutputKind;
+use crate::refusal::Refusal;
+use crate::target::Target;
+use prolly_answer::{Fault, WriteMode};
+use prolly_file::FromRead;
+use prolly_link::RunFault;
+use prolly_progress::{CountedSource, Counts};
+use std::fs::File;
+
+/// Record files that are open, whose bytes are counted as they are read.
+#[derive(Drop)]
+pub struct RecordFiles<'a> {
+    pub sources: Vec<CountedSource<'a, FromRead<File>>>,
+    /// How many bytes they have, where that is known.
+    pub size: Option<u64>,
+}
+
+impl<'a> RecordFiles<'a> {
+    /// The files of these names, where none is the output and no pipe is named twice.
+    pub fn open(
+        rt: &HostRuntime,
+        names: &[String],
+        output: Found,
+        counts: &'a Counts,
+    ) -> Result<RecordFiles<'a>, Refusal> {
+        let mut size = Some(0);
+        let mut found = Vec::with_capacity(rt.alloc(), names.len())?;
+        let mut sources = Vec::with_capacity(rt.alloc(), names.len())?;
+        for name in names {
+            let input = Input::open_beside(rt, name, output)?;
+            refuse_read_twice(rt, input.found(), &found, name)?;
+            found.push(input.found())?;
+            size = sum_of(size, input.size());
+            sources.push(CountedSource::new(input.into_source(), counts))?;
+        }
+        Ok(RecordFiles { sources, size })
+    }
+}
+
+/// The sum of two sizes, where both are known.
+fn sum_of(first: Option<u64>, second: Option<u64>) -> Option<u64> {
+    first?.checked_add(second?)
+}
+
+/// The chunk file of this name, which is to be written of these record files. More of them than the
+/// limit are refused, and where there are none, so is an output that holds something.
+pub fn target_of<'a>(
+    rt: &HostRuntime,
+    files: &[String],
+    limit: usize,
+    out: &'a str,
+    mode: WriteMode,
+) -> Result<Target<'a>, Refusal> {
+    if files.len() > limit {
+        return Err(Refusal::of_fault(rt, Fault::Run(RunFault::TooManyFiles)));
+    }
+    let target = Target::look(rt, out, OutputKind::ChunkFile, mode)?;
+    if files.is_empty() {
+        target.refuse_full(rt)?;
+    }
+    Ok(target)
+}

@@ -1,0 +1,37 @@
+//! What a command runs on.
+use prolly_check::ManyThreads;
+use std::num::NonZeroUsize;
+use std::thread::{Threads, available_parallelism};
+
+/// How many threads take hashes for each processor. Each has as many chunks, and chunks are of many
+/// sizes.
+const THREADS_A_PROCESSOR: usize = 4;
+
+/// What a command runs on: the system, whose files and streams it uses, and what starts its threads and
+/// waits for them.
+#[derive(Drop)]
+pub struct Host<'a, T> {
+    pub rt: &'a HostRuntime,
+    pub threads: &'a T,
+}
+
+impl<'a, T: Threads + Sync> Host<'a, T> {
+    /// Threads on all processors that the program may use, which take the hashes of a file that is
+    /// checked; one thread where the number of processors is not told.
+    pub fn hasher(&self) -> ManyThreads<'a, T> {
+        let threads = match available_parallelism(self.threads) {
+            Ok(processors) => threads_on(processors),
+            Err(_) => NonZeroUsize::MIN,
+        };
+        ManyThreads::new(self.threads, threads)
+    }
+}
+
+/// How many threads there are on so many processors: one on one.
+fn threads_on(processors: NonZeroUsize) -> NonZeroUsize {
+    if processors == NonZeroUsize::MIN {
+        return processors;
+    }
+    let threads = processors.get().saturating_mul(THREADS_A_PROCESSOR);
+    NonZeroUsize::new(threads).unwrap_or(processors)
+}

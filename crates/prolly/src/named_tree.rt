@@ -1,0 +1,60 @@
+//! The tree that the words name.
+use crate::file_id::Found;
+use crate::inputs::{Chunks, Input, refuse_read_twice};
+use crate::known_root::KnownRoot;
+use crate::refusal::Refusal;
+use prolly_entry::{Ref, Version};
+use prolly_file::FromRead;
+use std::fs::File;
+
+/// The tree that the words name: that of a chunk file, which is checked, or where they give a root, the
+/// tree of that root, of whose file nothing else is believed.
+#[derive(Drop)]
+pub struct NamedTree {
+    file: String,
+    root: Option<KnownRoot>,
+}
+
+impl NamedTree {
+    /// The tree of this file, and of this root where one is given, in chunks of the version.
+    pub fn of(file: String, root: Option<Ref>, version: Version) -> NamedTree {
+        NamedTree {
+            file,
+            root: KnownRoot::given(root, version),
+        }
+    }
+
+    /// The root that is believed.
+    pub fn root(&self) -> Option<KnownRoot> {
+        self.root
+    }
+
+    /// Opens the file, where that is not the output.
+    pub fn open(&self, rt: &HostRuntime, output: Found) -> Result<OpenTree, Refusal> {
+        self.open_after(rt, Found::Nothing, output)
+    }
+
+    /// The same of a command that has read another file before: a pipe gives its bytes once.
+    pub fn open_after(
+        &self,
+        rt: &HostRuntime,
+        earlier: Found,
+        output: Found,
+    ) -> Result<OpenTree, Refusal> {
+        let input = Input::open_beside(rt, &self.file, output)?;
+        refuse_read_twice(rt, input.found(), &[earlier], &self.file)?;
+        match self.root {
+            None => Ok(OpenTree::Whole(input.into_chunk_file(rt)?)),
+            Some(root) => Ok(OpenTree::Rooted(input.into_chunks(rt)?, root)),
+        }
+    }
+}
+
+/// A tree whose file is open.
+#[derive(Drop)]
+pub enum OpenTree {
+    /// The file is to be read whole, and checked.
+    Whole(FromRead<File>),
+    /// What is needed of the file is to be read, and only the root is believed.
+    Rooted(Chunks, KnownRoot),
+}
