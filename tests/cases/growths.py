@@ -1,23 +1,27 @@
 """Runs in which the system refuses the program one growth of memory: each growth in turn, from the first to the one
 after the last."""
 
-import os
-import subprocess
-import tempfile
-from dataclasses import dataclass, field
-from pathlib import Path
-
+from cases.chunk_bytes import chosen
 from cases.diffs import difference, stat_line
 from cases.diffs_by_root import by_roots
 from cases.dumps import lines
+from cases.explained_lines import MOST
+from cases.explained_lines import explained as explained_lines
+from cases.key_proofs import file_of, lines_found
+from cases.key_proofs import verdict as keys_verdict
 from cases.proofs import verdict
+from cases.range_proofs import words_of
 from cases.scratch import ABC
 from cases.surveys import as_json, explained, record_lines, record_numbers, table, tree_json
 from oracle.escapes import escaped, text_lines
+from oracle.key_proof import found_at, key_proof_of
 from oracle.proof import WRONG_VERSION, proof_of
+from oracle.range_proof import range_proof_of
 from oracle.trees import END_SIZE, REMOVED, begun_file, chunk_file, header, overlay, record, records, reference_text, report, root_text, tree
 from support.by_root import ALL, NO_COUNTS, Dump, Get, Nth, Prove, Scan, refusal
-from support.harness import BAD_TEXT_KEY, NO_THREAD, SCARCE, file_differences, hexed, lay_out, shown
+from support.harness import BAD_TEXT_KEY, hexed
+from support.place import compiled
+from support.refused import Command, refuse
 
 FIVE_IN_THREE = [[(b"a", b"1"), (b"d", b"1")], [(b"b", b"1")], [(b"c", b"1"), (b"e", b"1")]]
 
@@ -42,31 +46,11 @@ OLD_AND_NEW = by_roots(tree(OLD, 0, 1).reference, REFERENCE, 1)
 MIXED = [(b"\t", b"\xff\\"), ("é".encode(), b"")]
 """Pairs whose text has escapes, and a character that has none."""
 
+KEYS = [b"", b"b", b"bb", b"c", b"z"]
+"""Keys in their order, of which the tree has two."""
+
 MOST_GROWTHS = 2_000
 """More than any of the commands asks for."""
-
-
-@dataclass
-class Command:
-    """A command, what it answers where nothing is refused, and what it may leave behind where something is."""
-
-    name: str
-    words: list
-    input: bytes = b""
-    status: int = 0
-    out: bytes = b""
-    err: bytes = b""
-    before: dict = field(default_factory=dict)
-    made: str = None
-    """The file that it makes."""
-    whole: bytes = b""
-    """What this file holds where nothing is refused."""
-    parts: list = field(default_factory=list)
-    """Where a growth is refused, it holds a first part of one of these, or nothing."""
-    is_printed_early: bool = False
-    """It prints as it goes, so where a growth is refused the first lines, or the first records, may be there."""
-    is_made_first: bool = False
-    """The file is made before the line that tells of it, for which there may be no memory."""
 
 
 def commands():
@@ -89,11 +73,13 @@ def commands():
         built("build of three pairs in format 2", [ABC], version=2),
         built("build of three files", FIVE_IN_THREE),
         kept("atomic build of three files", FIVE_IN_THREE),
+        *with_chosen_bits(),
         *applied(),
         stopped(),
         Command("check", ["check", "abc.prl"], out=b"ok " + root_text(ABC, 0).strip() + b" 0 6\n", before=reads),
         Command("check --root", ["check", "--root", reference_text(REFERENCE), "abc.prl"], out=b"ok " + root_text(ABC, 0).strip() + b" 0 6\n", before=reads),
         Command("check --root of another root", ["check", "--root", reference_text(REFERENCE), "old.prl"], status=4, err=refusal("has another root")[2], before=both),
+        *checked(),
         Command("root", ["root", "abc.prl"], out=root_text(ABC, 0), before=reads),
         Command("root of no file", ["root", "out"], status=4, err=refusal("bad end record")[2], before={"out": chunks + b"E"}),
         *surveyed(),
@@ -103,6 +89,8 @@ def commands():
         Command("get of no pair", ["get", "abc.prl", "7a"], status=1, before=reads),
         Command("get --root", Get(b"b").words(REFERENCE, 1, "abc.prl"), out=b"31\n", before=reads),
         Command("get --root in format 2", Get(b"c").words(COUNTED_TREE.reference, 2, "counted.prl"), out=b"31\n", before=reads),
+        Command("get --raw", ["get", "--raw", "abc.prl", "62"], out=b"1", before=reads),
+        Command("get --raw --root", ["get", "--raw", *Get(b"b").words(REFERENCE, 1, "abc.prl")[1:]], out=b"1", before=reads),
         Command("get --root of no pair", Get(b"bb").words(REFERENCE, 1, "abc.prl"), status=1, before=reads),
         Command("get --root of a key above all", Get(b"z").words(REFERENCE, 1, "abc.prl"), status=1, before=reads),
         Command("get --root of the other format", Get(b"b").words(REFERENCE, 1, "counted.prl"), status=4, err=refusal(WRONG_VERSION)[2], before=reads),
@@ -160,16 +148,51 @@ def commands():
         Command("diff to a file", ["diff", "old.prl", "abc.prl", "--out", "out.rec"], status=1, before=both, made="out.rec", whole=records(CHANGES)),
         Command("atomic diff", ["diff", "--atomic", "--sync", "old.prl", "abc.prl", "--out", "out.rec"], status=1, before=both, made="out.rec", whole=records(CHANGES)),
         Command("atomic dump", ["dump", "--atomic", "--sync", "abc.prl", "out.rec"], before=reads, made="out.rec", whole=records(ABC)),
+        *of_many_keys(),
         *text_commands(),
     ]
 
 
+def checked():
+    """`check` of several files, which goes on behind one for which memory was not there."""
+    before = {"abc.prl": chunk_file(ABC, 0), "old.prl": chunk_file(OLD, 0)}
+    told = {name: f"ok {reference_text(tree(pairs, 0, 1).reference)} 0 6  {name}\n".encode() for name, pairs in (("abc.prl", ABC), ("old.prl", OLD))}
+    return [
+        Command("check of two files", ["check", *before], out=b"".join(told.values()), before=before, is_printed_early=True, files=told),
+        Command("check --quiet", ["check", "--quiet", *before], before=before, files=dict.fromkeys(before, b"")),
+    ]
+
+
+def of_many_keys():
+    """Look-ups and proofs of a list of keys or of a range."""
+    before = {"abc.prl": chunk_file(ABC, 0), "counted.prl": chunk_file(ABC, 0, 2), "keys": file_of(KEYS)}
+    by_root, by_keys, ranged = ["--root", ROOT, "--format", "2"], ["--keys", "keys"], words_of(b"b", b"c")
+    found, in_range = lines_found(found_at(ABC, KEYS)), lines(ABC[1:2])
+    of_keys, of_range = key_proof_of(COUNTED_TREE, KEYS, 2), range_proof_of(COUNTED_TREE, b"b", b"c", 2)
+    verify, proofs = ["verify", "--format", "2"], {"keys": file_of(KEYS), "k": of_keys, "r": of_range, "cut": of_keys[:-1]}
+    status, first_found, line = keys_verdict(of_keys[:-1], COUNTED_TREE.reference, KEYS, 2)
+    return [
+        Command("get --keys", ["get", *by_keys, "abc.prl"], out=found, before=before, is_printed_early=True),
+        Command("get --keys --root", ["get", *by_keys, *by_root, "counted.prl"], out=found, before=before, is_printed_early=True),
+        Command("prove --from", ["prove", *ranged, "counted.prl", "p"], before=before, made="p", whole=of_range),
+        Command("prove --from --root", ["prove", *ranged, *by_root, "counted.prl", "p"], before=before, made="p", whole=of_range),
+        Command("prove --keys", ["prove", *by_keys, "counted.prl", "p"], before=before, made="p", whole=of_keys),
+        Command("prove --keys --root", ["prove", *by_keys, *by_root, "counted.prl", "p"], before=before, made="p", whole=of_keys),
+        Command("verify --from", [*verify, *ranged, ROOT, "r"], out=in_range, before=proofs, is_printed_early=True),
+        Command("verify --keys", [*verify, *by_keys, ROOT, "k"], out=found, before=proofs, is_printed_early=True),
+        Command("verify --keys of a proof that is cut", [*verify, *by_keys, ROOT, "cut"], status=status, out=first_found, err=line, before=proofs, is_printed_early=True),
+    ]
+
+
 def surveyed():
-    """The commands over a record file, which is good or not."""
+    """The commands over a record file or over lines, which are good or not."""
     good, flawed = {"in.rec": records(ABC)}, {"in.rec": records(OUT_OF_ORDER)}
+    faulty = b"a\\q\t1\na\t\xff\nb\n"
     return [
         Command("explain", ["explain", "in.rec"], out=b"ok 3\n", before=good),
         Command("explain of a file out of order", ["explain", "--text", "in.rec"], status=1, out=explained(records(OUT_OF_ORDER), escaped), before=flawed),
+        Command("explain --lines", ["explain", "--lines"], lines(CHANGES), out=b"ok %d\n" % len(CHANGES)),
+        Command("explain --lines of two faulty lines", ["explain", "--lines", "--all", "--text"], faulty, status=1, out=explained_lines(faulty, True, False, MOST)[1]),
         Command("stat of a record file", ["stat", "--text", "in.rec"], out=record_lines(ABC, escaped), before=good),
         Command("stat --json of a record file", ["stat", "--json", "in.rec"], out=as_json(record_numbers(ABC, hexed)), before=good),
         Command("stat of a file out of order", ["stat", "in.rec"], status=3, err=b"prolly: file 0: record 1: key out of order\n", before=flawed),
@@ -223,21 +246,34 @@ def scanned(name, root, version, file, key, before):
     return Command(name, Scan(key).words(root, version, file), out=out, before=before, is_printed_early=True)
 
 
-def built(name, files, version=1):
+def built(name, files, version=1, bits=0):
     """A build that is whole where nothing is refused, and else holds a first part of the file of some first pairs, without
     its end record."""
     pairs = overlay(files)
     before = {f"{number}.rec": records(file) for number, file in enumerate(files)}
     return Command(
         name,
-        ["build", "--bits", "0", "--format", str(version), "out.prl", *before],
-        out=report(pairs, 0, version),
+        ["build", "--bits", str(bits), "--format", str(version), "out.prl", *before],
+        out=report(pairs, bits, version),
         before=before,
         made="out.prl",
-        whole=chunk_file(pairs, 0, version),
-        parts=first_parts(pairs, version),
+        whole=chunk_file(pairs, bits, version),
+        parts=first_parts(pairs, version, bits),
         is_made_first=True,
     )
+
+
+def with_chosen_bits():
+    """Trees whose bits are chosen by the records that are read first, of which a line tells."""
+    files, choice = FIVE_IN_THREE[:2], ["--chunk-bytes", "20"]
+    bits, line = chosen([records(ABC)], 20)
+    scratch = Command("scratch --chunk-bytes", ["scratch", *choice, "--out", "out.prl"], records(ABC), out=root_text(ABC, bits), made="out.prl", whole=chunk_file(ABC, bits))
+    scratch.err = scratch.notice = line
+    bits, line = chosen([records(file) for file in files], 20)
+    build = built("build --chunk-bytes", files, bits=bits)
+    build.words[1:3] = choice
+    build.err = build.notice = line
+    return [scratch, build]
 
 
 def kept(name, files):
@@ -275,16 +311,14 @@ def stopped():
     )
 
 
-def first_parts(pairs, version):
+def first_parts(pairs, version, bits=0):
     """The files of the first pairs, each without its end record."""
-    return [chunk_file(pairs[:count], 0, version)[:-END_SIZE] for count in range(len(pairs) + 1)]
+    return [chunk_file(pairs[:count], bits, version)[:-END_SIZE] for count in range(len(pairs) + 1)]
 
 
 def all_runs(program, folder):
     """Refuses each command each of its growths, and gives for each run its name and its differences."""
-    allocator = folder / "refuse.so"
-    source = Path(__file__).parent.parent / "support" / "refuse.c"
-    subprocess.run(["cc", "-O2", "-shared", "-fPIC", "-o", allocator, source], check=True)
+    allocator = compiled("refuse", folder)
     for command in commands():
         for number in range(1, MOST_GROWTHS):
             was_refused, differences = refuse(program, allocator, command, number)
@@ -293,55 +327,3 @@ def all_runs(program, folder):
                 break
         else:
             yield f"{command.name}, its growths", [f"more than {MOST_GROWTHS}"]
-
-
-def refuse(program, allocator, command, number):
-    """Runs a command and refuses it the growth of this number. Gives whether there was one, and the differences."""
-    with tempfile.TemporaryDirectory() as name:
-        folder = Path(name)
-        lay_out(folder, command.before)
-        reader, writer = os.pipe()
-        done = subprocess.run(
-            [program, *command.words],
-            cwd=folder,
-            input=command.input,
-            capture_output=True,
-            env={"LD_PRELOAD": str(allocator), "REFUSE": str(number), "TELL": str(writer)},
-            pass_fds=[writer],
-            check=False,
-        )
-        os.close(writer)
-        with os.fdopen(reader, "rb") as told:
-            was_refused = told.read() != b""
-        answer = (done.returncode, done.stdout, done.stderr)
-        if answer == (command.status, command.out, command.err):
-            return was_refused, file_differences(folder, command.before | whole_of(command))
-        if was_refused and done.returncode == 6 and is_printed_in_part(command, done.stdout) and done.stderr in SCARCE:
-            return True, part_differences(folder, command, done.stderr == NO_THREAD)
-        return was_refused, [f"status {done.returncode}, output {shown(done.stdout)}, error {shown(done.stderr)}"]
-
-
-def is_printed_in_part(command, out):
-    """Whether this is nothing, or the first lines where a command prints as it goes."""
-    firsts = [records(ABC[:count]) for count in range(len(ABC) + 1)]
-    return out == b"" or command.is_printed_early and command.out.startswith(out) and (out.endswith(b"\n") or out in firsts)
-
-
-def whole_of(command):
-    """The file that a command makes, if it makes one."""
-    return {command.made: command.whole} if command.made else {}
-
-
-def part_differences(folder, command, is_unstarted):
-    """How the files differ from those that were there, and from a first part of what was to be made: none of it, where a
-    thread could not be started, and all of it, where there was no memory for the line that tells of it."""
-    made = folder / command.made if command.made else None
-    if made is None or not made.is_file():
-        return file_differences(folder, command.before)
-    left = made.read_bytes()
-    differences = file_differences(folder, command.before | {command.made: left})
-    is_first_part = any(part.startswith(left) for part in command.parts)
-    is_untold = command.is_made_first and left == command.whole
-    if left and (is_unstarted or not (is_first_part or is_untold)):
-        differences.append(f"{command.made} holds {shown(left)}")
-    return differences

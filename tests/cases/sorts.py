@@ -14,7 +14,6 @@ from functools import partial
 from math import gcd
 from pathlib import Path
 
-from cases.growths import Command, refuse
 from cases.random_runs import hex_line as random_hex_line
 from cases.random_runs import key as random_key
 from cases.random_runs import text_line as random_text_line
@@ -24,6 +23,7 @@ from oracle.trees import REMOVED, record, records
 from support.harness import FOLDER, Case
 from support.measured import Measured
 from support.place import Place, compiled, wait_until_there
+from support.refused import Command, refuse
 
 SEED, TABLES = 20_261_128, 300
 """The random tables of the gate."""

@@ -21,8 +21,10 @@ use std::process::Abort;
 use std::test::Fail;
 
 mod differences;
+mod keys;
 mod rooted;
 mod surveys;
+mod told;
 
 /// The line that tells of want of memory.
 const NO_MEMORY: &[u8] = b"prolly: out of memory\n";

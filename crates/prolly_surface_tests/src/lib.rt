@@ -8,6 +8,8 @@ mod entries;
 #[cfg(test)]
 mod files;
 #[cfg(test)]
+mod laws;
+#[cfg(test)]
 mod links;
 #[cfg(test)]
 mod tools;

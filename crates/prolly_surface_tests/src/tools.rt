@@ -13,6 +13,12 @@ use std::sync::Wait;
 use std::test::Fail;
 use std::thread::Threads;
 
+mod applying;
+mod checked;
+mod lines;
+mod requests;
+mod rooted;
+
 fn config() -> Result<Config, ConfigFault> {
     match Config::new(12, 12, 64, 1000) {
         Ok(config) => config.with_batch(16)?.with_version(2),

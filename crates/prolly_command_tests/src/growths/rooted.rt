@@ -5,8 +5,8 @@ use crate::expect::expect_bytes;
 use crate::tools::look_up_answers::file_of_three;
 use prolly_answer::{
     Notation, RecordForm, RootDiff, RootScan, answer_check_by_root, answer_diff_by_root,
-    answer_dump_by_root, answer_found, answer_found_pair, answer_prove_by_root, answer_root,
-    answer_scan_by_root,
+    answer_dump_by_root, answer_found, answer_found_pair, answer_found_raw, answer_prove_by_root,
+    answer_root, answer_scan_by_root,
 };
 use prolly_check::OneThread;
 use prolly_entry::{Pair, Ref, Version};
@@ -16,12 +16,12 @@ use std::alloc::{AllocError, Global};
 use std::test::Fail;
 
 /// The root of the tree of a=1.
-fn root_of_one() -> Ref {
+pub(super) fn root_of_one() -> Ref {
     Ref::of(b"\0\0\x01a\0\0\0\x011")
 }
 
 /// The chunks of the file of a=1.
-fn chunks_of_one(alloc: Global) -> Result<Chunks, AllocError> {
+pub(super) fn chunks_of_one(alloc: Global) -> Result<Chunks, AllocError> {
     Ok(chunks_of(FILE_OF_ONE.to_vec(alloc)?))
 }
 
@@ -51,6 +51,7 @@ fn what_is_found_is_shown_or_wants_memory(rt: HostRuntime) -> Result<(), Fail> {
     let found = value_of_a(alloc, &mut chunks);
     let value = answer_found(alloc, Notation::Hex, &found);
     expect_shown(&rt, value, 0, b"31\n");
+    expect_shown(&rt, answer_found_raw(alloc, &found), 0, b"1");
     Ok(())
 }
 
