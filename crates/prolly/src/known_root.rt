@@ -9,7 +9,7 @@ pub struct KnownRoot {
 }
 
 impl KnownRoot {
-    /// The root that the words give, where they give one. Without one the version says nothing.
+    /// The root that the words give, where they give one. Without one the version is ignored.
     pub fn given(root: Option<Ref>, version: Version) -> Option<KnownRoot> {
         root.map(|root| KnownRoot { version, root })
     }
