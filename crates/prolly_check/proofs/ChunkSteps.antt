@@ -26,7 +26,7 @@ use Rattle.prolly_tree.specs.File.{root_reference}
 use Rattle.prolly_tree.specs.lemmas.Splits.{flat}
 use Rattle.prolly_file.specs.Frame.{framed, has_no_frame, IsSmall}
 use Rattle.prolly_check.specs.ChunksRead.{AreRead, BodyRead, EndsAs, EndsChunks, HasFlaw, IsDecided}
-use Rattle.prolly_check.specs.Digests.{Tells}
+use Rattle.prolly_check.specs.Digests.{IsBroken}
 use Rattle.prolly_check.specs.Entries.{AreWhole, IsWhole}
 use Rattle.prolly_check.specs.FirstFault.{chunk_bytes, difference, ending_for, last_behind}
 use Rattle.prolly_check.specs.FirstFault.{order_fault, rises_behind}
@@ -404,7 +404,7 @@ module _ (chunks taken : List (List ℕ)) (n : ℕ) (within : n < length taken) 
   -- so is that it is no whole chunk
   pub bad_next : (old mid : ChunksRead) → length (flat_map framed so_far) < 2 ^ 64 →
       AreRead so_far mid → IsAlike old.follower mid.follower →
-      Tells old.follower.version old.follower.cut chunk None →
+      IsBroken old.follower.version chunk →
       HasFlaw old chunks taken (BadChunk mid.count)
   bad_next old mid few r alike bad =
       flaw_next old mid (BadChunk mid.count) few r alike (r.count, rw alike.1 bad)

@@ -1,12 +1,13 @@
 -- What is told of chunks, of one after another.
 use Rattle.std.proofs.Common.{◌≡◌, ℕ, zero, suc, ◌+◌, ◌<◌, ◌≤◌, List, [], ◌∷◌, ◌++◌, length, map}
-use Rattle.std.proofs.Common.{get_or, take, drop, None, refl, sym, ap, ◌∙◌, subst, arith}
+use Rattle.std.proofs.Common.{get_or, take, drop, true, false, refl, sym, ap, ◌∙◌, subst, arith}
 use Rattle.std.proofs.Math.Seq.{drop-cons}
+use Rattle.std.specs.List.{AllByRecursion}
 use Rattle.std.proofs.lemmas.List.{length-append, length-take-le, take-append-drop, take_more}
 use Rattle.prolly_entry.specs.Reference.{reference_of}
 use Rattle.prolly_entry.specs.declared.version.Version.{Version}
 use Rattle.prolly_check.specs.Chunks.{AreReferences}
-use Rattle.prolly_check.specs.Digests.{AreDigests, AreDigestsOf, AreNamed, EachHas, IsDigest, Tells}
+use Rattle.prolly_check.specs.Digests.{AreDigests, AreDigestsOf, AreNamed, EachHas, IsBroken, IsDigest, Tells}
 use Rattle.prolly_check.specs.Entries.{AreWhole, IsBad}
 use Rattle.prolly_check.specs.HeldPairs.{pairs_held}
 use Rattle.prolly_check.specs.declared.verdict.digests.ChunkDigest.{ChunkDigest}
@@ -60,15 +61,52 @@ module _ (version : Version) (bits : ℕ) where
   -- the first chunk that has no digest stands there, or no chunk does
   pub stops_there : (chunks : List (List ℕ)) (n : ℕ) (digests : List ChunkDigest) →
       AreDigests version bits (take n chunks) digests → n ≤ length chunks →
-      (n < length chunks → Tells version bits (get_or chunks n []) None) →
+      (n < length chunks → IsBroken version (get_or chunks n [])) →
       AreDigestsOf version bits chunks digests
   stops_there chunks n digests e within bad =
       let many : length digests ≡ n = e.many ∙ length-take-le n chunks within in record {
         few = omega (arith, many);
         front = subst (λ k. AreDigests version bits (take k chunks) digests) (sym many) e;
-        bad = λ h. subst (λ k. Tells version bits (get_or chunks k []) None) (sym many)
+        bad = λ h. subst (λ k. IsBroken version (get_or chunks k [])) (sym many)
             (bad (omega (arith, many)));
       }
+
+  -- a front of whole chunks has its digests
+  front_each : (n : ℕ) (chunks : List (List ℕ)) (told : List ChunkDigest) →
+      length told ≡ length chunks → ((k : ℕ) (other : ChunkDigest) → k < length chunks →
+      Tells version bits (get_or chunks k []) (get_or told k other)) →
+      AllByRecursion (λ digest. digest.is_whole ≡ true) (take n told) →
+      (k : ℕ) (other : ChunkDigest) → k < length (take n chunks) →
+      IsDigest version bits (get_or (take n chunks) k []) (get_or (take n told) k other)
+  front_each zero chunks told many each whole k other h = absurd (omega (arith, h))
+  front_each (suc n) [] told many each whole k other h = absurd (omega (arith, h))
+  front_each (suc n) (c ∷ chunks) [] many each whole k other h = absurd (omega (arith, many))
+  front_each (suc n) (c ∷ chunks) (t ∷ told) many each whole zero other h =
+      (each 0 t (omega arith)).whole whole.0
+  front_each (suc n) (c ∷ chunks) (t ∷ told) many each whole (suc k) other h =
+      front_each n chunks told (omega (arith, many)) (λ i o less. each (suc i) o (omega arith))
+      whole.1 k other (omega (arith, h))
+
+  broken_there : (chunks : List (List ℕ)) (told : List ChunkDigest) (n : ℕ) →
+      EachHas (Tells version bits) chunks told →
+      ((other : ChunkDigest) → n < length told → (get_or told n other).is_whole ≡ false) →
+      n < length chunks → IsBroken version (get_or chunks n [])
+  broken_there chunks [] n e bad h = absurd (let many = e.many in omega (arith, h))
+  broken_there chunks (t ∷ told) n e bad h =
+      (e.each n t h).broken (bad t (omega (arith, e.many)))
+
+  -- what is told of chunks up to the first that is broken are their digests
+  pub front_told : (chunks : List (List ℕ)) (told : List ChunkDigest) (n : ℕ) →
+      EachHas (Tells version bits) chunks told → n ≤ length told →
+      AllByRecursion (λ digest. digest.is_whole ≡ true) (take n told) →
+      ((other : ChunkDigest) → n < length told → (get_or told n other).is_whole ≡ false) →
+      AreDigestsOf version bits chunks (take n told)
+  front_told chunks told n e few whole bad =
+      stops_there chunks n (take n told) (record {
+        many = length-take-le n told few ∙
+            sym (length-take-le n chunks (omega (arith, e.many)));
+        each = front_each n chunks told e.many e.each whole;
+      }) (omega (arith, e.many)) (broken_there chunks told n e bad)
 
   -- chunks that have digests are whole
   pub digests_whole : (chunks : List (List ℕ)) (digests : List ChunkDigest) →

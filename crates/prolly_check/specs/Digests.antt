@@ -1,7 +1,7 @@
 -- What is told of chunks by who has hashed them.
 use Rattle.std.specs.List.{list_any}
 use Rattle.std.specs.Prelude.{◌≡◌, ℕ, ◌<◌, ◌≤◌, List, [], get_or, length, take, drop}
-use Rattle.std.specs.Prelude.{Option, Some, None}
+use Rattle.std.specs.Prelude.{true, false, None}
 use Rattle.prolly_entry.specs.Cut.{sha512_cut}
 use Rattle.prolly_entry.specs.Pair.{Pair}
 use Rattle.prolly_entry.specs.Reference.{reference_of}
@@ -47,10 +47,14 @@ pub record IsDigest (version : Version) (bits : ℕ) (chunk : List ℕ) (digest 
     pub reference : digest.reference.0 ≡ reference_of chunk
     pub pairs : IsPairsDigest bits chunk digest.pairs
 
--- What is told of a chunk: its digest, or that it has none.
-abbrev pub Tells : Version → ℕ → List ℕ → Option ChunkDigest → Type 0
-Tells version bits chunk None = (pairs : List Pair) → Holds version chunk pairs → ⊥
-Tells version bits chunk (Some digest) = IsDigest version bits chunk digest
+-- The chunk is not a level and whole lawful entries.
+abbrev pub IsBroken : Version → List ℕ → Type 0
+IsBroken version chunk = (pairs : List Pair) → Holds version chunk pairs → ⊥
+
+-- What is told of a chunk: its digest, or that it is broken.
+pub record Tells (version : Version) (bits : ℕ) (chunk : List ℕ) (told : ChunkDigest) : Type 0 where
+  pub whole : told.is_whole ≡ true → IsDigest version bits chunk told
+  pub broken : told.is_whole ≡ false → IsBroken version chunk
 
 -- Each chunk has such a thing, in the order of the chunks.
 pub record EachHas {A : Type 0} (Has : List ℕ → A → Type 0) (chunks : List (List ℕ)) (xs : List A)
@@ -68,10 +72,9 @@ abbrev pub AreNamed : List (List ℕ) → List ChunkDigest → Type 0
 AreNamed chunks digests = EachHas (λ chunk digest. digest.reference.0 ≡ reference_of chunk) chunks
     digests
 
--- The digests of the chunks before the first one that has none, or of all where each one has one.
+-- The digests of the chunks before the first one that is broken, or of all where none is.
 pub record AreDigestsOf (version : Version) (bits : ℕ) (chunks : List (List ℕ))
     (digests : List ChunkDigest) : Type 0 where
   pub few : length digests ≤ length chunks
   pub front : AreDigests version bits (take (length digests) chunks) digests
-  pub bad : length digests < length chunks → Tells version bits
-      (get_or chunks (length digests) []) None
+  pub bad : length digests < length chunks → IsBroken version (get_or chunks (length digests) [])

@@ -145,7 +145,7 @@ impl Index {
 fn numbered(alloc: Global, references: &[Ref]) -> Result<Vec<(Ref, usize)>, AllocError>
     ensures { IfOk result (λ entries. AreNumbered references.now entries.items) }
 {
-    let mut entries = Vec::new(alloc);
+    let mut entries = Vec::with_capacity(alloc, references.len())?;
     for (number, reference) in references.iter().enumerate() {
         entries.push((*reference, number))?;
     }

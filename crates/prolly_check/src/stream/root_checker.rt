@@ -33,7 +33,7 @@ pub struct RootReport {
 /// no fault here, since the root is given.
 ///
 /// Takes time linear in the bytes, and hashes what [`check`](crate::check) hashes. Holds a window
-/// of 16 MiB, or twice a chunk that is larger, some 120 bytes for each chunk in it, and one open chunk
+/// of 16 MiB, or twice a chunk that is larger, some 80 bytes for each chunk in it, and one open chunk
 /// of each level, whatever the file's size. For a chunk longer than
 /// [`CHUNK_LIMIT`](crate::CHUNK_LIMIT) no memory is taken.
 pub fn check_by_root<H: ChunkHasher, S: Source>(

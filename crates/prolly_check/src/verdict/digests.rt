@@ -1,8 +1,8 @@
 //! What is told of the chunks of a file by who has hashed them, one thread or many.
-ghost use Rattle.std.specs.Prelude.{◌≡◌, ◌<◌, ⊤, [], ℕ, List, get_or, length, map, IfOk};
+ghost use Rattle.std.specs.Prelude.{◌≡◌, ◌<◌, ◌≤◌, ⊤, [], true, false, get_or, length, map, take};
+ghost use Rattle.std.specs.Prelude.{IfOk};
 ghost use Rattle.std.specs.List.{AllByRecursion};
 ghost use Rattle.std.specs.Thread.{IsSync};
-ghost use Rattle.prolly_entry.specs.declared.version.Version.{Version as VersionValue};
 ghost use Rattle.prolly_check.specs.Digests.{AreDigestsOf, EachHas, Tells};
 ghost use Rattle.prolly_check.specs.Frames.{IsWithin, chunks_in};
 
@@ -18,9 +18,12 @@ use std::thread::{Threads, for_each_mut};
 /// start a thread.
 const BYTES_PER_THREAD: usize = 65_536;
 
-/// What is told of a chunk that is a level and whole lawful entries of that level's kind.
+/// What is told of a chunk.
 #[derive(Clone, Copy)]
 pub struct ChunkDigest {
+    /// Whether the chunk is a level and whole lawful entries of that level's kind. If it is not, the
+    /// rest tells nothing.
+    pub is_whole: bool,
     /// The reference of the chunk.
     pub reference: Ref,
     /// What its pairs tell.
@@ -28,14 +31,30 @@ pub struct ChunkDigest {
 }
 
 impl ChunkDigest {
-    /// The digest of a chunk; none where it is not whole. Takes a hash of the chunk and, of a leaf,
-    /// one of each pair up to the first boundary.
-    fn of(cut: Sha512Cut, version: Version, chunk: &[u8]) -> Option<ChunkDigest>
+    /// Of a chunk. Takes a hash of the chunk, if it is whole, and of a leaf one of each pair up to
+    /// the first boundary.
+    fn of(cut: Sha512Cut, version: Version, chunk: &[u8]) -> ChunkDigest
         ensures { Tells version cut chunk.now result }
     {
-        let pairs = PairsDigest::of(cut, version, chunk)?;
-        let reference = Ref::of(chunk);
-        Some(ChunkDigest { reference, pairs })
+        let Some(pairs) = PairsDigest::of(cut, version, chunk) else {
+            return ChunkDigest::of_none();
+        };
+        ChunkDigest {
+            is_whole: true,
+            reference: Ref::of(chunk),
+            pairs,
+        }
+    }
+
+    /// Of a chunk that is not whole, or of which nothing is known yet.
+    fn of_none() -> ChunkDigest
+        ensures { result.is_whole ≡ false }
+    {
+        ChunkDigest {
+            is_whole: false,
+            reference: Ref([0; 20]),
+            pairs: PairsDigest::of_none(0),
+        }
     }
 }
 
@@ -107,8 +126,17 @@ impl<'a, R: Threads + Sync> ChunkHasher for ManyThreads<'a, R> {
         bytes: &[u8],
         spans: &[Range<usize>],
     ) -> Result<Vec<ChunkDigest>, AllocError> {
-        let told = told_in_threads(self.rt, self.threads, alloc, cut, version, bytes, spans)?;
-        front_of(alloc, &told)
+        let mut digests = told_in_threads(
+            self.rt,
+            self.threads,
+            alloc,
+            cut,
+            version,
+            bytes,
+            spans,
+        )?;
+        digests.truncate(whole_count(&digests));
+        Ok(digests)
     }
 }
 
@@ -126,16 +154,16 @@ fn digests_of(
 {
     let mut digests = Vec::with_capacity(alloc, spans.len())?;
     for number in 0..spans.len() {
-        let Some(digest) = digest_at(cut, version, bytes, spans, number) else {
+        let digest = digest_at(cut, version, bytes, spans, number);
+        if !digest.is_whole {
             return Ok(digests);
-        };
+        }
         digests.push(digest)?;
     }
     Ok(digests)
 }
 
-/// The digest of each chunk, or that it has none. The memory for all is taken first, so no thread
-/// takes any.
+/// What is told of each chunk. The memory for all is taken first, so no thread takes any.
 fn told_in_threads<R: Threads + Sync>(
     rt: &R,
     threads: NonZeroUsize,
@@ -144,14 +172,14 @@ fn told_in_threads<R: Threads + Sync>(
     version: Version,
     bytes: &[u8],
     spans: &[Range<usize>],
-) -> Result<Vec<Option<ChunkDigest>>, AllocError>
+) -> Result<Vec<ChunkDigest>, AllocError>
     requires { AllByRecursion (IsWithin bytes.now) spans.now }
     ensures { IfOk result (λ told.
         EachHas (Tells version cut) (chunks_in bytes.now spans.now) told.items) }
 {
     let mut told = Vec::new(alloc);
-    told.resize(spans.len(), None)?;
-    let tell = |number: usize, told: &mut Option<ChunkDigest>|
+    told.resize(spans.len(), ChunkDigest::of_none())?;
+    let tell = |number: usize, told: &mut ChunkDigest|
         requires { (number < length spans.now) × AllByRecursion (IsWithin bytes.now) spans.now }
         ensures { Tells version cut
             (get_or (chunks_in bytes.entry.now spans.entry.now) number []) told.exit.now }
@@ -165,14 +193,14 @@ fn told_in_threads<R: Threads + Sync>(
     Ok(told)
 }
 
-/// The digest of the chunk of this number; none where it is not whole.
+/// What is told of the chunk of this number.
 fn digest_at(
     cut: Sha512Cut,
     version: Version,
     bytes: &[u8],
     spans: &[Range<usize>],
     number: usize,
-) -> Option<ChunkDigest>
+) -> ChunkDigest
     requires number { number < length spans.now }
     requires within { AllByRecursion (IsWithin bytes.now) spans.now }
     ensures { Tells version cut (get_or (chunks_in bytes.now spans.now) number []) result }
@@ -187,20 +215,19 @@ fn thread_count(most: NonZeroUsize, bytes: usize) -> usize
     most.get().min(bytes / BYTES_PER_THREAD).max(1)
 }
 
-/// The digests up to the first chunk that has none.
-fn front_of(alloc: Global, told: &[Option<ChunkDigest>]) -> Result<Vec<ChunkDigest>, AllocError>
-    ensures { (version : VersionValue) (bits : ℕ) (chunks : List (List ℕ)) →
-        EachHas (Tells version bits) chunks told.now → IfOk result (λ digests.
-        AreDigestsOf version bits chunks digests.items) }
+/// How many chunks there are before the first one that is not whole.
+fn whole_count(told: &[ChunkDigest]) -> usize
+    ensures few { result ≤ length told.now }
+    ensures whole { AllByRecursion (λ digest. digest.is_whole ≡ true) (take result told.now) }
+    ensures bad { (other : ChunkDigest) → result < length told.now →
+        (get_or told.now result other).is_whole ≡ false }
 {
-    let mut digests = Vec::with_capacity(alloc, told.len())?;
-    for digest in told {
-        let Some(digest) = digest else {
-            return Ok(digests);
-        };
-        digests.push(*digest)?;
+    for number in 0..told.len() {
+        if !told[number].is_whole {
+            return number;
+        }
     }
-    Ok(digests)
+    told.len()
 }
 
 /// The references of chunks, of which these are the digests.

@@ -76,7 +76,7 @@ impl PairsDigest {
     }
 
     /// Of no pairs, where the entries end there.
-    fn of_none(end: usize) -> PairsDigest
+    pub(crate) fn of_none(end: usize) -> PairsDigest
         ensures pairs { (bits : ℕ) → AreCounted bits [] result }
         ensures end { result.last_pair ≡ end }
     {

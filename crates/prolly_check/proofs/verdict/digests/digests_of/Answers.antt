@@ -1,4 +1,4 @@
-use Rattle.std.proofs.Common.{arith, refl}
+use Rattle.std.proofs.Common.{arith, refl, rules}
 use Rattle.std.proofs.lemmas.List.{length-map}
 use Rattle.prolly_check.specs.Digests.{IsDigest}
 use Rattle.prolly_check.specs.Frames.{chunk_in, chunks_in}
@@ -12,16 +12,16 @@ loop-number-init c = rw c.in_ok-digests.ensures.items (has_none (IsDigest c.args
 pub loop-number-preserved : goal.loop-number-preserved
 loop-number-preserved c = rw c.in_ok-push.ensures.items
     (has_more (IsDigest c.args.version c.args.cut) (chunks_in c.args.bytes.now c.args.spans.now)
-    c.loop-number.number c.loop-number.digests.items c.in-Some.digest c.loop-number.invariant
+    c.loop-number.number c.loop-number.digests.items c.digest_at-digest.result c.loop-number.invariant
     (omega (arith, length-map c.args.spans.now (chunk_in c.args.bytes.now)))
-    (rw c.in-Some.is at c.digest_at.ensures))
+    (c.digest_at-digest.ensures.whole (search rules)))
 
-pub returns-in_default : goal.returns-in_default
-returns-in_default c =
+pub returns-then-not-digest : goal.returns-then-not-digest
+returns-then-not-digest c =
     let many = length-map c.args.spans.now (chunk_in c.args.bytes.now) in
     stops_there c.args.version c.args.cut (chunks_in c.args.bytes.now c.args.spans.now)
     c.loop-number.number c.loop-number.digests.items c.loop-number.invariant (omega (arith, many))
-    (λ less. rw c.in_default.is at c.digest_at.ensures)
+    (λ less. c.digest_at-digest.ensures.broken (search rules))
 
 pub returns : goal.returns
 returns c =

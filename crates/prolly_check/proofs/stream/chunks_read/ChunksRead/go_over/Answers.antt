@@ -1,8 +1,8 @@
-use Rattle.std.proofs.Common.{◌≡◌, ◌∙◌, None, [], arith, get_or, inr, length, subst, sym}
+use Rattle.std.proofs.Common.{◌≡◌, ◌∙◌, [], arith, get_or, inr, length, subst, sym}
 use Rattle.std.proofs.Math.Logic.{⊎_map}
 use Rattle.std.proofs.lemmas.List.{length-map}
 use Rattle.std.proofs.lemmas.Result.{err_from_is_err_and}
-use Rattle.prolly_check.specs.Digests.{Tells}
+use Rattle.prolly_check.specs.Digests.{IsBroken}
 use Rattle.prolly_check.specs.Frames.{chunk_in, chunks_in}
 use Rattle.prolly_check.proofs.ChunkSteps.{bad_next, chunks_front, few_part, flaw_within}
 use Rattle.prolly_check.proofs.stream.chunks_read.ChunksRead.go_over.Goals as goal
@@ -43,5 +43,5 @@ returns-then-count-spans-clause-over g c = λ chunks r few.
     c.take_hashed.new.self shorter
     (rw front at (c.in_ok-take_hashed.ensures.over chunks r (rw front shorter)))
     c.in_ok-take_hashed.ensures.alike
-    (subst (λ k. Tells follower.version follower.cut (get_or taken k []) None) (sym count)
+    (subst (λ k. IsBroken follower.version (get_or taken k [])) (sym count)
     (c.in_ok-digests.ensures.bad (omega (arith, count, many, c.if-count-spans.true)))))
