@@ -1,7 +1,7 @@
 -- The numbers of places, and places with one key.
 use Rattle.std.proofs.Common.{◌≡◌, ℕ, zero, suc, ◌+◌, ◌<◌, ◌≤◌, Bool, true, false, cond, List, []}
 use Rattle.std.proofs.Common.{◌∷◌, ◌++◌, filter, length, get_or, take, drop, refl, sym, ap, ◌∙◌}
-use Rattle.std.proofs.Common.{subst, arith, All, IsPermutation, Err, Result}
+use Rattle.std.proofs.Common.{subst, arith, All, IsPermutation}
 use Rattle.std.proofs.lemmas.List.{get_or-map, length-map}
 use Rattle.std.proofs.lemmas.List.Elements.{filter-append}
 use Rattle.std.proofs.lemmas.List.Sorted.{All-permutation}
@@ -10,8 +10,6 @@ use Rattle.std.specs.Ordering.{is_eq}
 use Rattle.prolly_entry.specs.Keys.{key_order}
 use Rattle.prolly_entry.specs.Record.{Record}
 use Rattle.prolly_entry.specs.lemmas.Orders.{order_self}
-use Rattle.prolly_sort.specs.declared.fault.SortFault.{SortFault}
-use Rattle.prolly_sort.specs.declared.fault.SortFault.TheVariants.{Doubled}
 use Rattle.prolly_sort.specs.declared.place.Place.{Place}
 use Rattle.prolly_sort.specs.Place.{is_below, key_in, record_in, records_in}
 use Rattle.prolly_sort.specs.Run.{AreDoubled, AreNeighbours, NumberedFrom}
@@ -136,17 +134,3 @@ doubled_by bytes xs ys p q numbered same stable two =
       within = omega (arith, next.within, length-map xs (record_in bytes));
       same = λ d. ap (λ r. r.key) (one.there d) ∙ two.same ∙ sym (ap (λ r. r.key) (next.there d));
     }
-
-module _ {X : Type 0} (a b first second : ℕ)
-    (told : ◌≡◌ {A = Result X SortFault} (Err (Doubled a b)) (Err (Doubled first second))) where
-  firsts : a ≡ first
-  firsts = cc
-
-  seconds : b ≡ second
-  seconds = cc
-
-  -- The fault that is told is that of these two numbers.
-  pub doubled_told : (records : List Record) → AreDoubled records a b →
-      AreDoubled records first second
-  doubled_told records h = subst (AreDoubled records first) seconds
-      (subst (λ k. AreDoubled records k b) firsts h)

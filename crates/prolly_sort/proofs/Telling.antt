@@ -15,8 +15,7 @@ use Rattle.prolly_tree.specs.Chunk.{IsIn}
 use Rattle.prolly_merge.specs.Each.{Each}
 use Rattle.prolly_merge.specs.Unique.{IsDoubled, StandInOrder, all_in}
 use Rattle.prolly_merge.specs.declared.unique.Doubled.{Doubled as DoubledRecords}
-use Rattle.prolly_sort.specs.declared.fault.SortFault.{SortFault}
-use Rattle.prolly_sort.specs.declared.fault.SortFault.TheVariants.{Memory as SortMemory, Doubled as SortDoubled}
+use Rattle.prolly_sort.specs.declared.fault.DoubledKey.{DoubledKey}
 use Rattle.prolly_sort.specs.declared.fault.SorterFault.{SorterFault}
 use Rattle.prolly_sort.specs.declared.fault.SorterFault.TheVariants.{Store, Doubled}
 use Rattle.prolly_sort.specs.declared.key_rule.KeyRule.{KeyRule}
@@ -160,16 +159,13 @@ told_by_number n records first second h few two = record {
 }
 
 -- So a run tells two of its records.
-pub told_by_run : {X : Type 0} (rule : KeyRule) (records : List Record) (before : ℕ)
-    (fault : SortFault) → rule ≡ Unique →
-    ((first second : ℕ) → ◌≡◌ {A = Result X SortFault} (Err fault) (Err (SortDoubled first second)) →
-    AreDoubled records first second) →
+pub told_by_run : (rule : KeyRule) (records : List Record) (before : ℕ) (two : DoubledKey) →
+    rule ≡ Unique → AreDoubled records two.first two.second →
     IsToldOf rule (λ a b. CountUpFrom before records →
-    before + length records ≤ 0xFFFF_FFFF_FFFF_FFFF → AreTold records a b) (fault_behind before fault)
-told_by_run rule records before SortMemory e h = tt
-told_by_run rule records before (SortDoubled first second) e h =
-    two_told rule _ (number_behind before first) (number_behind before second) e
-    (λ counts few. told_by_number before records first second counts few (h first second refl))
+    before + length records ≤ 0xFFFF_FFFF_FFFF_FFFF → AreTold records a b) (fault_behind before two)
+told_by_run rule records before two e doubled =
+    two_told rule _ (number_behind before two.first) (number_behind before two.second) e
+    (λ counts few. told_by_number before records two.first two.second counts few doubled)
 
 -- ---- the numbers of records
 

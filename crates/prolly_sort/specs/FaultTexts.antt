@@ -4,8 +4,6 @@ use Rattle.std.specs.Prelude.{ℕ, List, ◌++◌, codes}
 use Rattle.std.specs.Fmt.{decimal}
 use Rattle.prolly_sort.specs.declared.fault.PushFault.{PushFault}
 use Rattle.prolly_sort.specs.declared.fault.PushFault.TheVariants as pushes
-use Rattle.prolly_sort.specs.declared.fault.SortFault.{SortFault}
-use Rattle.prolly_sort.specs.declared.fault.SortFault.TheVariants as sorts
 use Rattle.prolly_sort.specs.declared.fault.SorterFault.{SorterFault}
 use Rattle.prolly_sort.specs.declared.fault.SorterFault.TheVariants as sorters
 use Rattle.prolly_sort.specs.declared.store.StoreFault.{StoreFault}
@@ -16,11 +14,10 @@ abbrev pub push_text : PushFault → List ℕ
 push_text pushes.Full = codes "run is full"
 push_text pushes.Memory = codes "out of memory"
 
--- What is said of records that are not put in order.
-abbrev pub sort_text : SortFault → List ℕ
-sort_text sorts.Memory = codes "out of memory"
-sort_text (sorts.Doubled first second) = codes "records " ++ decimal first ++ codes " and " ++
-    decimal second ++ codes " have one key"
+-- What is said of two records that have one key.
+abbrev pub doubled_text : ℕ → ℕ → List ℕ
+doubled_text first second = codes "records " ++ decimal first ++ codes " and " ++ decimal second ++
+    codes " have one key"
 
 -- What is said of runs that can't wait or be merged.
 abbrev pub store_text : StoreFault → List ℕ
@@ -33,5 +30,4 @@ store_text stores.TooMany = codes "too many records"
 -- What is said of a sorter that is not done.
 abbrev pub sorter_text : SorterFault → List ℕ
 sorter_text (sorters.Store fault) = store_text fault
-sorter_text (sorters.Doubled first second) = codes "records " ++ decimal first ++
-    codes " and " ++ decimal second ++ codes " have one key"
+sorter_text (sorters.Doubled first second) = doubled_text first second

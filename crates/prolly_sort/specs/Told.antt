@@ -5,11 +5,9 @@ use Rattle.std.specs.Int.{w64, to_be_bytes, from_be_bytes}
 use Rattle.prolly_entry.specs.Record.{Record}
 use Rattle.prolly_merge.specs.Unique.{records_with}
 use Rattle.prolly_merge.specs.declared.unique.Doubled.{Doubled as DoubledRecords}
-use Rattle.prolly_sort.specs.declared.fault.SortFault.{SortFault}
-use Rattle.prolly_sort.specs.declared.fault.SortFault.TheVariants.{Memory as SortMemory, Doubled as SortDoubled}
+use Rattle.prolly_sort.specs.declared.fault.DoubledKey.{DoubledKey}
 use Rattle.prolly_sort.specs.declared.fault.SorterFault.{SorterFault}
 use Rattle.prolly_sort.specs.declared.fault.SorterFault.TheVariants.{Store, Doubled}
-use Rattle.prolly_sort.specs.declared.store.StoreFault.TheVariants.{Memory}
 use Rattle.prolly_sort.specs.declared.key_rule.KeyRule.{KeyRule}
 use Rattle.prolly_sort.specs.declared.key_rule.KeyRule.TheVariants.{LastCounts, Unique}
 use Rattle.prolly_sort.specs.Run.{AreDoubled}
@@ -59,10 +57,8 @@ pub record AreTold (records : List Record) (a b : ℕ) : Type 0 where
   pub second_is : (d : Record) → number_in (slice_index_or records second d).value ≡ b
 
 -- The fault of a run as it is told: the records of the run carry the numbers from this one on.
-abbrev pub fault_behind : ℕ → SortFault → SorterFault
-fault_behind before SortMemory = Store Memory
-fault_behind before (SortDoubled first second) =
-    Doubled (number_behind before first) (number_behind before second)
+abbrev pub fault_behind : ℕ → DoubledKey → SorterFault
+fault_behind before two = Doubled (number_behind before two.first) (number_behind before two.second)
 
 -- The numbers that two records with one key carry.
 abbrev pub doubled_fault : DoubledRecords → SorterFault

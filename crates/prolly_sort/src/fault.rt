@@ -42,43 +42,28 @@ impl From<AllocError> for PushFault {
     }
 }
 
-/// Why records are not put in order where each key is to stand once.
+/// Two records of a run that have one key, where each key is to stand once.
 #[derive(Clone, Copy, Debug, PartialEq, Eq)]
-pub enum SortFault {
-    /// Memory was refused.
-    Memory,
-    /// The records of these two numbers have one key. The first that came has number 0.
-    Doubled { first: u32, second: u32 },
+pub struct DoubledKey {
+    /// The number of the earlier record. The first that came has number 0.
+    pub first: u32,
+    /// The number of the later one.
+    pub second: u32,
 }
 
-impl Display for SortFault {
+impl Display for DoubledKey {
     ghost use Rattle.std.specs.Prelude.{Some};
-    ghost use Rattle.prolly_sort.specs.FaultTexts.{sort_text};
+    ghost use Rattle.prolly_sort.specs.FaultTexts.{doubled_text};
 
-    ghost output = { λ fault. Some (sort_text fault) };
+    ghost output = { λ fault. Some (doubled_text fault.first fault.second) };
 
     fn fmt<W: fmt::Write>(&self, f: &mut Formatter<W>) -> fmt::Result {
-        match self {
-            SortFault::Memory => write!(f, "out of memory"),
-            SortFault::Doubled { first, second } => {
-                write!(f, "records {first} and {second} have one key")
-            }
-        }
+        let DoubledKey { first, second } = self;
+        write!(f, "records {first} and {second} have one key")
     }
 }
 
-impl Error for SortFault {}
-
-impl From<AllocError> for SortFault {
-    ghost use Rattle.std.specs.Prelude.{◌≡◌};
-    ghost use Rattle.prolly_sort.specs.declared.fault.SortFault.TheVariants.{Memory};
-
-    ghost from_gives = { λ _ fault. fault ≡ Memory };
-
-    fn from(_: AllocError) -> Self {
-        SortFault::Memory
-    }
-}
+impl Error for DoubledKey {}
 
 /// Why a sorter does not take a record, or does not put those that came in order.
 #[derive(Clone, Copy, Debug, PartialEq, Eq)]

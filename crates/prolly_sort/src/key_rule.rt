@@ -5,10 +5,9 @@ ghost use Rattle.prolly_entry.specs.Record.{keys_of};
 ghost use Rattle.prolly_sort.specs.Overlaid.{overlaid};
 ghost use Rattle.prolly_sort.specs.Told.{AreTold, CountUpFrom, IsToldOf, Obeys, fault_behind};
 
-use crate::fault::{SortFault, SorterFault};
+use crate::fault::{DoubledKey, SorterFault};
 use crate::run::Run;
 use crate::sorted_run::SortedRun;
-use crate::store::StoreFault;
 use std::alloc::Global;
 
 /// What comes of a key that comes twice.
@@ -40,14 +39,11 @@ impl KeyRule {
 }
 
 /// The fault of a run, whose first record has this number.
-fn fault_behind(fault: SortFault, before: u64) -> SorterFault
+fn fault_behind(fault: DoubledKey, before: u64) -> SorterFault
     ensures { result ≡ fault_behind before fault }
 {
-    match fault {
-        SortFault::Memory => SorterFault::Store(StoreFault::Memory),
-        SortFault::Doubled { first, second } => SorterFault::Doubled {
-            first: before.saturating_add(u64::from(first)),
-            second: before.saturating_add(u64::from(second)),
-        },
+    SorterFault::Doubled {
+        first: before.saturating_add(u64::from(fault.first)),
+        second: before.saturating_add(u64::from(fault.second)),
     }
 }

@@ -25,7 +25,7 @@ mod sorter;
 mod store;
 mod stored_runs;
 
-pub use fault::{PushFault, SortFault, SorterFault};
+pub use fault::{DoubledKey, PushFault, SorterFault};
 pub use run::Run;
 pub use sorted_file::SortedFile;
 pub use sorted_run::SortedRun;

@@ -5,7 +5,7 @@ ghost use Rattle.prolly_entry.specs.Record.{IsRecord, Record as RecordValue, key
 ghost use Rattle.prolly_entry.specs.Spelling.{record_spelling};
 ghost use Rattle.prolly_sort.specs.Place.{place_of, records_in};
 
-use crate::fault::{PushFault, SortFault};
+use crate::fault::{DoubledKey, PushFault};
 use crate::order::{first_doubled, last_of_each, sort_places};
 use crate::place::{LENGTHS_SIZE, Place};
 use crate::sorted_run::SortedRun;
@@ -44,7 +44,7 @@ impl Model for Run {
 }
 
 impl Run {
-    ghost use Rattle.std.specs.Prelude.{ℕ, Err, IfOk, OnErr, OnOk};
+    ghost use Rattle.std.specs.Prelude.{ℕ, Err, IfErr, IfOk, OnErr, OnOk};
     ghost use Rattle.prolly_sort.specs.Overlaid.{overlaid};
     ghost use Rattle.prolly_sort.specs.Run.{AreDoubled, cost_of, new_run, with_more};
 
@@ -128,19 +128,17 @@ impl Run {
         })
     }
 
-    /// Puts the records in the order of their keys, where no key came twice. Else the fault names
-    /// two records that have one key, the earlier one first. Which of several such keys it is, is
-    /// not promised.
+    /// Puts the records in the order of their keys, where no key came twice. Else it answers two
+    /// records that have one key. Which of several such keys it is, is not promised.
     ///
     /// It takes the time that [`Run::sort`] takes, and no memory.
-    pub fn sort_unique(self) -> Result<SortedRun, SortFault>
+    pub fn sort_unique(self) -> Result<SortedRun, DoubledKey>
         ensures records { IfOk result (λ sorted. sorted ≡ overlaid self.records) }
         ensures rising { IfOk result (λ sorted. Rising (keys_of sorted)) }
         ensures all { IfOk result (λ sorted. length sorted ≡ length self.records) }
         ensures apart { IfOk result (λ _. (first second : ℕ) →
             AreDoubled self.records first second → ⊥) }
-        ensures doubled { (first second : ℕ) → result ≡ Err (SortFault.Doubled first second) →
-            AreDoubled self.records first second }
+        ensures doubled { IfErr result (λ two. AreDoubled self.records two.first two.second) }
     {
         let Run {
             bytes,
@@ -154,7 +152,7 @@ impl Run {
         sort_places(&bytes, &mut places);
         match first_doubled(&bytes, &places) {
             None => Ok(SortedRun { bytes, places }),
-            Some((one, next)) => Err(SortFault::Doubled {
+            Some((one, next)) => Err(DoubledKey {
                 first: one.number,
                 second: next.number,
             }),

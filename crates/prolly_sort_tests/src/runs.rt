@@ -2,7 +2,7 @@
 use crate::expect::{expect_bytes, expect_eq};
 use prolly_entry::{Pair, Record};
 use prolly_file::{ScriptSink, WriteFault};
-use prolly_sort::{PushFault, Run, SortFault, SortedRun};
+use prolly_sort::{DoubledKey, PushFault, Run, SortedRun};
 use std::alloc::Global;
 use std::process::Abort;
 use std::test::Fail;
@@ -103,7 +103,7 @@ fn expect_doubled(
     match run_of(alloc, records)?.sort_unique() {
         Ok(_) => Err(Fail::from("no key came twice")),
         Err(fault) => {
-            expect_eq(rt, &fault, &SortFault::Doubled { first, second });
+            expect_eq(rt, &fault, &DoubledKey { first, second });
             Ok(())
         }
     }
@@ -183,7 +183,7 @@ fn a_front_that_came_twice_is_told(rt: HostRuntime) -> Result<(), Fail> {
             expect_eq(
                 &rt,
                 &fault,
-                &SortFault::Doubled {
+                &DoubledKey {
                     first: 4,
                     second: 5,
                 },
@@ -237,10 +237,9 @@ fn faults_are_shown(rt: HostRuntime) -> Result<(), Fail> {
     let shown = [
         format!(in rt.alloc(); "{}", PushFault::Full)?,
         format!(in rt.alloc(); "{}", PushFault::Memory)?,
-        format!(in rt.alloc(); "{}", SortFault::Memory)?,
         format!(in rt.alloc();
             "{}",
-            SortFault::Doubled {
+            DoubledKey {
                 first: 3,
                 second: 15
             }
@@ -248,7 +247,6 @@ fn faults_are_shown(rt: HostRuntime) -> Result<(), Fail> {
     ];
     let texts = [
         "run is full",
-        "out of memory",
         "out of memory",
         "records 3 and 15 have one key",
     ];

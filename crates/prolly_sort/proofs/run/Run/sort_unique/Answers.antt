@@ -5,7 +5,6 @@ use Rattle.prolly_sort.specs.Place.{record_in, records_in}
 use Rattle.prolly_sort.specs.Run.{AreDoubled, Held}
 use Rattle.prolly_sort.proofs.Apart.{rising_apart, sorted_apart}
 use Rattle.prolly_sort.proofs.Coming.{rising_stay}
-use Rattle.prolly_sort.proofs.Numbering.{doubled_told}
 use Rattle.prolly_sort.proofs.Same.{doubled_same, same_long, still_stand}
 use Rattle.prolly_sort.proofs.Sorting.{sorted_come}
 use Rattle.prolly_sort.proofs.run.Run.sort_unique.Goals as goal
@@ -40,15 +39,14 @@ returns-in-None-clause-all c =
     sym (length-map xs (record_in bytes)) ∙ ap (λ (h : Held). length h.records) c.self.view_is
 
 pub returns-in-Some-clause-doubled : goal.returns-in-Some-clause-doubled
-returns-in-Some-clause-doubled c = λ first second told.
+returns-in-Some-clause-doubled c =
     let one = c.in-Some.one in
     let next = c.in-Some.next in
-    doubled_told one.number next.number first second told c.args.self.records
-    (subst (λ (h : Held). AreDoubled h.records one.number next.number) c.self.view_is
+    subst (λ (h : Held). AreDoubled h.records one.number next.number) c.self.view_is
     (doubled_same c.self.inside.bytes.items c.self.inside.places.items
     c.sort_places.new.places.items c.sort_places.ensures.same one next c.self.invariant.numbered
     (rw c.deref.ensures.value at c.sort_places.ensures.stable)
-    (rw (c.deref-2.ensures.value, c.deref-3.ensures.value) at c.in-Some.ensures.some)))
+    (rw (c.deref-2.ensures.value, c.deref-3.ensures.value) at c.in-Some.ensures.some))
 
 pub returns-then-is_rising-clause-apart : goal.returns-then-is_rising-clause-apart
 returns-then-is_rising-clause-apart c = λ first second two.
