@@ -21,6 +21,12 @@ pub data LinkId : Type 0 where
   sink_link : Bool → List ℕ → ℕ → LinkId
   no_link : LinkId
 
+-- for how many messages a link has room: 0 where it has no ring
+abbrev pub room_of : LinkId → ℕ
+room_of (ring_link id) = id.names.0
+room_of (sink_link kept taken failed) = 0
+room_of no_link = 0
+
 module _ {M : Type 0} where
   abbrev pub producer_link : Producer M Global AnyItems → LinkId
   producer_link p = ring_link record {

@@ -21,8 +21,11 @@ pub record Whole (T : Type 0) : Type 0 where
   pub items : List T
   pub end : End
 
--- the items that were given to a sender of batches, and for how many more it has taken room
+-- the items that were given to a sender of batches, and for how many more it has taken room; how
+-- many items a full batch has, and how many bytes the items of the open one take
 pub record Batching (T : Type 0) : Type 0 where
   pub link : LinkId
   pub items : List T
   pub room : ℕ
+  pub batch : ℕ
+  pub held : ℕ

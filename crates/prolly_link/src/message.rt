@@ -21,7 +21,8 @@ pub enum End {
 pub enum Next<T> {
     Item(T),
     End(End),
-    /// The sender was dropped before it had closed, and no message is left.
+    /// No message came, and the sender seems to be gone without an end. No contract says that it
+    /// is.
     Lost,
 }
 

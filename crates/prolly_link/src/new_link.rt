@@ -1,5 +1,6 @@
 //! The making of a link.
 ghost use Rattle.std.specs.Prelude.{◌≡◌, ◌≤◌, [], IfOk, Some, codes};
+ghost use Rattle.prolly_link.specs.Identity.{room_of};
 
 use crate::message::Progress;
 use crate::receiver::Receiver;
@@ -38,6 +39,7 @@ pub fn link<T: Send + Drop>(
     requires least { 1 ≤ capacity }
     requires most { capacity ≤ 4096 }
     ensures link { IfOk result (λ ends. ends.0.link ≡ ends.1.link) }
+    ensures capacity { IfOk result (λ ends. room_of ends.0.link ≡ capacity) }
     ensures sent { IfOk result (λ ends. ends.0.items ≡ []) }
     ensures received { IfOk result (λ ends. ends.1.items ≡ []) }
     ensures progress { IfOk result (λ ends. ends.1.progress ≡ Progress.Open) }

@@ -1,6 +1,6 @@
 //! Waiting for a ring that is full or empty.
 ghost use Rattle.std.specs.Prelude.{◌≡◌, [], ◌∷◌, ◌++◌, IfNone, IfSome};
-ghost use Rattle.rtrb.specs.Ring.{sent as pushed, received as popped};
+ghost use Rattle.rtrb.specs.Ring.{sent as pushed, received as popped, known_items};
 ghost use Rattle.prolly_link.specs.Identity.{producer_link, consumer_link};
 
 use rtrb::{Consumer, Producer, PushError};
@@ -193,7 +193,7 @@ pub(crate) fn pop_waiting<M, R: Wait>(
     ring: &mut Consumer<M>,
 ) -> Option<M>
     ensures link { consumer_link ring.new ≡ consumer_link ring.old }
-    ensures none { IfNone result (popped ring.new ≡ popped ring.old) }
+    ensures none { IfNone result ((popped ring.new ≡ popped ring.old) × (known_items ring.new ≡ [])) }
     ensures some { IfSome result (λ m. popped ring.new ≡ popped ring.old ++ m ∷ []) }
 {
     let mut rounds = 0u32;

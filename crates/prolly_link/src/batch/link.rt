@@ -1,5 +1,6 @@
 //! The making of a batch link.
 ghost use Rattle.std.specs.Prelude.{◌≡◌, ◌≤◌, [], IfOk};
+ghost use Rattle.prolly_link.specs.Identity.{room_of};
 
 use crate::batch::receiver::BatchReceiver;
 use crate::batch::sender::BatchSender;
@@ -23,8 +24,11 @@ pub fn batch_link<T: Send + Drop>(
     requires least_batch { 1 ≤ batch }
     requires most_batch { batch ≤ 1024 }
     ensures link { IfOk result (λ ends. ends.0.link ≡ ends.1.link) }
+    ensures capacity { IfOk result (λ ends. room_of ends.0.link ≡ capacity) }
     ensures sent { IfOk result (λ ends. ends.0.items ≡ []) }
     ensures room { IfOk result (λ ends. ends.0.room ≡ batch) }
+    ensures batch { IfOk result (λ ends. ends.0.batch ≡ batch) }
+    ensures held { IfOk result (λ ends. ends.0.held ≡ 0) }
     ensures received { IfOk result (λ ends. ends.1.items ≡ []) }
     ensures progress { IfOk result (λ ends. ends.1.progress ≡ Progress.Open) }
 {

@@ -1,7 +1,8 @@
 //! The end of a batch link that sends.
-ghost use Rattle.std.specs.Prelude.{◌≡◌, ◌<◌, ◌≤◌, ◌+◌, [], ◌∷◌, ◌++◌, OnOk, OnErr, IsOk, IfErr};
+ghost use Rattle.std.specs.Prelude.{◌≡◌, ◌<◌, ◌≤◌, ◌+◌, [], ◌∷◌, ◌++◌, ◌⊎◌, OnOk, OnErr, IsOk, IfErr};
 ghost use Rattle.std.specs.Prelude.{vec_len, vec_capacity};
 ghost use Rattle.prolly_link.specs.Batch.{items_of};
+ghost use Rattle.prolly_link.specs.BatchSender.{room_ahead, held_in};
 
 use crate::batch::Batch;
 use crate::batch::closed::ClosedBatch;
@@ -17,7 +18,8 @@ use std::mem;
 use std::sync::{Arc, Wait};
 
 /// The sending end of a batch link. Contracts see its link, the items that were given to `send`,
-/// oldest first, and for how many more it has taken room.
+/// oldest first, and for how many more it has taken room. They also see how many items a full
+/// batch has, and how many bytes the items of the open one take.
 #[derive(Drop)]
 pub struct BatchSender<T> {
     pub(crate) sender: Sender<Batch<T>>,
@@ -42,7 +44,7 @@ impl<T> Model for BatchSender<T> {
     ghost use Rattle.prolly_link.specs.BatchSender.{batching_of, room_taken, IsOpenBatch};
 
     ghost view = { λ s. batching_of s.sender s.pending.items
-        (room_taken s.size (vec_capacity s.pending) (vec_len s.pending)) };
+        (room_taken s.size (vec_capacity s.pending) (vec_len s.pending)) s.size s.bytes };
 
     ghost invariant = { λ s. IsOpenBatch s.size (vec_capacity s.pending) (vec_len s.pending) ×
         (s.bytes < LARGE_BATCH_BYTES) };
@@ -105,7 +107,9 @@ impl<T: Drop> BatchSender<T> {
     pub fn send<R: Wait>(&mut self, rt: &R, item: T) -> Result<(), T>
         ensures link { self.new.link ≡ self.old.link }
         ensures ok { OnOk result (self.new.items ≡ self.old.items ++ item ∷ []) }
-        ensures room { OnOk result (self.old.room ≤ self.new.room + 1) }
+        ensures batch { self.new.batch ≡ self.old.batch }
+        ensures room { OnOk result (self.new.room + 1 ≡ room_ahead self.old) }
+        ensures held { OnOk result (self.new.held ≡ held_in self.new.room self.old.held) }
         ensures err { IfErr result (λ back. (back ≡ item) × (self.new ≡ self.old)) }
         ensures accepts { 0 < self.old.room → IsOk result }
     {
@@ -114,13 +118,17 @@ impl<T: Drop> BatchSender<T> {
 
     /// As `send`, of an item that takes so many bytes. A batch of 64 KiB or more is sent before it
     /// is full, and waits where the link holds 32 KiB of such batches for each message that it has
-    /// room for.
+    /// room for. No contract speaks of that wait.
     pub fn send_sized<R: Wait>(&mut self, rt: &R, item: T, bytes: usize) -> Result<(), T>
         ensures link { self.new.link ≡ self.old.link }
         ensures ok { OnOk result (self.new.items ≡ self.old.items ++ item ∷ []) }
-        ensures room { OnOk result (bytes ≡ 0 → self.old.room ≤ self.new.room + 1) }
+        ensures batch { self.new.batch ≡ self.old.batch }
+        ensures room { OnOk result ((bytes ≡ 0) ⊎ (self.old.held + bytes < 65536) →
+            self.new.room + 1 ≡ room_ahead self.old) }
+        ensures held { OnOk result (self.new.held ≡ held_in self.new.room (self.old.held + bytes)) }
         ensures err { IfErr result (λ back. (back ≡ item) × (self.new ≡ self.old)) }
         ensures accepts { 0 < self.old.room → IsOk result }
+        ensures large { OnOk result (65536 ≤ self.old.held + bytes → self.new.room ≡ 0) }
     {
         let held = self.bytes.saturating_add(bytes);
         let has_room = self.pending.capacity() >= self.size && self.pending.len() + 1 < self.size;
@@ -138,9 +146,13 @@ impl<T: Drop> BatchSender<T> {
     fn send_at_an_edge<R: Wait>(&mut self, rt: &R, item: T, bytes: usize) -> Result<(), T>
         ensures link { self.new.link ≡ self.old.link }
         ensures ok { OnOk result (self.new.items ≡ self.old.items ++ item ∷ []) }
-        ensures room { OnOk result (bytes ≡ 0 → self.old.room ≤ self.new.room + 1) }
+        ensures batch { self.new.batch ≡ self.old.batch }
+        ensures room { OnOk result ((bytes ≡ 0) ⊎ (self.old.held + bytes < 65536) →
+            self.new.room + 1 ≡ room_ahead self.old) }
+        ensures held { OnOk result (self.new.held ≡ held_in self.new.room (self.old.held + bytes)) }
         ensures err { IfErr result (λ back. (back ≡ item) × (self.new ≡ self.old)) }
         ensures accepts { 0 < self.old.room → IsOk result }
+        ensures large { OnOk result (65536 ≤ self.old.held + bytes → self.new.room ≡ 0) }
     {
         if let Err(_) = take_room(&mut self.pending, &mut self.spares, self.size) {
             return Err(item);
