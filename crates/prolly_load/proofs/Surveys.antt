@@ -1,11 +1,12 @@
 -- A survey under way, and the ends of one.
 use Rattle.std.proofs.Common.{◌≡◌, ℕ, ◌+◌, ◌*◌, ◌≤◌, Bool, true, List, [], ◌∷◌, ◌++◌, length, drop}
 use Rattle.std.proofs.Common.{Option, Some, None, IfSome, option_map, refl, sym, ap, ◌∙◌, subst}
-use Rattle.std.proofs.Common.{arith}
+use Rattle.std.proofs.Common.{arith, ◌⊎◌, inl, inr}
 use Rattle.std.proofs.lemmas.List.{append-nil}
 use Rattle.std.proofs.Math.Seq.{drop-append_seam}
 use Rattle.std.specs.List.{flat_map}
 use Rattle.prolly_entry.specs.declared.next.Flaw.{Flaw}
+use Rattle.prolly_entry.specs.declared.next.Flaw.TheVariants.{Truncated}
 use Rattle.prolly_entry.specs.NextRecord.{IsUndecided, IsFlawed}
 use Rattle.prolly_entry.specs.Position.{last_position}
 use Rattle.prolly_entry.specs.Reading.{Begins, IsReading}
@@ -15,7 +16,8 @@ use Rattle.prolly_laws.specs.Readings.{begins_all, ends_clean, ends_flawed, ends
 use Rattle.prolly_load.specs.declared.tally.FlawedRecord.{FlawedRecord}
 use Rattle.prolly_load.specs.declared.tally.Survey.{Survey}
 use Rattle.prolly_load.specs.declared.tally.Tally.{Tally}
-use Rattle.prolly_file.specs.ReadBuffer.{Held, Gains}
+use Rattle.prolly_file.specs.ReadBuffer.{Held, Gains, GainsNothing}
+use Rattle.prolly_load.specs.Loaded.{ShowsNoFlaw}
 use Rattle.prolly_load.specs.Skipped.{PassesRecord}
 use Rattle.prolly_load.specs.Survey.{IsSurvey, key_bytes, told_key}
 use Rattle.prolly_load.specs.Tally.{HasToldKey, Tells, cut_in}
@@ -23,7 +25,7 @@ use Rattle.prolly_load.proofs.Tallies.{IsTallyOf, Counts, one_counted, bytes_bou
 use Rattle.prolly_load.proofs.Tallies.{removals_bound}
 use Rattle.prolly_load.proofs.ToldKeys.{has_told_key, told_stays}
 use Rattle.prolly_load.specs.Loading.{IsUnderWay}
-use Rattle.prolly_load.proofs.UnderWay.{none_sent, one_sent, more_read}
+use Rattle.prolly_load.proofs.UnderWay.{none_sent, one_sent, more_read, nothing_read}
 
 -- Some records are passed as if they were sent, and the tally is theirs.
 pub record IsSurveying (honest : Bool) (limit : ℕ) (tally : Tally) (buffered : Held)
@@ -79,6 +81,20 @@ more_came honest honest' limit n tally buffered old new bytes left left' h same 
       tally_is = h.tally_is;
     }
 
+-- The survey stands where it was, where a read brought nothing.
+pub nothing_came : (honest honest' : Bool) (limit : ℕ) (tally : Tally)
+    (buffered old new : Held) (bytes left left' : List ℕ) →
+    IsSurveying honest limit tally buffered bytes left → old ≡ buffered →
+    GainsNothing honest' left left' old.unparsed new.unparsed → new.kept ≡ old.kept →
+    (honest ≡ true → honest' ≡ true) → IsSurveying honest limit tally new bytes left'
+nothing_came honest honest' limit tally buffered old new bytes left left' h same k e still =
+    record {
+      good = h.good;
+      under_way = nothing_read honest honest' limit tally.records buffered old new bytes left left'
+          [] h.good h.under_way same k e still;
+      tally_is = h.tally_is;
+    }
+
 -- One record more can be counted.
 pub record HasRoom (limit len : ℕ) (tally : Tally) : Type 0 where
   pub records : tally.records + 1 ≤ limit
@@ -89,6 +105,11 @@ pub record HasRoom (limit len : ℕ) (tally : Tally) : Type 0 where
 cut_has_key : (unparsed : List ℕ) → IfSome (cut_in unparsed) (λ f. HasToldKey f unparsed)
 cut_has_key [] = tt
 cut_has_key (b ∷ unparsed) = tt
+
+-- Where no more bytes come, there is no flaw, or they are cut.
+clean_or_cut : (unparsed : List ℕ) → (cut_in unparsed ≡ None) ⊎ (cut_in unparsed ≡ Some Truncated)
+clean_or_cut [] = inl refl
+clean_or_cut (b ∷ unparsed) = inr refl
 
 module _ (honest : Bool) (limit : ℕ) (tally : Tally) (buffered : Held) (bytes left : List ℕ)
   where
@@ -178,11 +199,12 @@ module _ (honest : Bool) (limit : ℕ) (tally : Tally) (buffered : Held) (bytes 
         (has_told_key limit tally.records buffered.kept buffered.unparsed flaw k) tells
 
     -- Where no more bytes come and nothing is decided, the flaw is that the bytes are cut.
-    cut_reading : (good : List Record) (unparsed : List ℕ) → Begins bytes limit good unparsed →
+    cut_reading : (xs : List ℕ) (good : List Record) (unparsed : List ℕ) →
+        Begins xs limit good unparsed →
         IsUndecided limit (length good) (last_position good) unparsed →
-        IsReading bytes limit good (cut_in unparsed)
-    cut_reading good [] h k = ends_clean bytes limit good h
-    cut_reading good (b ∷ unparsed) h k = ends_cut bytes limit good (b ∷ unparsed) h (omega arith) k
+        IsReading xs limit good (cut_in unparsed)
+    cut_reading xs good [] h k = ends_clean xs limit good h
+    cut_reading xs good (b ∷ unparsed) h k = ends_cut xs limit good (b ∷ unparsed) h (omega arith) k
 
     pub end_told : (survey : Survey) → IsSurveying honest limit tally buffered bytes left →
         IsUndecided limit tally.records buffered.kept buffered.unparsed →
@@ -190,9 +212,25 @@ module _ (honest : Bool) (limit : ℕ) (tally : Tally) (buffered : Held) (bytes 
         honest ≡ true → IsSurvey bytes limit survey
     end_told survey h k over tells o =
         told_right (cut_in buffered.unparsed) survey h o
-        (cut_reading h.good buffered.unparsed
+        (cut_reading bytes h.good buffered.unparsed
         (subst (λ (xs : List ℕ). Begins bytes limit h.good xs)
         (ap (λ (xs : List ℕ). buffered.unparsed ++ xs) (over o) ∙ append-nil buffered.unparsed)
         (all_begun h o))
         (rw (← h.tally_is.records_are, ← position_is h) k))
         (cut_has_key buffered.unparsed) tells
+
+    -- Where nothing is decided, the bytes that were handed out show no flaw.
+    pub no_flaw_shown : IsSurveying honest limit tally buffered bytes left →
+        IsUndecided limit tally.records buffered.kept buffered.unparsed → honest ≡ true →
+        ShowsNoFlaw limit bytes left
+    no_flaw_shown h k o = record {
+      handed = h.under_way.handed;
+      records = h.good;
+      kept = h.under_way.kept o;
+      read_to = record {
+        ending = cut_in buffered.unparsed;
+        reading = cut_reading h.under_way.handed h.good buffered.unparsed (begun h)
+            (rw (← h.tally_is.records_are, ← position_is h) k);
+        is_cut = clean_or_cut buffered.unparsed;
+      };
+    }

@@ -16,6 +16,14 @@ pub record IsReadTo (bytes : List ℕ) (limit : ℕ) (records : List Record) : T
   pub reading : IsReading bytes limit records ending
   pub is_cut : (ending ≡ None) ⊎ (ending ≡ Some flaws.Truncated)
 
+-- A source that had some bytes left handed out the first of them, and these show no flaw: they end
+-- behind a good record, or in the middle of one.
+pub record ShowsNoFlaw (limit : ℕ) (bytes left : List ℕ) : Type 0 where
+  pub handed : List ℕ
+  pub records : List Record
+  pub kept : bytes ≡ handed ++ left
+  pub read_to : IsReadTo handed limit records
+
 -- The records are some first good ones of the bytes.
 pub record AreFirstGood (bytes : List ℕ) (limit : ℕ) (records : List Record) : Type 0 where
   pub rest : List ℕ

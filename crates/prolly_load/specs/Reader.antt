@@ -86,9 +86,17 @@ HasGiven r Open = Unit {0}
 HasGiven r (Ended end) = ComesTo r.file r.limit r.begun r.source r.records end
 HasGiven r Lost = ⊥
 
+-- As long as a reader is open, what it gave is what a loader sends that is refused memory there:
+-- some first good records of what its source handed out. And no read failed.
+abbrev pub HasGivenFirst : Reading → Progress → Type 0
+HasGivenFirst r Open = ComesTo r.file r.limit r.begun r.source r.records (Fault Memory)
+HasGivenFirst r (Ended end) = Unit {0}
+HasGivenFirst r Lost = Unit {0}
+
 -- The same reader, at the same time or later: of the same file and the same source, with the
 -- records that it gave and more. Where it had ended, it is as it was, and its source was not read.
--- Where the one gave all, once it has ended, so does the other.
+-- Where the one gave all, once it has ended, so does the other. Where it gave first good records, as
+-- long as it is open, so does the other.
 pub record IsLaterReading (before after : Reading) : Type 0 where
   pub file : after.file ≡ before.file
   pub limit : after.limit ≡ before.limit
@@ -96,6 +104,7 @@ pub record IsLaterReading (before after : Reading) : Type 0 where
   pub later : IsLater (receiving_of before) (receiving_of after)
   pub unread : HasEnded before.progress → after.source ≡ before.source
   pub gave_all : HasGiven before before.progress → HasGiven after after.progress
+  pub gave_first : HasGivenFirst before before.progress → HasGivenFirst after after.progress
 
 -- An honest source has left the record file of these records: they are lawful, at most `limit`
 -- many, and their keys rise.

@@ -14,6 +14,7 @@ reading_same a = record {
   later = later_same (receiving_of a);
   unread = λ _. refl;
   gave_all = λ h. h;
+  gave_first = λ h. h;
 }
 
 pub reading_more : (a b c : Reading) → IsLaterReading a b → IsLaterReading b c →
@@ -26,6 +27,7 @@ reading_more a b c h k = record {
   unread = λ ended. k.unread (subst HasEnded (sym (h.later.progress_stays ended)) ended) ∙
       h.unread ended;
   gave_all = λ all. k.gave_all (h.gave_all all);
+  gave_first = λ first. k.gave_first (h.gave_first first);
 }
 
 pub given_in_both : (a b c : Reading) → IsLaterReading a b → IsLaterReading b c →

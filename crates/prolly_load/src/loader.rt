@@ -165,8 +165,7 @@ fn prepared(record: Record, is_ahead: bool) -> Record
 pub(crate) enum Taken {
     /// The next good record.
     Record(Record),
-    /// No record: the unparsed bytes are a part of one, or there are none. More of them may bring
-    /// it.
+    /// No record: the unparsed bytes are a part of one, or there are none. More bytes will decide.
     Nothing,
     /// No record: the next one is flawed, whatever bytes follow.
     Flawed(Flaw),

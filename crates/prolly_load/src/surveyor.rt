@@ -1,5 +1,6 @@
 //! Surveying a record file.
 ghost use Rattle.std.specs.Prelude.{◌≡◌, ◌≢◌, true, IfErr, IfOk, IfSome, OnErr, OnOk};
+ghost use Rattle.prolly_load.specs.Loaded.{ShowsNoFlaw};
 ghost use Rattle.prolly_load.specs.Survey.{IsSurvey};
 ghost use Rattle.prolly_load.specs.Tally.{HasToldKey, IsCounted, NonePassed, Tells, cut_in};
 ghost use Rattle.prolly_load.specs.Skipped.{Skips};
@@ -28,11 +29,14 @@ pub fn survey<S: Source>(
     ensures ok { (S.seen source.old).is_honest ≡ true → IfOk result (λ read. IfOk read
         (λ survey. IsSurvey (S.seen source.old).left limit survey)) }
 
-    // A failed read is told, and nothing else is told as one.
+    // A failed read is told, and nothing else is told as one. Of an honest source it is told only
+    // where the bytes that came before it show no flaw.
     ensures failed { IfOk result (λ read. IfErr read (λ _.
         (S.seen source.new).failures ≢ (S.seen source.old).failures)) }
     ensures unfailed { IfOk result (λ read. OnOk read
         ((S.seen source.new).failures ≡ (S.seen source.old).failures)) }
+    ensures no_flaw { (S.seen source.old).is_honest ≡ true → IfOk result (λ read. IfErr read
+        (λ _. ShowsNoFlaw limit (S.seen source.old).left (S.seen source.new).left)) }
     ensures refused { OnErr result
         ((S.seen source.new).failures ≡ (S.seen source.old).failures) }
     ensures honest { (S.seen source.old).is_honest ≡ true → (S.seen source.new).is_honest ≡ true }
@@ -71,6 +75,8 @@ fn skip_records<S: Source>(
         (S.seen source.new).failures ≢ (S.seen source.old).failures)) }
     ensures unfailed { IfOk result (λ read. OnOk read
         ((S.seen source.new).failures ≡ (S.seen source.old).failures)) }
+    ensures no_flaw { (S.seen source.old).is_honest ≡ true → IfOk result (λ read. IfErr read
+        (λ _. ShowsNoFlaw limit (S.seen source.old).left (S.seen source.new).left)) }
     ensures refused { OnErr result
         ((S.seen source.new).failures ≡ (S.seen source.old).failures) }
     ensures honest { (S.seen source.old).is_honest ≡ true → (S.seen source.new).is_honest ≡ true }
@@ -133,8 +139,7 @@ fn told(
 pub(crate) enum Skipped {
     /// The next good record: whether it removes its key, and how many bytes it takes.
     Record { removes: bool, len: usize },
-    /// No record: the unparsed bytes are a part of one, or there are none. More of them may bring
-    /// it.
+    /// No record: the unparsed bytes are a part of one, or there are none. More bytes will decide.
     Nothing,
     /// No record: the next one is flawed, whatever bytes follow.
     Flawed(Flaw),

@@ -1,4 +1,4 @@
--- What a reader of a record file gave, once it has ended.
+-- What a reader of a record file gave, so far and once it has ended.
 use Rattle.std.proofs.Common.{◌≡◌, ◌≢◌, ℕ, List, [], ◌++◌, Some, None, inl, inr}
 use Rattle.std.proofs.Common.{refl, sym, ap, ◌∙◌, subst, append-nil}
 use Rattle.std.specs.List.{flat_map}
@@ -10,7 +10,7 @@ use Rattle.prolly_entry.specs.Reading.{Begins, IsReading as Reads}
 use Rattle.prolly_entry.specs.Record.{Record, keys_of}
 use Rattle.prolly_entry.specs.Spelling.{record_spelling}
 use Rattle.prolly_file.specs.Source.{SourceView}
-use Rattle.prolly_laws.specs.Readings.{begins_all, ends_clean, first_are_good, one_reading}
+use Rattle.prolly_laws.specs.Readings.{begins_all, begins_none, ends_clean, first_are_good, one_reading}
 use Rattle.prolly_link.specs.Growth.{items_between}
 use Rattle.prolly_link.specs.Progress.{HasEnded, end_given}
 use Rattle.prolly_link.specs.declared.message.End.{End}
@@ -19,9 +19,9 @@ use Rattle.prolly_link.specs.declared.message.Progress.{Progress}
 use Rattle.prolly_link.specs.declared.message.Progress.TheVariants.{Open, Ended, Lost}
 use Rattle.prolly_link.specs.declared.fault.RunFault.{RunFault}
 use Rattle.prolly_link.specs.declared.fault.RunFault.TheVariants as faults
-use Rattle.prolly_load.specs.Loaded.{EndsAs, FailsAs, IsLoaded, IsReadTo}
-use Rattle.prolly_load.specs.Reader.{ComesTo, GivesRecords, HasGiven, HasRecords, IsLaterReading}
-use Rattle.prolly_load.specs.Reader.{Reading, new_reading}
+use Rattle.prolly_load.specs.Loaded.{AreFirstGood, EndsAs, FailsAs, IsLoaded, IsReadTo}
+use Rattle.prolly_load.specs.Reader.{ComesTo, GivesRecords, HasGiven, HasGivenFirst, HasRecords}
+use Rattle.prolly_load.specs.Reader.{IsLaterReading, Reading, new_reading}
 
 -- ---- of any source
 
@@ -30,14 +30,19 @@ has_given : (a b : Reading) (progress : Progress) → IsLaterReading a b → a.p
 has_given a b progress h open_is e =
     subst (HasGiven b) e (h.gave_all (subst (HasGiven a) (sym open_is) tt))
 
+-- The later one is of the same file and source.
+of_first : (a b : Reading) (end : End) → IsLaterReading a b →
+    ComesTo b.file b.limit b.begun b.source b.records end →
+    ComesTo a.file a.limit a.begun b.source b.records end
+of_first a b end h k =
+    subst (λ x. ComesTo x a.limit a.begun b.source b.records end) h.file
+    (subst (λ x. ComesTo b.file x a.begun b.source b.records end) h.limit
+    (subst (λ x. ComesTo b.file b.limit x b.source b.records end) h.begun k))
+
 -- What a reader gave that was open before is what its source comes to, with the end that it gave.
 pub comes_to : (a b : Reading) (end : End) → IsLaterReading a b → a.progress ≡ Open →
     b.progress ≡ Ended end → ComesTo a.file a.limit a.begun b.source b.records end
-comes_to a b end h open_is ended =
-    subst (λ x. ComesTo x a.limit a.begun b.source b.records end) h.file
-    (subst (λ x. ComesTo b.file x a.begun b.source b.records end) h.limit
-    (subst (λ x. ComesTo b.file b.limit x b.source b.records end) h.begun
-    (has_given a b (Ended end) h open_is ended)))
+comes_to a b end h open_is ended = of_first a b end h (has_given a b (Ended end) h open_is ended)
 
 faults_rise : (file limit : ℕ) (bytes : List ℕ) (records : List Record) (fault : RunFault) →
     FailsAs file limit bytes records fault → Rising (keys_of records)
@@ -72,6 +77,63 @@ given_rise a b later open_is ended = go b.progress refl ended
         ends_rise a.file a.limit k.handed b.records end
         (subst (λ xs. EndsAs a.file a.limit k.handed xs end) (sym k.sent) k.ends)
     go Lost e ended = absurd (has_given a b Lost later open_is e)
+
+-- ---- of any source, and a reader that is still open
+
+no_records : (bytes : List ℕ) (limit : ℕ) → AreFirstGood bytes limit []
+no_records bytes limit = record {
+  rest = bytes;
+  begins = begins_none bytes limit;
+  prefix = λ good ending k. first_are_good bytes limit [] bytes good ending
+      (begins_none bytes limit) k;
+}
+
+pub memory_is_no_read : (file : ℕ) → Fault faults.Memory ≡ Fault (faults.Read file) → ⊥
+memory_is_no_read file e = cc
+
+none_given : (file limit : ℕ) (source : SourceView) →
+    ComesTo file limit source source [] (Fault faults.Memory)
+none_given file limit source = record {
+  loaded = record {
+    handed = [];
+    records = [];
+    kept = λ _. refl;
+    sent = refl;
+    ends = no_records [] limit;
+    whole = λ _ _. no_records source.left limit;
+  };
+  read = (λ e. absurd (memory_is_no_read file e), λ failed. absurd (failed refl));
+  unfailed = λ _. refl;
+  stays = record {
+    honest = λ o. o;
+    steady = λ o. o;
+    never = λ _. refl;
+  };
+}
+
+-- What a reader gave that is followed from its start on, and is open still, is what a loader sends
+-- that is refused memory there: first good records.
+pub open_comes_to : (file limit : ℕ) (source : SourceView) (b : Reading) →
+    IsLaterReading (new_reading file limit source) b → b.progress ≡ Open →
+    ComesTo file limit source b.source b.records (Fault faults.Memory)
+open_comes_to file limit source b later open_is =
+    of_first (new_reading file limit source) b (Fault faults.Memory) later
+    (subst (HasGivenFirst b) open_is (later.gave_first (none_given file limit source)))
+
+-- The keys of the records that it gave rise, however far it has come.
+pub new_given_rise : (file limit : ℕ) (source : SourceView) (b : Reading) →
+    IsLaterReading (new_reading file limit source) b → Rising (keys_of b.records)
+new_given_rise file limit source b later = go b.progress refl
+  where
+    go : (progress : Progress) → b.progress ≡ progress → Rising (keys_of b.records)
+    go Open e =
+        let k = (open_comes_to file limit source b later e).loaded in
+        ends_rise file limit k.handed b.records (Fault faults.Memory)
+        (subst (λ xs. EndsAs file limit k.handed xs (Fault faults.Memory)) (sym k.sent) k.ends)
+    go (Ended end) e = given_rise (new_reading file limit source) b later refl
+        (subst HasEnded (sym e) tt)
+    go Lost e = given_rise (new_reading file limit source) b later refl
+        (subst HasEnded (sym e) tt)
 
 -- ---- of a source that has a record file left
 
@@ -168,6 +230,16 @@ pub new_reader_gives : (file limit : ℕ) (source : SourceView) (b : Reading) (r
     GivesRecords file rs (items_between [] b.records) (end_given b.progress)
 new_reader_gives file limit source b rs h later ended =
     reader_gives (new_reading file limit source) b rs h later refl ended
+
+-- One that is open still gave first ones of them.
+pub open_gives_first : (file limit : ℕ) (source : SourceView) (b : Reading) (rs : List Record) →
+    HasRecords limit source rs → IsLaterReading (new_reading file limit source) b →
+    b.progress ≡ Open → IsPrefix (items_between [] b.records) rs
+open_gives_first file limit source b rs h later open_is =
+    let k = (open_comes_to file limit source b later open_is).loaded in
+    subst (λ xs. IsPrefix xs rs) (sym k.sent)
+    ((k.whole h.honest (memory_is_no_read file)).prefix rs None
+    (file_reading file limit source b.source rs b.records h))
 
 -- All records were given where the end is clean.
 pub clean_gives_all : (file : ℕ) (rs records : List Record) (end : End) →

@@ -6,7 +6,7 @@ use Rattle.prolly_load.specs.Survey.{key_bytes}
 use Rattle.prolly_load.specs.Tally.{HasToldKey, Tells}
 use Rattle.prolly_load.proofs.Surveys.{IsSurveying, none_passed, one_passed, more_came, has_room}
 use Rattle.prolly_load.proofs.Surveys.{flaw_told}
-use Rattle.prolly_load.proofs.Surveys.{end_told}
+use Rattle.prolly_load.proofs.Surveys.{end_told, nothing_came, no_flaw_shown}
 use Rattle.prolly_load.proofs.ToldKeys.{has_told_key}
 use Rattle.prolly_load.proofs.UnderWay.{still_undecided}
 use Rattle.prolly_load.proofs.surveyor.skip_records.Goals as goal
@@ -79,6 +79,17 @@ returns-in-Ok-eq0-clause-ok g c =
     c.fill.ensures.kept same)
     (λ o. c.in-Ok-eq0.ensures.fills.over (l.invariant.honest o) none)
     (subst (λ flaw. Tells l.tally c.fill.new.self flaw survey) c.cut_in.ensures tells) o
+
+pub returns-in-Err-clause-no_flaw : goal.returns-in-Err-clause-no_flaw
+returns-in-Err-clause-no_flaw g c =
+    let l = c.loop-removes in
+    let fills = c.in-Err.ensures.fills in
+    no_flaw_shown _ _ _ _ _ _
+    (nothing_came _ _ _ _ _ _ c.fill.new.self _ _ _ l.invariant.surveying c.in-Nothing.ensures.1
+    fills c.fill.ensures.kept l.invariant.honest)
+    (still_undecided c.args.limit l.tally.records l.buffer c.skip_record.new.buffer c.fill.new.self
+    (record { undecided = c.in-Nothing.ensures.0; same = c.in-Nothing.ensures.1 })
+    c.fill.ensures.kept fills.same)
 
 -- ---- a flaw
 
