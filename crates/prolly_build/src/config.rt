@@ -157,14 +157,16 @@ impl Config {
 
     /// How many messages a link holds.
     pub(crate) fn capacity(&self) -> usize
-        ensures { (1 ≤ result) × (result ≤ 4096) }
+        ensures value { result ≡ self.now.capacity }
+        ensures range { (1 ≤ result) × (result ≤ 4096) }
     {
         self.capacity as usize
     }
 
     /// How many items a message has at most.
     pub(crate) fn batch(&self) -> usize
-        ensures { (1 ≤ result) × (result ≤ 1024) }
+        ensures value { result ≡ self.now.batch }
+        ensures range { (1 ≤ result) × (result ≤ 1024) }
     {
         self.batch as usize
     }

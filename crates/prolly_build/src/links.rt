@@ -1,6 +1,7 @@
 //! The links of a build: what stands between two workers, from one link to all of them.
 ghost use Rattle.std.specs.Prelude.{◌≡◌, [], IfOk, Ok, OnOk, IfErr, vec_len, ◌+◌, ◌<◌, ◌≤◌, All};
 ghost use Rattle.std.specs.Prelude.{map, vec_capacity};
+ghost use Rattle.prolly_link.specs.Identity.{room_of};
 ghost use Rattle.prolly_link.specs.Progress.{HasEnded};
 ghost use Rattle.prolly_link.specs.declared.message.Progress.TheVariants.{Open, Ended};
 ghost use Rattle.prolly_build.specs.declared.end.Halt.TheVariants.{Lost};
@@ -32,7 +33,10 @@ pub(crate) struct NewLink<T> {
 pub(crate) fn new_link<T: Send + Drop>(
     alloc: Global,
     config: &Config,
-) -> Result<NewLink<T>, AllocError> {
+) -> Result<NewLink<T>, AllocError>
+    ensures capacity { IfOk result (λ made. room_of made.sender.link ≡ config.now.capacity) }
+    ensures batch { IfOk result (λ made. made.sender.batch ≡ config.now.batch) }
+{
     match batch_link(alloc, config.capacity(), config.batch()) {
         Ok((sender, receiver)) => Ok(NewLink { sender, receiver }),
         Err(LinkFault::Memory) => Err(AllocError),
