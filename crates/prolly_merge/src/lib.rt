@@ -1,8 +1,9 @@
 //! Mergers: the records of several inputs become those of one, in key order.
 //!
 //! `merge_two` sends the records of two inputs, removals too, so that mergers can stand behind one
-//! another. Of any number of inputs `merge` sends the pairs, and `merge_records` the records. All
-//! are written over the traits `In` and `Out`, and hold one record of each input.
+//! another. Of any number of inputs `merge` sends the pairs, `merge_records` the records, and
+//! `merge_unique` the records, unless two inputs have one key. All are written over the traits `In`
+//! and `Out`, and hold one record of each input.
 #![tactic(auto)]
 
 mod heads;

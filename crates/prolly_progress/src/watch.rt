@@ -23,8 +23,8 @@ const STACK_BYTES: usize = 262_144;
 /// bytes where that is known, twice a second; it is clear again at the end.
 ///
 /// Takes a thread beside the work's own. Where that can't be had, the clock can't be read or the
-/// screen fails, the work goes on and nothing more is shown. A line that is longer than the screen
-/// is wide, some 60 characters, is not cleared whole.
+/// screen fails, the work goes on and nothing more is shown. A line has some 60 to 75 characters;
+/// on a narrower screen it is not cleared whole.
 pub fn watched<
     R: Threads + Wait + Clock + Sync,
     E: Eprint + IsTerminal + Sync,

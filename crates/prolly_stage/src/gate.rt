@@ -25,8 +25,8 @@ impl Gate for OpenGate {
     fn before_send<R: Wait>(&self, _rt: &R, _worker: Worker, _nth: u64) {}
 }
 
-/// The number of the loader of an old tree, by which a run's faults name that tree, too. No record
-/// file has it.
+/// The number of the loader of an old tree, by which a run's faults name that tree, too. A build
+/// gives it to no record file: it numbers these from 0.
 pub const OLD_TREE: u32 = u32::MAX;
 
 /// A worker, which has a thread of its own. Each kind is numbered from 0.

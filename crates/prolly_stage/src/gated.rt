@@ -7,9 +7,9 @@ use prolly_link::Out;
 use std::marker::Model;
 use std::sync::Wait;
 
-/// An output of a worker behind a gate, which is asked before each item with the item's number,
-/// counted from 0. It changes nothing else: the items, the end and the link are those of the
-/// output.
+/// An output of a worker behind a gate. The gate is asked before each try to send an item, with the
+/// number of the try, counted from 0; an item that is refused counts, too. It changes nothing else:
+/// the items, the end and the link are those of the output.
 ///
 /// A number that has come to the greatest `u64` stays there.
 #[derive(Drop)]

@@ -8,7 +8,8 @@ ghost use Rattle.prolly_entry.specs.Cut.{Cut};
 ghost use Rattle.prolly_tree.specs.Events.{Closing};
 ghost use Rattle.prolly_stage.specs.Workers.{WorkersJoin, StageFollows, WriterTakes};
 
-/// Two workers, one behind the other, do what a worker of both their stages would do.
+/// Where the second stage keeps prefixes, two workers, one behind the other, do what one worker of
+/// both stages would do.
 pub fn workers_join<A, B, C>()
     ensures { (first : Closing → List A → List B) (second : Closing → List B → List C) →
         WorkersJoin first second }

@@ -20,8 +20,8 @@ use std::sync::Wait;
 /// sender counts as one that ended with `Lost`.
 ///
 /// Where memory is refused it closes with that fault, and receives its input to the end. It keeps
-/// the bytes of one leaf, and takes one look at the cut for each pair. The hash of a leaf is left
-/// to whoever asks for its reference first. It returns if the ends do.
+/// the bytes of one leaf, and takes one look at the cut for each pair. It takes the hash of a leaf
+/// only where its receiver is far behind; else the next stage takes it. It returns if the ends do.
 pub fn leaf_stage<C: Cut, I: In<Pair>, O: Out<ChunkEvent>, R: Wait>(
     rt: &R,
     alloc: Global,
@@ -97,8 +97,9 @@ pub fn take_pair<C: Cut, O: Out<ChunkEvent>, R: Wait>(
     send_closed(rt, out, closed)
 }
 
-/// Takes a pair of which the caller knows whether it is a boundary, and sends the leaf that it closes,
-/// if any. It is not hashed. An `Err` has sent nothing.
+/// Takes a pair, and sends the leaf that it closes, if any. The caller says whether the pair is a
+/// boundary, so the pair is not hashed. If the caller is wrong, nothing is promised. An `Err` has
+/// sent nothing.
 pub fn take_decided_pair<C: Cut, O: Out<ChunkEvent>, R: Wait>(
     rt: &R,
     alloc: Global,
