@@ -7,6 +7,9 @@ use crate::help::Help;
 use clap::{Arg, Command};
 use std::alloc::{AllocError, Global};
 
+/// A line that is being put together, where there was memory for it.
+pub(crate) type Line<'a> = Result<Command<'a>, AllocError>;
+
 /// A command with its texts, and no argument yet.
 pub(crate) fn described<'a>(alloc: Global, name: &'a str, help: Help<'a>) -> Command<'a>
     ensures { HasCommandLine (new_app name.now) result }
@@ -30,19 +33,13 @@ pub(crate) fn described_as<'a>(
 }
 
 /// The line as clap calls it in what it says of the usage, which it knows only below the program's line.
-pub(crate) fn called<'a>(
-    line: Result<Command<'a>, AllocError>,
-    name: &'a str,
-) -> Result<Command<'a>, AllocError> {
+pub(crate) fn called<'a>(line: Line<'a>, name: &'a str) -> Line<'a> {
     line?.bin_name(name)
 }
 
 /// Adds an argument to a line, where there was memory for it. A `?` for each argument in one
 /// function would make a large proof.
-pub(crate) fn with_argument<'a>(
-    line: Result<Command<'a>, AllocError>,
-    argument: Arg<'a>,
-) -> Result<Command<'a>, AllocError>
+pub(crate) fn with_argument<'a>(line: Line<'a>, argument: Arg<'a>) -> Line<'a>
     ensures { (app : App) (rule : Rule) → IfOk line.entry (HasCommandLine app)
         → IsReadBy rule argument.entry → IfOk result (HasCommandLine (with_rule app rule)) }
 {
@@ -51,10 +48,7 @@ pub(crate) fn with_argument<'a>(
 
 /// Adds a subcommand to a line, where there was memory for both. A `?` for each subcommand in one
 /// function would make a large proof.
-pub(crate) fn with_subcommand<'a>(
-    line: Result<Command<'a>, AllocError>,
-    subcommand: Result<Command<'a>, AllocError>,
-) -> Result<Command<'a>, AllocError>
+pub(crate) fn with_subcommand<'a>(line: Line<'a>, subcommand: Line<'a>) -> Line<'a>
     ensures { (app inner : App) → IfOk line.entry (λ c. app_of c ≡ app)
         → IfOk subcommand.entry (HasCommandLine inner)
         → IfOk result (λ c. app_of c ≡ with_subcommand app inner.top) }
@@ -64,11 +58,11 @@ pub(crate) fn with_subcommand<'a>(
 
 /// Adds three subcommands to a line, in their order, where there was memory for all of them.
 pub(crate) fn with_three<'a>(
-    line: Result<Command<'a>, AllocError>,
-    first: Result<Command<'a>, AllocError>,
-    second: Result<Command<'a>, AllocError>,
-    third: Result<Command<'a>, AllocError>,
-) -> Result<Command<'a>, AllocError>
+    line: Line<'a>,
+    first: Line<'a>,
+    second: Line<'a>,
+    third: Line<'a>,
+) -> Line<'a>
     ensures { (app one two three : App) → IfOk line.entry (λ c. app_of c ≡ app)
         → IfOk first.entry (HasCommandLine one) → IfOk second.entry (HasCommandLine two)
         → IfOk third.entry (HasCommandLine three) → IfOk result (λ c. app_of c

@@ -6,7 +6,7 @@ ghost use Rattle.prolly_line.specs.GivenCommand.{IsWithinLimits};
 ghost use Rattle.prolly_line.specs.AcceptedWords.{Answers, IsAccepted, rows_in};
 ghost use Rattle.prolly_line.specs.declared.command.ParseFault.TheVariants.{Memory};
 
-use crate::fields;
+use crate::commands;
 use crate::line::program_line;
 use clap::ArgMatches;
 use clap::error::ErrorKind;
@@ -306,21 +306,21 @@ fn command_of(alloc: Global, name: &str, given: &ArgMatches<'_>) -> Result<Comma
     ensures { Answers (name.now, rows_in given.now) result }
 {
     match name {
-        "pack" => fields::pack(alloc, given),
-        "scratch" => fields::scratch(alloc, given),
-        "build" => fields::build(alloc, given),
-        "apply" => fields::apply(alloc, given),
-        "explain" => fields::explain(alloc, given),
-        "check" => fields::check(alloc, given),
-        "root" => fields::root(alloc, given),
-        "stat" => fields::stat(alloc, given),
-        "get" => fields::get(alloc, given),
-        "scan" => fields::scan(alloc, given),
-        "nth" => fields::nth(alloc, given),
-        "dump" => fields::dump(alloc, given),
-        "diff" => fields::diff(alloc, given),
-        "prove" => fields::prove(alloc, given),
-        "verify" => fields::verify(alloc, given),
+        "pack" => commands::pack(alloc, given),
+        "scratch" => commands::scratch(alloc, given),
+        "build" => commands::build(alloc, given),
+        "apply" => commands::apply(alloc, given),
+        "explain" => commands::explain(alloc, given),
+        "check" => commands::check(alloc, given),
+        "root" => commands::root(alloc, given),
+        "stat" => commands::stat(alloc, given),
+        "get" => commands::get(alloc, given),
+        "scan" => commands::scan(alloc, given),
+        "nth" => commands::nth(alloc, given),
+        "dump" => commands::dump(alloc, given),
+        "diff" => commands::diff(alloc, given),
+        "prove" => commands::prove(alloc, given),
+        "verify" => commands::verify(alloc, given),
         _ => unreachable!(),
     }
 }

@@ -7,11 +7,10 @@
 mod arguments;
 mod assembly;
 mod command;
-mod fields;
+mod commands;
 mod help;
 mod line;
 mod misfit;
-mod subcommands;
 mod values;
 
 pub use command::{Command, ParseFault, RootPair, Sought, WriteMode, parse};

@@ -3,17 +3,16 @@ ghost use Rattle.std.specs.Prelude.{◌≡◌, IfOk};
 ghost use Rattle.clap.specs.Words.{app_of};
 ghost use Rattle.prolly_line.specs.Line.{bare_line, program_line};
 
-use crate::assembly::{described, with_three};
-use crate::help;
-use crate::subcommands::{
+use crate::assembly::{Line, described, with_three};
+use crate::commands::{
     apply_line, build_line, check_line, diff_line, dump_line, explain_line, get_line, nth_line,
     pack_line, prove_line, root_line, scan_line, scratch_line, stat_line, verify_line,
 };
-use clap::Command;
-use std::alloc::{AllocError, Global};
+use crate::help;
+use std::alloc::Global;
 
 // What stands above the subcommands.
-fn bare_line<'a>(alloc: Global) -> Result<Command<'a>, AllocError>
+fn bare_line<'a>(alloc: Global) -> Line<'a>
     ensures { IfOk result (λ c. app_of c ≡ bare_line) }
 {
     described(alloc, "prolly", help::PROGRAM)
@@ -24,7 +23,7 @@ fn bare_line<'a>(alloc: Global) -> Result<Command<'a>, AllocError>
 }
 
 /// The whole command line.
-pub(crate) fn program_line<'a>(alloc: Global) -> Result<Command<'a>, AllocError>
+pub(crate) fn program_line<'a>(alloc: Global) -> Line<'a>
     ensures { IfOk result (λ c. app_of c ≡ program_line) }
 {
     let line = with_three(

@@ -6,11 +6,12 @@ ghost use Rattle.prolly_line.specs.GivenCommand.{AreMisfit, GivesFlag, HasNone, 
 ghost use Rattle.prolly_line.specs.GivenCommand.{IsMisfitCut, IsMisfitKey, IsMisfitLines};
 ghost use Rattle.prolly_line.specs.GivenCommand.{IsMisfitSort, IsWordFault};
 
+use crate::assembly::Line;
 use crate::command::{ParseFault, refusal};
 use crate::values::{flag_of, is_given};
+use clap::ArgMatches;
 use clap::error::ErrorKind;
-use clap::{ArgMatches, Command};
-use std::alloc::{AllocError, Global};
+use std::alloc::Global;
 
 /// Which words are missing, or one too many.
 #[derive(Clone, Copy)]
@@ -186,7 +187,7 @@ impl Misfit {
     }
 
     /// How it is told, as by clap, with the usage of the line.
-    pub(crate) fn fault(self, alloc: Global, line: Result<Command<'_>, AllocError>) -> ParseFault
+    pub(crate) fn fault(self, alloc: Global, line: Line<'_>) -> ParseFault
         ensures { IsWordFault result }
     {
         let Ok(mut line) = line else {

@@ -1,0 +1,12 @@
+-- One argument more at each step.
+use Rattle.std.proofs.lemmas.Result.{IfOk-weaker}
+use Rattle.prolly_line.proofs.LineSteps.{added}
+use Rattle.prolly_line.proofs.commands.stat.stat_line.Goals as goal
+
+pub returns : goal.returns
+returns c =
+    let with_text = IfOk-weaker c.arg-line.result _ _
+    (λ x adds. added c.described.result x c.text_flag-text.result _ _ c.described.ensures
+    c.text_flag-text.ensures adds) c.arg-line.ensures in
+    let with_json = c.with_argument-line.ensures _ _ with_text c.json_flag.ensures in
+    c.with_argument.ensures _ _ with_json c.file_word.ensures

@@ -1,8 +1,0 @@
-use Rattle.std.proofs.Common.{codes, inl, inr, refl}
-use Rattle.prolly_line.proofs.ValueLemmas.{misfit_refused}
-use Rattle.prolly_line.specs.AcceptedWords.{rows_in}
-use Rattle.prolly_line.proofs.fields.explain.Goals as goal
-
-pub returns-in-Some : goal.returns-in-Some
-returns-in-Some c = misfit_refused (codes "explain", rows_in c.args.given.now) c.fault.result
-    (inr (inr (inr (inr (inl (refl, c.in-Some.ensures.some)))))) c.fault.ensures

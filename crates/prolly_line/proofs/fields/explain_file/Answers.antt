@@ -1,4 +1,0 @@
-use Rattle.prolly_line.proofs.fields.explain_file.Goals as goal
-
-pub text_of-requires : goal.text_of-requires
-text_of-requires c = c.requires.fit.file c.requires.none

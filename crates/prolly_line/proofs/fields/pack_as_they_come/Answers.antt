@@ -1,6 +1,0 @@
-use Rattle.prolly_line.proofs.Shapes.{takes_pack}
-use Rattle.prolly_line.specs.AcceptedWords.{rows_in}
-use Rattle.prolly_line.proofs.fields.pack_as_they_come.Goals as goal
-
-pub text_of-requires : goal.text_of-requires
-text_of-requires c = (takes_pack (rows_in c.args.given.now) c.requires.accepted).out

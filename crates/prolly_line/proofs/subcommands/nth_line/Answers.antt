@@ -1,5 +1,0 @@
--- The number is what is sought.
-use Rattle.prolly_line.proofs.subcommands.nth_line.Goals as goal
-
-pub returns : goal.returns
-returns c = c.look_up_line.ensures _ c.n_word.ensures

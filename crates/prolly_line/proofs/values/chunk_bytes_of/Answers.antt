@@ -1,5 +1,0 @@
-use Rattle.std.proofs.Common.{arith}
-use Rattle.prolly_line.proofs.values.chunk_bytes_of.Goals as goal
-
-pub returns : goal.returns
-returns c = c.optional_number_of.ensures 1 1073741824 (omega arith) c.requires

@@ -1,0 +1,124 @@
+//! `get`: its line, and what it asks.
+ghost use Rattle.std.specs.Prelude.{IfOk, codes};
+ghost use Rattle.prolly_line.specs.AcceptedWords.{Answers, AnswersFitting, DoesKeyFit, HasWord};
+ghost use Rattle.prolly_line.specs.AcceptedWords.{IsAccepted, rows_in};
+ghost use Rattle.prolly_line.specs.GivenCommand.{HasNone};
+ghost use Rattle.prolly_line.specs.Line.{get_line};
+ghost use Rattle.prolly_line.specs.LocalArgs.{HasCommandLine};
+
+use crate::arguments;
+use crate::assembly::{Line, described_as, with_argument};
+use crate::command::{Command, ParseFault};
+use crate::commands::groups::{CHUNK_FILE, with_trust};
+use crate::commands::look_up::trusted_key;
+use crate::help::Help;
+use crate::misfit::Misfit;
+use crate::values::{flag_of, is_given, notation_of, text_of, trust_of};
+use clap::ArgMatches;
+use std::alloc::Global;
+
+const HELP: Help<'static> = Help {
+    about: "Print the value of a key in a chunk file, or of many keys",
+    details: "Prints the value of one key in a chunk file, in hexadecimal. Where the file does
+not have the key, nothing is printed and the exit status is 1.
+
+With --keys there is no KEY among the words, and what is asked for are the keys
+of a file: a key in hexadecimal in each line, greater than the one before it. A
+line is printed for each of them, in their order: HEXKEY HEXVALUE, or HEXKEY
+alone where there is no value. The exit status is 0 also where none has one. A
+line that is no key, or whose key is not greater, is told with its number,
+counted from 0, and nothing else is done; the exit status is then 3.
+
+With --text keys are taken and values shown as text, with the escapes of
+`pack --text`, and a key and its value are separated by a tab.
+
+With --raw the value's bytes are printed and nothing else, no newline either.
+Then --text says only how KEY is written. --keys is refused beside it.
+
+Without --root the whole file is checked first, as by `check`: a longer file
+takes longer, none over 1 GiB is read, and --format is ignored. With --root
+only what is needed is read: the lengths and levels of the frames, and one chunk
+a level, each compared with the reference above it, from ROOT down. So what is
+printed is right for ROOT, whatever else the file holds; a chunk that does not
+fit is refused.",
+    example: "Examples: the value of the key of one byte, 61, the same as it is, and what
+there is at each key of a file
+  prolly get ab.prl 61
+  prolly get --raw ab.prl 61 > value
+  prolly get --keys keys.txt ab.prl",
+};
+
+const USAGE: &str = "prolly get [OPTIONS] <FILE> <KEY>
+       prolly get [OPTIONS] --keys <FILE> <FILE>";
+
+// What `[KEY]` says where many keys may stand in its place.
+const KEY_OR_KEYS: &str = "The key in hexadecimal, two digits a byte, or with --text as text; at \
+     most 1,024 bytes. With --keys it is left out";
+
+// What `--text` says where keys are taken and their values are printed.
+const KEYS_AND_VALUES: &str = "Take keys and print values as text in place of hexadecimal";
+
+/// `get [--text] [--raw] [--root ROOT] [--format V] [--keys FILE] FILE [KEY]`
+pub(crate) fn get_line<'a>(alloc: Global) -> Line<'a>
+    ensures { IfOk result (HasCommandLine get_line) }
+{
+    let text = arguments::text_flag(alloc, KEYS_AND_VALUES);
+    let line = described_as(alloc, "get", USAGE, HELP).arg(text);
+    let line = with_trust(alloc, with_argument(line, arguments::raw_flag(alloc)));
+    let line = with_argument(line, arguments::keys_option(alloc));
+    let line = with_argument(line, arguments::file_word(alloc, CHUNK_FILE));
+    with_argument(line, arguments::optional_key_word(alloc, KEY_OR_KEYS))
+}
+
+/// What `get` asks, from what clap found.
+pub(crate) fn get(alloc: Global, given: &ArgMatches<'_>) -> Result<Command, ParseFault>
+    requires { IsAccepted (codes "get", rows_in given.now) }
+    ensures { Answers (codes "get", rows_in given.now) result }
+{
+    match Misfit::of_key(given) {
+        Some(misfit) => Err(misfit.fault(alloc, get_line(alloc))),
+        None if is_given(given, "keys") => get_keys(alloc, given),
+        None => get_one(alloc, given),
+    }
+}
+
+// The same of many keys, where the words fit.
+fn get_keys(alloc: Global, given: &ArgMatches<'_>) -> Result<Command, ParseFault>
+    requires accepted { IsAccepted (codes "get", rows_in given.now) }
+    requires fit { DoesKeyFit (rows_in given.now) }
+    requires keys { HasWord (codes "keys") (rows_in given.now) }
+    ensures { AnswersFitting (codes "get", rows_in given.now) result }
+{
+    let notation = notation_of(given);
+    let (root, version) = trust_of(given)?;
+    let file = text_of(alloc, given, "file")?;
+    let keys = text_of(alloc, given, "keys")?;
+    Ok(Command::GetKeys {
+        file,
+        keys,
+        root,
+        version,
+        notation,
+    })
+}
+
+// The same of one key.
+fn get_one(alloc: Global, given: &ArgMatches<'_>) -> Result<Command, ParseFault>
+    requires accepted { IsAccepted (codes "get", rows_in given.now) }
+    requires fit { DoesKeyFit (rows_in given.now) }
+    requires none { HasNone (codes "keys") (rows_in given.now) }
+    ensures { AnswersFitting (codes "get", rows_in given.now) result }
+{
+    let notation = notation_of(given);
+    let (root, version, key) = trusted_key(alloc, given, notation)?;
+    let file = text_of(alloc, given, "file")?;
+    let raw = flag_of(given, "raw");
+    Ok(Command::Get {
+        file,
+        key,
+        root,
+        version,
+        notation,
+        raw,
+    })
+}

@@ -1,0 +1,114 @@
+//! `prove`: its line, and what it asks.
+ghost use Rattle.std.specs.Prelude.{IfOk, codes, true};
+ghost use Rattle.prolly_line.specs.AcceptedWords.{Answers, AnswersFitting, DoFit, IsAccepted};
+ghost use Rattle.prolly_line.specs.AcceptedWords.{rows_in};
+ghost use Rattle.prolly_line.specs.Line.{prove_line};
+ghost use Rattle.prolly_line.specs.LocalArgs.{HasCommandLine};
+
+use crate::arguments;
+use crate::assembly::{Line, described_as, with_argument};
+use crate::command::{Command, ParseFault};
+use crate::commands::groups::{
+    ALWAYS_ASIDE, CHUNK_FILE, KEY_OR_SET, with_mode, with_range, with_trust,
+};
+use crate::help::Help;
+use crate::misfit::Misfit;
+use crate::values::{mode_of, notation_of, place_of_last, sought_of, text_of, trust_of};
+use clap::ArgMatches;
+use std::alloc::Global;
+
+const HELP: Help<'static> = Help {
+    about: "Write a proof of what a chunk file has at a key, in a range, or at many keys",
+    details: "Writes a proof of what FILE has at the key: its value, or that it has none. The
+proof is the chunks of FILE from the root down to the one at which the look-up
+of the key ends. Whoever knows the root of FILE can check it by `verify`,
+without FILE.
+
+With --from there is no KEY among the words, and the proof is one of a range: of
+all pairs whose key is not less than that of --from, and less than that of --to,
+and that there are no others. Without --to the range has no end. Keys are
+compared byte by byte. The proof is the chunks that have such keys, and those
+above them, each once.
+
+With --keys there is no KEY either, and the proof is one of what FILE has at
+each of the keys of a file, as `get` reads them: a key in each line, greater
+than the one before it. Each chunk is in it once, however many keys meet it.
+
+With --text keys are taken as text, with the escapes of `pack --text`.
+
+Without --root the whole file is checked first, as by `check`: a longer file
+takes longer, none over 1 GiB is read, and --format is ignored. With --root
+only what is needed is read: the lengths and levels of the frames, and the
+chunks of the proof, each compared with the reference above it, from ROOT down.
+So what is written is a proof for ROOT, whatever else the file holds; a chunk
+that does not fit is refused.
+
+Nothing is printed. The exit status is 0 also where FILE does not have the key,
+or has no pair in the range, or at the keys. It is 3 where a line of the file of
+keys is refused.
+
+OUT is replaced once the proof is whole: after a fault it is as it was. An OUT
+that has bytes and does not begin as a proof does is refused, unless --force is
+given.",
+    example: "Examples: a proof of what ab.prl has at the key of one byte, 61, and one of all
+that it has from there on before the key 63
+  prolly prove ab.prl 61 61.proof
+  prolly prove --from 61 --to 63 ab.prl range.proof",
+};
+
+const USAGE: &str = "prolly prove [OPTIONS] <FILE> <KEY> <OUT>
+       prolly prove [OPTIONS] --from <KEY> [--to <KEY>] <FILE> <OUT>
+       prolly prove [OPTIONS] --keys <FILE> <FILE> <OUT>";
+
+/// `prove [--text] [--root ROOT] [--format V] [--from KEY] [--to KEY] [--keys FILE] [--atomic]
+/// [--sync] [--force] FILE [KEY] [OUT]`
+///
+/// Where `--from` or `--keys` is given, the word behind FILE is OUT, and there is no third one.
+pub(crate) fn prove_line<'a>(alloc: Global) -> Line<'a>
+    ensures { IfOk result (HasCommandLine prove_line) }
+{
+    let text = arguments::text_flag(alloc, "Take keys as text in place of hexadecimal");
+    let line = described_as(alloc, "prove", USAGE, HELP).arg(text);
+    let line = with_range(alloc, with_trust(alloc, line));
+    let line = with_mode(alloc, line, ALWAYS_ASIDE);
+    let line = with_argument(line, arguments::file_word(alloc, CHUNK_FILE));
+    let line = with_argument(line, arguments::optional_key_word(alloc, KEY_OR_SET));
+    with_argument(
+        line,
+        arguments::optional_out_word(alloc, "The proof to make"),
+    )
+}
+
+/// What `prove` asks, from what clap found.
+pub(crate) fn prove(alloc: Global, given: &ArgMatches<'_>) -> Result<Command, ParseFault>
+    requires { IsAccepted (codes "prove", rows_in given.now) }
+    ensures { Answers (codes "prove", rows_in given.now) result }
+{
+    match Misfit::of(given, "out", true) {
+        Some(misfit) => Err(misfit.fault(alloc, prove_line(alloc))),
+        None => fitting_prove(alloc, given),
+    }
+}
+
+// The same, where the words fit.
+fn fitting_prove(alloc: Global, given: &ArgMatches<'_>) -> Result<Command, ParseFault>
+    requires accepted { IsAccepted (codes "prove", rows_in given.now) }
+    requires fit { DoFit (codes "out") true (rows_in given.now) }
+    ensures { AnswersFitting (codes "prove", rows_in given.now) result }
+{
+    let notation = notation_of(given);
+    let (root, version) = trust_of(given)?;
+    let sought = sought_of(alloc, given, notation)?;
+    let file = text_of(alloc, given, "file")?;
+    let out = text_of(alloc, given, place_of_last(&sought, "out"))?;
+    let mode = mode_of(given);
+    Ok(Command::Prove {
+        file,
+        sought,
+        root,
+        version,
+        out,
+        notation,
+        mode,
+    })
+}

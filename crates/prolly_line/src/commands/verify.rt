@@ -1,0 +1,119 @@
+//! `verify`: its line, and what it asks.
+ghost use Rattle.std.specs.Prelude.{IfOk, codes, false};
+ghost use Rattle.prolly_line.specs.AcceptedWords.{Answers, AnswersFitting, DoFit, IsAccepted};
+ghost use Rattle.prolly_line.specs.AcceptedWords.{rows_in};
+ghost use Rattle.prolly_line.specs.Line.{verify_line};
+ghost use Rattle.prolly_line.specs.LocalArgs.{HasCommandLine};
+
+use crate::arguments;
+use crate::assembly::{Line, described_as, with_argument};
+use crate::command::{Command, ParseFault};
+use crate::commands::groups::{KEY_OR_SET, with_range};
+use crate::help::Help;
+use crate::misfit::Misfit;
+use crate::values::{byte_of, notation_of, option_of, place_of_last, root_of, sought_of};
+use clap::ArgMatches;
+use std::alloc::Global;
+
+const HELP: Help<'static> = Help {
+    about: "Say what a proof shows of a key, of a range, or of many keys, by the root alone",
+    details: "Says what a proof shows of a key to whoever knows ROOT, the root of a tree, as
+`scratch`, `build` and `check` print it. The proof is one that `prove` has made.
+It may come from anywhere: where it is taken, the tree of that root has what is
+printed at the key, or two different chunks have one SHA-512 prefix, which
+nobody has seen yet.
+
+With --from there is no KEY among the words, and the proof is one of a range: of
+all pairs whose key is not less than that of --from, and less than that of --to,
+or without --to of all from there on. They are printed as `scan` prints them,
+each line HEXKEY HEXVALUE, those of a chunk once it was compared with the
+reference above it. So what is printed is right for ROOT. Only the exit status
+tells that it is all, once the proof was read to its end.
+
+With --keys there is no KEY either, and the proof is one of the keys of a file,
+which is the one that `prove` was given. A line is printed for each key, as
+`get` prints it: HEXKEY HEXVALUE, or HEXKEY alone where there is no value. The
+line of a key with a value is printed once its chunk was compared; that of one
+without, with the next one that has a value, or at the end. So what is printed
+is right for ROOT, and the exit status tells whether it is all.
+
+The proof is read from PROOF, or from standard input where PROOF is not given.
+A proof of a range, or of many keys, may be of any size.
+
+With --text keys are taken, and what is shown is printed, as text, with the
+escapes of `pack --text`.
+
+The exit status is
+  0  where the key has a value, which is printed in hexadecimal, or where all
+     pairs of the range were printed, also where there are none, or a line for
+     each key of a file
+  1  where the key has none; nothing is printed
+  2  where a word is not understood, as where ROOT is not the text of a root
+  3  where a line of the file of keys is refused
+  4  where the proof is refused; a line names the first fault of it
+  5  where the proof cannot be read, or the answer cannot be printed
+  6  where memory was refused, or a chunk of the proof has more than 1 GiB",
+    example: "Examples: what the tree of a root has at the key of one byte, 61, and all that
+it has from there on before the key 63
+  prolly verify \
+    nu05v9k058pmjdu7s5312ho13geggue6 61 61.proof
+  prolly verify --from 61 --to 63 \
+    nu05v9k058pmjdu7s5312ho13geggue6 range.proof",
+};
+
+const USAGE: &str = "prolly verify [OPTIONS] <ROOT> <KEY> [PROOF]
+       prolly verify [OPTIONS] --from <KEY> [--to <KEY>] <ROOT> [PROOF]
+       prolly verify [OPTIONS] --keys <FILE> <ROOT> [PROOF]";
+
+/// `verify [--text] [--format V] [--from KEY] [--to KEY] [--keys FILE] ROOT [KEY] [PROOF]`
+///
+/// Where `--from` or `--keys` is given, the word behind ROOT is PROOF, and there is no third one.
+pub(crate) fn verify_line<'a>(alloc: Global) -> Line<'a>
+    ensures { IfOk result (HasCommandLine verify_line) }
+{
+    let format = arguments::format_option(
+        alloc,
+        "The version of the tree's chunks (1 or 2). It is not read off the proof, which could lie",
+    );
+    let text = arguments::text_flag(
+        alloc,
+        "Take keys and print what is shown as text in place of hexadecimal",
+    );
+    let line = described_as(alloc, "verify", USAGE, HELP).arg(text);
+    let line = with_argument(line, format);
+    let line = with_range(alloc, line);
+    let line = with_argument(line, arguments::root_word(alloc));
+    let line = with_argument(line, arguments::optional_key_word(alloc, KEY_OR_SET));
+    with_argument(line, arguments::proof_word(alloc))
+}
+
+/// What `verify` asks, from what clap found.
+pub(crate) fn verify(alloc: Global, given: &ArgMatches<'_>) -> Result<Command, ParseFault>
+    requires { IsAccepted (codes "verify", rows_in given.now) }
+    ensures { Answers (codes "verify", rows_in given.now) result }
+{
+    match Misfit::of(given, "proof", false) {
+        Some(misfit) => Err(misfit.fault(alloc, verify_line(alloc))),
+        None => fitting_verify(alloc, given),
+    }
+}
+
+// The same, where the words fit.
+fn fitting_verify(alloc: Global, given: &ArgMatches<'_>) -> Result<Command, ParseFault>
+    requires accepted { IsAccepted (codes "verify", rows_in given.now) }
+    requires fit { DoFit (codes "proof") false (rows_in given.now) }
+    ensures { AnswersFitting (codes "verify", rows_in given.now) result }
+{
+    let notation = notation_of(given);
+    let root = root_of(given, "root")?;
+    let sought = sought_of(alloc, given, notation)?;
+    let version = byte_of(given, "format");
+    let proof = option_of(alloc, given, place_of_last(&sought, "proof"))?;
+    Ok(Command::Verify {
+        root,
+        sought,
+        version,
+        proof,
+        notation,
+    })
+}
