@@ -133,7 +133,7 @@ def words():
         Case("apply: OUT is OLD", ["apply", "--root", root, "old.prl", "old.prl", "0.rec"], status=5, err=b"prolly: OUT is also an input: old.prl\n", before=laid),
         Case("apply: OUT is among the changes", ["apply", "--root", root, "old.prl", "0.rec", "0.rec"], status=5, err=b"prolly: OUT is also an input: 0.rec\n", before=laid),
         Case("apply: OUT is left out", ["apply", "--root", root, "old.prl", "0.rec"], status=5, err=b"prolly: OUT is not a chunk file: 0.rec\n", before=laid),
-        Case("apply: no changes, and OUT has bytes", ["apply", "--root", root, "old.prl", "out.prl"], status=5, err=b"prolly: OUT is not empty, and no FILES are given: out.prl\n", before=laid | {"out.prl": kind.content}),
+        Case("apply: no changes, and OUT has bytes", ["apply", "--root", root, "old.prl", "out.prl"], status=5, err=b"prolly: OUT is not empty, and no files are named after it: out.prl\n", before=laid | {"out.prl": kind.content}),
         Case("apply: to a full device", ["apply", "--root", root, "old.prl", "/dev/full", "0.rec"], status=5, err=b"prolly: write failed\n", before=laid),
     ]
     pairs = overlay([kind.pairs, [(b"b", b"2")]])

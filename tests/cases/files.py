@@ -153,7 +153,7 @@ def is_printed_to_itself(place, words):
     place.lay(in_prl=TREE, old_prl=OLD_TREE)
     with open(place.path("in.prl"), "ab") as stdout:
         answer = place.run(*words, stdout=stdout)
-    place.answers(answer, refusal(b"OUT is also an input: in.prl"))
+    place.answers(answer, refusal(b"standard output is also an input: in.prl"))
     place.holds(in_prl=TREE, old_prl=OLD_TREE)
 
 
@@ -162,7 +162,7 @@ def is_printed_to_its_input(place, words):
     place.lay(table=TEXT)
     with open(place.path("table"), "rb") as stdin, open(place.path("table"), "ab") as stdout:
         answer = place.run(*words, stdin=stdin, stdout=stdout)
-    place.answers(answer, refusal(b"OUT is also an input: standard input"))
+    place.answers(answer, refusal(b"standard output is also an input: standard input"))
     place.holds(table=TEXT)
 
 
@@ -172,7 +172,7 @@ def keys_are_printed_to(place, words):
     place.lay(in_prl=TREE, keys=keys, proof=PROOF)
     with open(place.path("keys"), "ab") as stdout:
         answer = place.run(*words, stdout=stdout)
-    place.answers(answer, refusal(b"OUT is also an input: keys"))
+    place.answers(answer, refusal(b"standard output is also an input: keys"))
     place.holds(in_prl=TREE, keys=keys, proof=PROOF)
 
 

@@ -122,8 +122,8 @@ def has_no_files(place):
     """A build of no files makes the empty tree in a new file or an empty one, and writes over nothing."""
     place.lay(a_rec=records(ABC), old_prl=OLD_FILES["chunk file"], none=b"")
     place.answers(place.run("build", "a.rec"), refusal(b"OUT is not a chunk file: a.rec"))
-    place.answers(place.run("build", "old.prl"), refusal(b"OUT is not empty, and no FILES are given: old.prl"))
-    place.answers(place.run("build", "--atomic", "old.prl"), refusal(b"OUT is not empty, and no FILES are given: old.prl"))
+    place.answers(place.run("build", "old.prl"), refusal(b"OUT is not empty, and no files are named after it: old.prl"))
+    place.answers(place.run("build", "--atomic", "old.prl"), refusal(b"OUT is not empty, and no files are named after it: old.prl"))
     place.holds(a_rec=records(ABC), old_prl=OLD_FILES["chunk file"], none=b"")
     for name in ("none", "new"):
         place.answers(place.run("build", name), (0, report([], 12), b""))

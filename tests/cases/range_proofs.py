@@ -310,7 +310,7 @@ def is_no_input(asked):
     words = f"verify --format {asked.version} --from 61 {asked.root}"
     for redirected, name in ((f"{words} p >> p", "p"), (f"{words} < p >> p", "standard input")):
         told = asked.run_in_shell(redirected)
-        asked.wants(redirected, told, (5, b"", f"prolly: OUT is also an input: {name}\n".encode()))
+        asked.wants(redirected, told, (5, b"", f"prolly: standard output is also an input: {name}\n".encode()))
         asked.wants(f"p behind {redirected}", path.read_bytes(), proof)
 
 

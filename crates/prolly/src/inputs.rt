@@ -1,5 +1,5 @@
 //! The files that a command reads.
-use crate::file_id::Found;
+use crate::found::Found;
 use crate::refusal::Refusal;
 use crate::streams::Stream;
 use prolly_answer::{Fault, INPUT_LIMIT, NameFault};
@@ -38,7 +38,7 @@ impl Input {
         };
         let found = Found::of(&metadata);
         if found.is_same(output) || found.is_same(Stream::Output.seen(rt)) {
-            return Err(Refusal::of_name(rt, NameFault::IsInput, name));
+            return Err(Refusal::of_name(rt, fault_of_written(rt, found), name));
         }
         Ok(Input { file, found })
     }
@@ -99,7 +99,7 @@ impl Input {
 /// Refuses a standard input that is the file to which is printed.
 pub fn refuse_printed_input(rt: &HostRuntime) -> Result<(), Refusal> {
     if Stream::Input.seen(rt).is_same(Stream::Output.seen(rt)) {
-        return Err(Refusal::of_name(rt, NameFault::IsInput, Stream::Input.name()));
+        return Err(Refusal::of_name(rt, NameFault::IsPrintedTo, Stream::Input.name()));
     }
     Ok(())
 }
@@ -110,12 +110,21 @@ fn refuse_output_pipe(rt: &HostRuntime, name: &str, output: Found) -> Result<(),
     if let Found::Pipe(_) = output {
         match Found::at(rt, name) {
             Ok(found) if found.is_same_pipe(output) => {
-                return Err(Refusal::of_name(rt, NameFault::IsInput, name));
+                return Err(Refusal::of_name(rt, fault_of_written(rt, found), name));
             }
             _ => {}
         }
     }
     Ok(())
+}
+
+/// How it is told that this is read and written, too: as standard output, if it is that.
+fn fault_of_written(rt: &HostRuntime, found: Found) -> NameFault {
+    if found.is_same(Stream::Output.seen(rt)) {
+        NameFault::IsPrintedTo
+    } else {
+        NameFault::IsInput
+    }
 }
 
 /// Refuses a pipe that is one of the inputs that were named before: it gives its bytes once.

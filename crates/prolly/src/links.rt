@@ -1,5 +1,5 @@
 //! Where a name leads.
-use crate::file_id::Found;
+use crate::found::Found;
 use crate::refusal::Refusal;
 use prolly_answer::NameFault;
 use std::io::ErrorKind;

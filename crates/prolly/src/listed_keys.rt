@@ -1,5 +1,5 @@
 //! The keys of a file of keys.
-use crate::file_id::Found;
+use crate::found::Found;
 use crate::inputs::Input;
 use crate::refusal::Refusal;
 use prolly_answer::{Fault, Notation, read_keys};

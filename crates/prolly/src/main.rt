@@ -4,7 +4,7 @@
 
 mod access;
 mod commands;
-mod file_id;
+mod found;
 mod host;
 mod inputs;
 mod known_root;

@@ -1,5 +1,5 @@
 //! The tree that the words name.
-use crate::file_id::Found;
+use crate::found::Found;
 use crate::inputs::{Chunks, Input, refuse_read_twice};
 use crate::known_root::KnownRoot;
 use crate::refusal::Refusal;

@@ -1,6 +1,6 @@
 //! The file that a command writes.
 use crate::access::Access;
-use crate::file_id::Found;
+use crate::found::Found;
 use crate::place::{Place, Replaced, Replacement};
 use crate::refusal::Refusal;
 use crate::target::Target;

@@ -1,6 +1,6 @@
 //! Where the file of an output stands, and how it is opened or made.
 use crate::access::Access;
-use crate::file_id::Found;
+use crate::found::Found;
 use crate::links::path_behind;
 use crate::output_kind::OutputKind;
 use crate::refusal::Refusal;

@@ -1,7 +1,7 @@
 //! The files in which sorted runs wait: beside the output, as long as they have a name.
 ghost use Rattle.std.specs.Prelude.{false};
 
-use crate::file_id::Found;
+use crate::found::Found;
 use crate::output::Output;
 use crate::place::Replaced;
 use crate::refusal::Refusal;

@@ -1,5 +1,5 @@
 //! What standard input and standard output are.
-use crate::file_id::Found;
+use crate::found::Found;
 use crate::refusal::Refusal;
 use prolly_answer::NameFault;
 use std::fs;

@@ -1,6 +1,6 @@
 //! The output that the words name, before it is opened.
 use crate::access::Access;
-use crate::file_id::Found;
+use crate::found::Found;
 use crate::output_kind::{LookFault, OutputKind};
 use crate::refusal::Refusal;
 use crate::streams::Stream;

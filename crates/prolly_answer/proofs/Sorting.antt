@@ -13,7 +13,7 @@ use Rattle.prolly_sort.specs.Run.{AreDoubled}
 use Rattle.prolly_sort.specs.declared.fault.SorterFault.{SorterFault}
 use Rattle.prolly_sort.specs.declared.fault.SorterFault.TheVariants as sorters
 use Rattle.prolly_answer.specs.Faults.{of_read_lines, of_sorter}
-use Rattle.prolly_answer.specs.SortedPack.{IsSortingFault, IsTooLongAt}
+use Rattle.prolly_answer.specs.SortedPack.{IsSortingFault}
 
 -- A text of some bytes has a first line.
 in_some_line : (b : ℕ) (lines : List (List ℕ)) → 1 ≤ length (in_front b lines)
@@ -34,17 +34,17 @@ over_most all done rest number a r n m = omega arith
 
 -- The fault of the next line is one of the text, where no read failed but for a read that is told.
 pub fault_of_text : (form : LineForm) (text rest : List ℕ) (records : List Record) (number : ℕ)
-    (fault : ReadLinesFault) (unique : Bool) (has_failed : Type 0) →
+    (fault : ReadLinesFault) (unique : Bool) (has_failed : Type 0) (keeps : Bool) →
     HaveComeOf form text rest records number →
     IsReadLinesFault form number rest fault →
     (fault ≡ faults.Read → has_failed) → (fault ≢ faults.Read → ¬ has_failed) →
-    IsSortingFault form unique text has_failed (of_read_lines fault)
-fault_of_text form text rest records number faults.Read unique has_failed h k read unread = read refl
-fault_of_text form text rest records number (faults.Line fault) unique has_failed h k read unread = (
+    IsSortingFault form unique text has_failed keeps (of_read_lines fault)
+fault_of_text form text rest records number faults.Read unique has_failed keeps h k read unread = read refl
+fault_of_text form text rest records number (faults.Line fault) unique has_failed keeps h k read unread = (
   unread (λ e. cc),
   line_is_first_wrong form text rest k.line k.after records number fault h k.whole k.wrong,
 )
-fault_of_text form text rest records number (faults.LineTooLong line) unique has_failed h k read unread = (
+fault_of_text form text rest records number (faults.LineTooLong line) unique has_failed keeps h k read unread = (
   unread (λ e. cc),
   record {
     before = h.done;
@@ -57,7 +57,7 @@ fault_of_text form text rest records number (faults.LineTooLong line) unique has
     over = k.1.over;
   },
 )
-fault_of_text form text rest records number faults.TooManyLines unique has_failed h k read unread =
+fault_of_text form text rest records number faults.TooManyLines unique has_failed keeps h k read unread =
     let some = has_line rest k.1 in
     let all = ap length h.whole ∙ length-append h.done (lines_of rest) in (
       unread (λ e. cc),
@@ -68,24 +68,24 @@ fault_of_text form text rest records number faults.TooManyLines unique has_faile
 -- The fault of a sorter to which the records of the first lines came is one of the text, where no
 -- read failed.
 pub fault_of_sorter : (form : LineForm) (text rest : List ℕ) (records : List Record) (number : ℕ)
-    (fault : SorterFault) (unique : Bool) (has_failed : Type 0) →
+    (fault : SorterFault) (unique : Bool) (has_failed : Type 0) (keeps : Bool) →
     HaveComeOf form text rest records number → ¬ has_failed →
     ((first second : ℕ) → fault ≡ sorters.Doubled first second →
-    (unique ≡ true) × AreDoubled records first second) →
-    IsSortingFault form unique text has_failed (of_sorter fault)
-fault_of_sorter form text rest records number (sorters.Store fault) unique has_failed h unfailed told =
-    unfailed
-fault_of_sorter form text rest records number (sorters.Doubled first second) unique has_failed h
-    unfailed told =
+    (unique ≡ true) × (keeps ≡ true → AreDoubled records first second)) →
+    IsSortingFault form unique text has_failed keeps (of_sorter fault)
+fault_of_sorter form text rest records number (sorters.Store fault) unique has_failed keeps h
+    unfailed told = unfailed
+fault_of_sorter form text rest records number (sorters.Doubled first second) unique has_failed keeps
+    h unfailed told =
     let two = told first second refl in (
       unfailed,
       two.0,
-      record {
+      λ kept. record {
         before = h.done;
         after = lines_of rest;
         whole = h.whole;
         records = records;
         stand = h.stand;
-        doubled = two.1;
+        doubled = two.1 kept;
       },
     )

@@ -1,9 +1,8 @@
 -- What `pack` answers of lines in any order.
-use Rattle.std.specs.Prelude.{◌≡◌, ◌≢◌, ◌<◌, ◌≤◌, ◌^◌, ◌-◌, ℕ, Bool, true, false, List, ◌∷◌, ◌++◌, length}
+use Rattle.std.specs.Prelude.{◌≡◌, ◌<◌, ◌≤◌, ◌^◌, ℕ, Bool, true, false, List, ◌∷◌, ◌++◌, length}
 use Rattle.std.specs.Prelude.{Option, Some, None, Result, IfOk}
 use Rattle.std.specs.List.{AllZip}
 use Rattle.std.specs.Fmt.{decimal}
-use Rattle.std.specs.declared.alloc.AllocError.{AllocError}
 use Rattle.prolly_entry.specs.Record.{Record}
 use Rattle.prolly_file.specs.Sink.{IsSettled, SinkView}
 use Rattle.prolly_file.specs.Source.{SourceView}
@@ -18,7 +17,6 @@ use Rattle.prolly_text.specs.declared.lines.buffer.TheConstants.{LINE_LIMIT}
 use Rattle.prolly_text.specs.declared.lines.form.LineForm.{LineForm}
 use Rattle.prolly_answer.specs.Answers.{ShowsFault, ShowsLine}
 use Rattle.prolly_answer.specs.declared.answers.answer.Answer.{Answer}
-use Rattle.prolly_answer.specs.declared.answers.pack_sorted.SortedPack.{SortedPack}
 use Rattle.prolly_answer.specs.declared.faults.fault.Fault.{Fault}
 use Rattle.prolly_answer.specs.declared.faults.fault.Fault.TheVariants.{Memory, Read, Pack}
 use Rattle.prolly_answer.specs.declared.faults.fault.Fault.TheVariants.{LineTooLong, TooManyLines, Store}
@@ -47,21 +45,22 @@ pub record AreDoubledLines (form : LineForm) (text : List ℕ) (first second : �
   pub doubled : AreDoubled records first second
 
 -- The lines of a text are not put in order: a read failed; or none did, and the first line that
--- stands for no record is told, or there are more lines than can be numbered, or two lines have one
--- key where keys are to be unique, or a run can't wait or be merged, or memory was refused.
-abbrev pub IsSortingFault : LineForm → Bool → List ℕ → Type 0 → Fault → Type 0
-IsSortingFault form unique text has_failed Read = has_failed
-IsSortingFault form unique text has_failed Memory = ¬ has_failed
-IsSortingFault form unique text has_failed (Pack fault) =
+-- stands for no record is told, or there are more lines than can be numbered, or keys are to be
+-- unique and two lines have one key, or a run can't wait or be merged, or memory was refused. Which
+-- lines have one key is right if the store keeps what is written.
+abbrev pub IsSortingFault : LineForm → Bool → List ℕ → Type 0 → Bool → Fault → Type 0
+IsSortingFault form unique text has_failed keeps Read = has_failed
+IsSortingFault form unique text has_failed keeps Memory = ¬ has_failed
+IsSortingFault form unique text has_failed keeps (Pack fault) =
     ¬ has_failed × IsLinesFault form text fault
-IsSortingFault form unique text has_failed (LineTooLong line) =
+IsSortingFault form unique text has_failed keeps (LineTooLong line) =
     ¬ has_failed × IsTooLongAt form text line
-IsSortingFault form unique text has_failed TooManyLines =
+IsSortingFault form unique text has_failed keeps TooManyLines =
     ¬ has_failed × (2 ^ 64 ≤ length (lines_of text))
-IsSortingFault form unique text has_failed (DoubledKey first second) =
-    ¬ has_failed × (unique ≡ true) × AreDoubledLines form text first second
-IsSortingFault form unique text has_failed (Store fault) = ¬ has_failed
-IsSortingFault form unique text has_failed _ = ⊥
+IsSortingFault form unique text has_failed keeps (DoubledKey first second) =
+    ¬ has_failed × (unique ≡ true) × (keeps ≡ true → AreDoubledLines form text first second)
+IsSortingFault form unique text has_failed keeps (Store fault) = ¬ has_failed
+IsSortingFault form unique text has_failed keeps _ = ⊥
 
 -- Where the answer is yes, this holds.
 abbrev pub OnTrue : {E : Type 0} → Result Bool E → Type 0 → Type 0
@@ -71,35 +70,40 @@ OnTrue result P = IfOk result (λ more. more ≡ true → P)
 abbrev pub OnFalse : {E : Type 0} → Result Bool E → Type 0 → Type 0
 OnFalse result P = IfOk result (λ more. more ≡ false → P)
 
--- The records of the first lines of a text came to a sorter. Behind these lines is the rest: the
--- bytes in hand, and what the source has left.
+-- The records of the first lines of a text came to a sorter, if the store keeps what is written.
+-- Behind these lines is the rest: the bytes in hand, and what the source has left.
 pub record AreSortedSoFar {W B : Type 0} (written_to : W → SinkView) (read_back : B → SourceView)
-    (text : List ℕ) (lines : LinesInHand) (source : SourceView) (sorter : Sorter W B) : Type 0
-  where
-    pub honest : source.is_honest ≡ true
-    pub records : List Record
-    pub come : HaveComeOf lines.form text (lines.unparsed ++ source.left) records lines.number
-    pub sorted : CameTo written_to read_back sorter records
+    (text : List ℕ) (keeps : Bool) (lines : LinesInHand) (source : SourceView)
+    (sorter : Sorter W B) : Type 0 where
+  pub honest : source.is_honest ≡ true
+  pub records : List Record
+  pub come : HaveComeOf lines.form text (lines.unparsed ++ source.left) records lines.number
+  pub sorted : keeps ≡ true → CameTo written_to read_back sorter records
 
 module _ {W : Type 0} (seen : W → SinkView) where
-  -- The text was read whole, and each of its lines stands for a record. The file, which was
-  -- flushed, is the record file of what these come to, line after line; so many records these are.
-  -- Where keys are to be unique, no two lines have one key.
-  pub record SortsTo (form : LineForm) (unique : Bool) (text : List ℕ) (has_failed : Type 0)
-      (file : W) (len : ℕ) : Type 0 where
-    pub unfailed : ¬ has_failed
-    pub records : List Record
-    pub are : AreRecordsOf form text records
+  -- The file, which was flushed, is the record file of what these records come to, one after
+  -- another; so many records these are. Where keys are to be unique, no two of them have one key.
+  pub record IsSorted (unique : Bool) (records : List Record) (file : W) (len : ℕ) : Type 0 where
     pub keeping : (seen file).is_keeping ≡ true
     pub taken : (seen file).taken ≡ written (overlaid records)
     pub settled : IsSettled (seen file)
     pub len_is : len ≡ counted (overlaid records)
     pub apart : unique ≡ true → (first second : ℕ) → AreDoubled records first second → ⊥
 
+  -- The text was read whole, and each of its lines stands for a record. If the store keeps what is
+  -- written, the file is that of these records in order.
+  pub record SortsTo (form : LineForm) (unique : Bool) (text : List ℕ) (has_failed : Type 0)
+      (keeps : Bool) (file : W) (len : ℕ) : Type 0 where
+    pub unfailed : ¬ has_failed
+    pub records : List Record
+    pub are : AreRecordsOf form text records
+    pub sorted : keeps ≡ true → IsSorted unique records file len
+
   -- The number of records is shown, and the file is theirs; or the line of the fault is, and there
   -- is no file.
-  abbrev pub ShowsSorted : LineForm → Bool → List ℕ → Type 0 → Answer → Option W → Type 0
-  ShowsSorted form unique text has_failed answer (Some file) =
-      (len : ℕ) × SortsTo form unique text has_failed file len × ShowsLine answer (decimal len)
-  ShowsSorted form unique text has_failed answer None =
-      (fault : Fault) × IsSortingFault form unique text has_failed fault × ShowsFault answer fault
+  abbrev pub ShowsSorted :
+      LineForm → Bool → List ℕ → Type 0 → Bool → Answer → Option W → Type 0
+  ShowsSorted form unique text has_failed keeps answer (Some file) = (len : ℕ) ×
+      SortsTo form unique text has_failed keeps file len × ShowsLine answer (decimal len)
+  ShowsSorted form unique text has_failed keeps answer None = (fault : Fault) ×
+      IsSortingFault form unique text has_failed keeps fault × ShowsFault answer fault

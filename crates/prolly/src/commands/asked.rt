@@ -1,5 +1,5 @@
 //! What a proof is asked to show.
-use crate::file_id::Found;
+use crate::found::Found;
 use crate::listed_keys::ListedKeys;
 use crate::refusal::Refusal;
 use prolly_answer::{Fault, Notation, Sought};

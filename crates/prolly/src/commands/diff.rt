@@ -4,7 +4,7 @@ ghost use Rattle.prolly_line.specs.GivenCommand.{IsWithinLimits};
 ghost use Rattle.prolly.specs.Kinds.{IsDiff};
 
 use crate::commands::version_of;
-use crate::file_id::Found;
+use crate::found::Found;
 use crate::host::Host;
 use crate::inputs::{Chunks, Input, refuse_read_twice};
 use crate::output::Output;

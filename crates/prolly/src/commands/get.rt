@@ -3,7 +3,7 @@ ghost use Rattle.prolly_line.specs.GivenCommand.{IsWithinLimits};
 ghost use Rattle.prolly.specs.Kinds.{IsGet};
 
 use crate::commands::version_of;
-use crate::file_id::Found;
+use crate::found::Found;
 use crate::host::Host;
 use crate::inputs::Chunks;
 use crate::known_root::KnownRoot;

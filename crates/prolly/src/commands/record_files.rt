@@ -1,5 +1,5 @@
 //! The record files that become a tree.
-use crate::file_id::Found;
+use crate::found::Found;
 use crate::inputs::{Input, refuse_read_twice};
 use crate::output_kind::OutputKind;
 use crate::refusal::Refusal;

@@ -3,7 +3,7 @@ ghost use Rattle.prolly_line.specs.GivenCommand.{IsWithinLimits};
 ghost use Rattle.prolly.specs.Kinds.{IsScan};
 
 use crate::commands::version_of;
-use crate::file_id::Found;
+use crate::found::Found;
 use crate::host::Host;
 use crate::named_tree::{NamedTree, OpenTree};
 use crate::refusal::Refusal;

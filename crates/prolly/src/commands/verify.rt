@@ -4,7 +4,7 @@ ghost use Rattle.prolly.specs.Kinds.{IsVerify};
 
 use crate::commands::asked::{Asked, keys_sought};
 use crate::commands::version_of;
-use crate::file_id::Found;
+use crate::found::Found;
 use crate::inputs::{Input, refuse_printed_input, refuse_read_twice};
 use crate::known_root::KnownRoot;
 use crate::patient::{Patient, stdin_source};
@@ -95,7 +95,7 @@ impl Client<'_> {
             None => {
                 let (found, name) = (Stream::Input.found(rt)?, Stream::Input.name());
                 if printed.is_same(found) {
-                    return Err(Refusal::of_name(rt, NameFault::IsInput, name));
+                    return Err(Refusal::of_name(rt, NameFault::IsPrintedTo, name));
                 }
                 refuse_read_twice(rt, found, &[listed], name)?;
                 self.print_set(set, Patient::new(rt, rt.stdin()))

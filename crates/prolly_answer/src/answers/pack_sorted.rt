@@ -1,5 +1,5 @@
 //! The command `pack --sort`: a record file out of lines in any order.
-ghost use Rattle.std.specs.Prelude.{◌≡◌, ◌≢◌, ◌++◌, ◌<◌, ◌^◌, ℕ, List, [], true, None, IfOk, IfErr};
+ghost use Rattle.std.specs.Prelude.{◌≡◌, ◌≢◌, ◌++◌, ◌<◌, ◌^◌, ℕ, Bool, List, [], true, None, IfOk, IfErr};
 ghost use Rattle.std.specs.Prelude.{IsErrOf, OnOk};
 ghost use Rattle.prolly_sort.specs.Shelf.{CameTo, is_unique};
 ghost use Rattle.prolly_answer.specs.Answers.{ShowsFault};
@@ -39,9 +39,10 @@ pub fn answer_pack_sorted<S: Source, T: RunStore<W, B>, W: Sink + Drop, B: Sourc
     budget: u32,
     unique: bool,
 ) -> Result<SortedPack<W>, AllocError>
-    ensures shown { (S.seen source.old).is_honest ≡ true → T.keeps store.old ≡ true →
+    ensures shown { (S.seen source.old).is_honest ≡ true →
         IfOk result (λ done. ShowsSorted W.seen form unique (S.seen source.old).left
-        ((S.seen source.new).failures ≢ (S.seen source.old).failures) done.answer done.file) }
+        ((S.seen source.new).failures ≢ (S.seen source.old).failures) (T.keeps store.old)
+        done.answer done.file) }
     ensures read { (S.seen source.new).failures ≢ (S.seen source.old).failures →
         IfOk result (λ done. (done.file ≡ None) × ShowsFault done.answer Fault.Read) }
 {
@@ -88,12 +89,13 @@ fn sort_lines<S: Source, T: RunStore<W, B>, W: Sink + Drop, B: Source + Drop, R:
     mut sorter: Sorter<W, B>,
 ) -> Result<SortedFile<W>, Fault>
     requires { CameTo W.seen B.seen sorter [] }
-    ensures sorted { (S.seen source.old).is_honest ≡ true → T.keeps store.old ≡ true →
+    ensures sorted { (S.seen source.old).is_honest ≡ true →
         IfOk result (λ sorted. SortsTo W.seen form (is_unique sorter) (S.seen source.old).left
-        ((S.seen source.new).failures ≢ (S.seen source.old).failures) sorted.file sorted.len) }
-    ensures fault { (S.seen source.old).is_honest ≡ true → T.keeps store.old ≡ true →
+        ((S.seen source.new).failures ≢ (S.seen source.old).failures) (T.keeps store.old)
+        sorted.file sorted.len) }
+    ensures fault { (S.seen source.old).is_honest ≡ true →
         IfErr result (IsSortingFault form (is_unique sorter) (S.seen source.old).left
-        ((S.seen source.new).failures ≢ (S.seen source.old).failures)) }
+        ((S.seen source.new).failures ≢ (S.seen source.old).failures) (T.keeps store.old)) }
     ensures read { (S.seen source.new).failures ≢ (S.seen source.old).failures →
         IsErrOf result Fault.Read }
 {
@@ -116,17 +118,19 @@ fn take_line<S: Source, T: RunStore<W, B>, W: Sink + Drop, B: Source + Drop, R: 
     ensures next { OnTrue result (lines.old.number < lines.new.number) }
     ensures fits { lines.new.number < 2 ^ 64 }
     ensures keeps { T.keeps store.old ≡ true → T.keeps store.new ≡ true }
-    ensures taken { (text : List ℕ) → T.keeps store.old ≡ true →
-        AreSortedSoFar W.seen B.seen text lines.old (S.seen source.old) sorter.old →
-        IfOk result (λ _. AreSortedSoFar W.seen B.seen text lines.new (S.seen source.new)
+    ensures taken { (text : List ℕ) (keeps : Bool) →
+        (keeps ≡ true → T.keeps store.old ≡ true) →
+        AreSortedSoFar W.seen B.seen text keeps lines.old (S.seen source.old) sorter.old →
+        IfOk result (λ _. AreSortedSoFar W.seen B.seen text keeps lines.new (S.seen source.new)
         sorter.new) }
-    ensures all { (text : List ℕ) →
-        AreSortedSoFar W.seen B.seen text lines.old (S.seen source.old) sorter.old →
+    ensures all { (text : List ℕ) (keeps : Bool) →
+        AreSortedSoFar W.seen B.seen text keeps lines.old (S.seen source.old) sorter.old →
         OnFalse result (lines.new.unparsed ++ (S.seen source.new).left ≡ []) }
-    ensures fault { (text : List ℕ) → T.keeps store.old ≡ true →
-        AreSortedSoFar W.seen B.seen text lines.old (S.seen source.old) sorter.old →
+    ensures fault { (text : List ℕ) (keeps : Bool) →
+        (keeps ≡ true → T.keeps store.old ≡ true) →
+        AreSortedSoFar W.seen B.seen text keeps lines.old (S.seen source.old) sorter.old →
         IfErr result (IsSortingFault lines.old.form (is_unique sorter.old) text
-        ((S.seen source.new).failures ≢ (S.seen source.old).failures)) }
+        ((S.seen source.new).failures ≢ (S.seen source.old).failures) keeps) }
     ensures read { (S.seen source.new).failures ≢ (S.seen source.old).failures →
         IsErrOf result Fault.Read }
     ensures unfailed { OnOk result

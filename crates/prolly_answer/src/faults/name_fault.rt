@@ -12,6 +12,8 @@ pub enum NameFault {
     CannotReplace,
     /// The file is an input, over which the output would be written.
     IsInput,
+    /// The file is an input, and the one to which is printed.
+    IsPrintedTo,
     /// The file is a pipe that another word names, too. It gives its bytes once.
     IsReadTwice,
     /// A chunk file is to be written over a file that has bytes and is none. `--force` was not
@@ -41,12 +43,13 @@ impl NameFault {
             NameFault::CannotOpen => "cannot open ",
             NameFault::CannotReplace => "cannot replace ",
             NameFault::IsInput => "OUT is also an input: ",
+            NameFault::IsPrintedTo => "standard output is also an input: ",
             NameFault::IsReadTwice => "one pipe is two inputs: ",
             NameFault::NotChunkFile => "OUT is not a chunk file: ",
             NameFault::NotProof => "OUT is not a proof: ",
             NameFault::NotRecordFile => "OUT is not a record file: ",
             NameFault::NotLines => "OUT is not a file of lines: ",
-            NameFault::NotEmpty => "OUT is not empty, and no FILES are given: ",
+            NameFault::NotEmpty => "OUT is not empty, and no files are named after it: ",
             NameFault::IsBusy => "another run writes OUT: ",
         }
     }

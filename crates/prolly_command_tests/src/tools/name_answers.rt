@@ -1,10 +1,14 @@
-//! What is told of an output that holds something else.
+//! What is told of an output that is an input, or holds something else.
 use super::expect_answer;
 use prolly_answer::{Answer, NameFault};
 use std::test::Fail;
 
 /// What is wrong with the output, and the line that tells it.
 const LINES: &[(NameFault, &[u8])] = &[
+    (
+        NameFault::IsPrintedTo,
+        b"prolly: standard output is also an input: day one.rec\n",
+    ),
     (
         NameFault::NotChunkFile,
         b"prolly: OUT is not a chunk file: day one.rec\n",
@@ -23,7 +27,7 @@ const LINES: &[(NameFault, &[u8])] = &[
     ),
     (
         NameFault::NotEmpty,
-        b"prolly: OUT is not empty, and no FILES are given: day one.rec\n",
+        b"prolly: OUT is not empty, and no files are named after it: day one.rec\n",
     ),
     (
         NameFault::IsBusy,

@@ -122,6 +122,7 @@ fn told_of(alloc: Global, fault: NameFault, name: &str) -> Result<Answer, AllocE
         NameFault::CannotOpen
         | NameFault::CannotReplace
         | NameFault::IsInput
+        | NameFault::IsPrintedTo
         | NameFault::IsReadTwice
         | NameFault::NotChunkFile
         | NameFault::NotProof

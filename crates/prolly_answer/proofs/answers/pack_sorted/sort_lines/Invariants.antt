@@ -9,9 +9,9 @@ invariant-loop-lines g l = record {
   unique : is_unique l.sorter ≡ is_unique l.fn.sorter;
   failures : (g.S.Source.seen l.source).failures ≡ (g.S.Source.seen l.fn.source).failures;
   keeps : g.T.RunStore.keeps l.fn.store ≡ true → g.T.RunStore.keeps l.store ≡ true;
-  so_far : (g.S.Source.seen l.fn.source).is_honest ≡ true → g.T.RunStore.keeps l.fn.store ≡ true →
-      AreSortedSoFar g.W.Sink.seen g.B.Source.seen (g.S.Source.seen l.fn.source).left l.lines
-      (g.S.Source.seen l.source) l.sorter;
+  so_far : (g.S.Source.seen l.fn.source).is_honest ≡ true →
+      AreSortedSoFar g.W.Sink.seen g.B.Source.seen (g.S.Source.seen l.fn.source).left
+      (g.T.RunStore.keeps l.fn.store) l.lines (g.S.Source.seen l.source) l.sorter;
 }
 
 abbrev pub decreases-loop-lines : goal.decreases-loop-lines

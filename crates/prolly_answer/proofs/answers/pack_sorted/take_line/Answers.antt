@@ -12,31 +12,31 @@ same_fault : {T : Type 0} (r : Result T ReadLinesFault) (f e : ReadLinesFault) �
 same_fault r f e h k = cc
 
 pub returns-in_err-record-clause-fault : goal.returns-in_err-record-clause-fault
-returns-in_err-record-clause-fault g c = λ text keeps so.
+returns-in_err-record-clause-fault g c = λ text keeps kept so.
     let p = err_from_is_err_and c.from_residual.result c.from_residual.ensures.1 in
     let lines = c.args.lines.now in
     rw (p.1, p.2) (fault_of_text lines.form text
     (lines.unparsed ++ (g.S.Source.seen c.args.source.now).left) so.records lines.number
-    c.in_err-record.field-0.0 (is_unique c.args.sorter.now) _ so.come (c.in_err-record.ensures.given so.honest).0
+    c.in_err-record.field-0.0 (is_unique c.args.sorter.now) _ keeps so.come (c.in_err-record.ensures.given so.honest).0
     (λ read. c.in_err-record.ensures.read.0 (ap Err read))
     (λ other failed. other (same_fault _ _ _ refl (c.in_err-record.ensures.read.1 failed))))
 
 pub returns-in_err-push-clause-fault : goal.returns-in_err-push-clause-fault
-returns-in_err-push-clause-fault g c = λ text keeps so.
+returns-in_err-push-clause-fault g c = λ text keeps kept so.
     let p = err_from_is_err_and c.from_residual-in_err-push.result
     c.from_residual-in_err-push.ensures.1 in
     let lines = c.args.lines.now in
     rw (p.1, p.2) (fault_of_sorter lines.form text
     (lines.unparsed ++ (g.S.Source.seen c.args.source.now).left) so.records lines.number
-    c.in_err-push.field-0.0 (is_unique c.args.sorter.now) _ so.come
+    c.in_err-push.field-0.0 (is_unique c.args.sorter.now) _ keeps so.come
     (λ failed. failed c.in_ok-record.ensures.unfailed)
     (λ first second is. (
       c.in_err-push.ensures.unique first second (ap Err is),
-      c.in_err-push.ensures.doubled so.records first second (ap Err is) keeps so.sorted,
+      λ h. c.in_err-push.ensures.doubled so.records first second (ap Err is) (kept h) (so.sorted h),
     )))
 
 pub returns-clause-taken : goal.returns-clause-taken
-returns-clause-taken g c = λ text keeps so.
+returns-clause-taken g c = λ text keeps kept so.
     let lines = c.args.lines.now in
     let r = c.in-Some.record in
     let rest = lines.unparsed ++ (g.S.Source.seen c.args.source.now).left in
@@ -51,5 +51,5 @@ returns-clause-taken g c = λ text keeps so.
           (sym c.in_ok-record.ensures.form)
           (one_more_has_come lines.form text rest rest' gives.line so.records lines.number r so.come
           gives.whole gives.stands));
-      sorted = c.in_ok-push.ensures.came so.records keeps so.sorted;
+      sorted = λ h. c.in_ok-push.ensures.came so.records (kept h) (so.sorted h);
     }
