@@ -6,7 +6,7 @@
  *
  * Memory.  All memory is the caller's. Bytes and arrays are given as a pointer and a length. What a
  * look-up finds is a prolly_slice: a pointer into the caller's own bytes and a length. It is right as
- * long as these bytes stay where and as they are, and has not to be freed. The calls that need
+ * long as these bytes stay where and as they are, and need not be freed. The calls that need
  * memory of their own say so; they take it with malloc and give it back before they return.
  *
  * Pointers.  No pointer may be NULL, not even where its length is 0. A prolly_slice that is passed
@@ -16,9 +16,9 @@
  * Threads.  A call has no effect but on what it is given to write. So any number of calls may run at a
  * time over the same bytes and the same index, each with answers, and a cursor, of its own.
  *
- * Statuses.  Each call answers one of `enum prolly_status`. Where a call is not done, what it writes
- * answers into is as before, unless the call says otherwise. Where it is done, a buffer and an index are
- * as before behind what it tells that it wrote. prolly_error_text() has a text for each.
+ * Statuses.  Each call answers one of `enum prolly_status`, for which prolly_error_text() has a text.
+ * If a call is not done, the places for its answers stay as they were, unless the call says otherwise.
+ * If it is done, a buffer or an index stays as it was behind the part that the call says it wrote.
  *
  * What is promised is proved, of the library's source code, down to the definition of the map that a
  * file holds: see docs/proofs.md. */
@@ -38,7 +38,7 @@ enum prolly_status {
   PROLLY_DONE = 0,        /* it is done; a look-up found something */
   PROLLY_NONE = 1,        /* there is none */
   PROLLY_MEMORY = 2,      /* memory was refused */
-  PROLLY_NO_ROOM = 3,     /* the answer is longer than there is room for; its length is told */
+  PROLLY_NO_ROOM = 3,     /* no room for the answer; its length is told, but not by prolly_record */
   PROLLY_WRONG_INDEX = 4, /* the index or the cursor is not of these bytes */
   PROLLY_NO_FILE = 5,     /* the bytes are no chunk file (prolly_check tells why) */
   PROLLY_USAGE = 6,       /* a number is out of its range */
