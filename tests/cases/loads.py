@@ -281,7 +281,7 @@ def ended(program):
             process = subprocess.Popen(words, cwd=folder, preexec_fn=heeded(number), **pipes)
             process.stdin.write(b"1,2\n" * 100_000)
             process.stdin.flush()
-            for _ in range(100):
+            for _ in range(1_200):
                 if len(list(folder.iterdir())) > 1:
                     break
                 time.sleep(0.05)

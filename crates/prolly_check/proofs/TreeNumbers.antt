@@ -36,7 +36,7 @@ use Rattle.prolly_check.specs.Numbers.{IsAtPlace, IsLevel, at_level, AreLevels, 
 use Rattle.prolly_check.specs.Numbers.{has_reference, lacking, chunks_size}
 use Rattle.prolly_check.specs.Way.{level_of}
 use Rattle.prolly_check.specs.declared.chunks.Index.{Index}
-use Rattle.prolly_check.specs.declared.numbers.Level.{Level}
+use Rattle.prolly_chunk.specs.declared.level_stats.LevelStats.{LevelStats}
 use Rattle.prolly_check.specs.declared.numbers.Missing.{Missing}
 use Rattle.prolly_check.proofs.CheckedFile.{chunks_last}
 use Rattle.prolly_check.proofs.HeldPairs.{bytes_append, bytes_in}
@@ -236,7 +236,7 @@ size_within level chunks =
     omega arith
 
 -- the numbers of these sizes are those of the chunks
-pub is_level : (chunks : List (List ℕ)) (sorted : List ℕ) (level : Level) →
+pub is_level : (chunks : List (List ℕ)) (sorted : List ℕ) (level : LevelStats) →
     IsPermutation (map length chunks) sorted → IsNonDecreasing sorted → 0 < length sorted →
     level.chunks ≡ length sorted → level.bytes ≡ sum (map length chunks) →
     level.least ≡ get_or sorted 0 level.least →
@@ -354,13 +354,13 @@ is_tower chunks root top m last level =
 -- ---- level by level
 
 -- these are the levels up to a number
-pub record AreUpTo (chunks : List (List ℕ)) (number : ℕ) (levels : List Level) : Type 0 where
+pub record AreUpTo (chunks : List (List ℕ)) (number : ℕ) (levels : List LevelStats) : Type 0 where
   pub count : length levels ≡ number
-  pub are : (k : ℕ) (level : Level) → slice_get levels k ≡ Some level →
+  pub are : (k : ℕ) (level : LevelStats) → slice_get levels k ≡ Some level →
       IsLevel (at_level k chunks) level
 
-pub one_more : (chunks : List (List ℕ)) (number : ℕ) (levels new : List Level) (level : Level) →
-    new ≡ levels ++ level ∷ [] → AreUpTo chunks number levels →
+pub one_more : (chunks : List (List ℕ)) (number : ℕ) (levels new : List LevelStats)
+    (level : LevelStats) → new ≡ levels ++ level ∷ [] → AreUpTo chunks number levels →
     IsLevel (at_level number chunks) level → AreUpTo chunks (number + 1) new
 one_more chunks number levels new level e a is =
     subst (AreUpTo chunks (number + 1)) (sym e) (record {
@@ -368,7 +368,7 @@ one_more chunks number levels new level e a is =
       are = λ k found e. at k found e (cases_lt k (length levels));
     })
   where
-    at : (k : ℕ) (found : Level) → slice_get (levels ++ level ∷ []) k ≡ Some found →
+    at : (k : ℕ) (found : LevelStats) → slice_get (levels ++ level ∷ []) k ≡ Some found →
         (k < length levels) ⊎ (length levels ≤ k) → IsLevel (at_level k chunks) found
     at k found e (inl within) =
         a.are k found (sym (nth_front levels (level ∷ []) k within) ∙ e)
@@ -382,7 +382,7 @@ one_more chunks number levels new level e a is =
         subst (λ n. IsLevel (at_level n chunks) found) here
         (subst (IsLevel (at_level number chunks)) (one_same level found same) is)
 
-pub all_levels : (chunks : List (List ℕ)) (top : ℕ) (levels : List Level) → IsTower chunks top →
+pub all_levels : (chunks : List (List ℕ)) (top : ℕ) (levels : List LevelStats) → IsTower chunks top →
     AreUpTo chunks (top + 1) levels → AreLevels chunks levels
 all_levels chunks top levels tower a = record {
   are = a.are;

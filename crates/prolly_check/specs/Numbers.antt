@@ -7,7 +7,7 @@ use Rattle.prolly_entry.specs.Reference.{reference_of}
 use Rattle.prolly_check.specs.Chunks.{chunks_of}
 use Rattle.prolly_check.specs.Content.{Content}
 use Rattle.prolly_check.specs.Way.{level_of}
-use Rattle.prolly_check.specs.declared.numbers.Level.{Level}
+use Rattle.prolly_chunk.specs.declared.level_stats.LevelStats.{LevelStats}
 use Rattle.prolly_check.specs.declared.numbers.Missing.{Missing}
 
 -- Whether one of the chunks has the reference.
@@ -38,7 +38,7 @@ pub record IsAtPlace (sizes : List ℕ) (place n : ℕ) : Type 0 where
   pub upto : place < count_by (λ size. nat_le size n) sizes
 
 -- These are the numbers of the chunks, of which there are some.
-pub record IsLevel (chunks : List (List ℕ)) (level : Level) : Type 0 where
+pub record IsLevel (chunks : List (List ℕ)) (level : LevelStats) : Type 0 where
   pub some : 0 < length chunks
   pub chunks_are : level.chunks ≡ length chunks
   pub bytes_are : level.bytes ≡ chunks_size chunks
@@ -48,8 +48,8 @@ pub record IsLevel (chunks : List (List ℕ)) (level : Level) : Type 0 where
 
 -- Each of the levels is that of the chunks that are of the level of its number, counted from 0, and
 -- each chunk is of one of these levels.
-pub record AreLevels (chunks : List (List ℕ)) (levels : List Level) : Type 0 where
-  pub are : (number : ℕ) (level : Level) → slice_get levels number ≡ Some level →
+pub record AreLevels (chunks : List (List ℕ)) (levels : List LevelStats) : Type 0 where
+  pub are : (number : ℕ) (level : LevelStats) → slice_get levels number ≡ Some level →
       IsLevel (at_level number chunks) level
   pub all : AllByRecursion (λ c. level_of c < length levels) chunks
 

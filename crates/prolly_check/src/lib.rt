@@ -17,7 +17,8 @@ pub use look_up::{
     ChildSought, ChunkFlaw, Due, Leaves, Mark, Sought, Step, falls_to, first_pairs, pair_sought,
     rest_from, step_at, step_of, test_chunk, value_in,
 };
-pub use numbers::{Level, Missing};
+pub use numbers::Missing;
+pub use prolly_chunk::LevelStats;
 pub use report::{FileReport, check_bytes};
 pub use stream::{RootReport, StreamFault, check_by_root};
 pub use tree::{NoCounts, Tree};

@@ -7,25 +7,9 @@ ghost use Rattle.prolly_check.specs.Numbers.{lacking, chunks_size};
 
 use crate::chunks::{Chunks, Index};
 use crate::look_up::Leaves;
+use prolly_chunk::LevelStats;
 use prolly_entry::Ref;
 use std::alloc::{AllocError, Global};
-
-/// The chunks of one level of a tree, in numbers. The bytes are those of the chunks, without the
-/// frames that stand around them in a file.
-#[derive(Clone, Copy)]
-pub struct Level {
-    /// How many chunks the level has.
-    pub chunks: u64,
-    /// How many bytes they have together.
-    pub bytes: u64,
-    /// How many bytes the smallest chunk has.
-    pub least: u64,
-    /// How many bytes the chunk in the middle has, in the order of their sizes: of an even number
-    /// of chunks the upper one of the two.
-    pub middle: u64,
-    /// How many bytes the greatest chunk has.
-    pub greatest: u64,
-}
 
 /// The chunks of a tree whose references another tree lacks: what a replica that has the other one
 /// has to fetch.
@@ -64,7 +48,7 @@ pub(crate) fn size_in(chunks: &Chunks) -> u64
 
 /// The levels of the chunks of a file, from the leaves to the root, which is the last chunk.
 /// Takes memory for the sizes of one level's chunks at a time, and goes over the chunks for each.
-pub(crate) fn levels_in(alloc: Global, chunks: &Chunks) -> Result<Vec<Level>, AllocError>
+pub(crate) fn levels_in(alloc: Global, chunks: &Chunks) -> Result<Vec<LevelStats>, AllocError>
     requires tree { AreOfMap chunks.now }
     requires small { chunks_size chunks.now < 2 ^ 64 }
     ensures { IfOk result (λ levels. AreLevels chunks.now levels.items) }
@@ -93,7 +77,7 @@ fn sizes_at(alloc: Global, level: u8, chunks: &Chunks) -> Result<Vec<u64>, Alloc
 }
 
 /// The numbers of chunks that have these sizes. Takes time O(n log n).
-fn numbers_of(mut sizes: Vec<u64>) -> Level
+fn numbers_of(mut sizes: Vec<u64>) -> LevelStats
     requires some { 0 < length sizes.items }
     requires small { sum sizes.items < 2 ^ 64 }
     ensures { (chunks : List (List ℕ)) → map length chunks ≡ sizes.items → IsLevel chunks result }
@@ -101,7 +85,7 @@ fn numbers_of(mut sizes: Vec<u64>) -> Level
     let bytes = sizes.iter().sum();
     sizes.sort_unstable();
     let count = sizes.len();
-    Level {
+    LevelStats {
         chunks: count as u64,
         bytes,
         least: sizes[0],

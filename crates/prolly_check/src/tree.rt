@@ -24,8 +24,9 @@ ghost use Rattle.prolly_check.specs.Numbers.{AreLevels, AreOfMap, AreSo, lacking
 use crate::chunks::{Chunks, Index, Layout};
 use crate::file::CheckedFile;
 use crate::look_up::{Leaves, find_nth, find_value, scan_pairs, way_to};
-use crate::numbers::{Level, Missing, count_pairs, levels_in, missing_in, size_in};
+use crate::numbers::{Missing, count_pairs, levels_in, missing_in, size_in};
 use crate::verdict::{CheckFault, ChunkHasher, inspect};
+use prolly_chunk::LevelStats;
 use prolly_entry::{Pair, Ref, Version};
 use prolly_file::{Sink, WriteFault, write_all};
 use std::alloc::{AllocError, Global};
@@ -129,7 +130,7 @@ impl Tree {
     ///
     /// Takes memory for the sizes of one level's chunks at a time, and time O(n log n) for n
     /// chunks: it goes over them once for each level, and sorts their sizes.
-    pub fn levels(&self, alloc: Global) -> Result<Vec<Level>, AllocError>
+    pub fn levels(&self, alloc: Global) -> Result<Vec<LevelStats>, AllocError>
         ensures { IfOk result (λ levels. (content : Content) → IsFileOf self.now content →
             AreLevels (chunks_of content) levels.items) }
     {

@@ -1,14 +1,17 @@
 //! The chunks of a prolly tree, and how one level of the tree is cut into them: a machine without
-//! threads, which takes a level's entries one by one and answers the chunks that they close.
+//! threads, which takes a level's entries one by one and answers the chunks that they close; and the
+//! numbers of a level.
 #![tactic(auto)]
 
 mod borrowed;
 mod chunk;
 mod event;
 mod leaf;
+mod level_stats;
 mod node;
 
 pub use borrowed::BorrowedEvent;
 pub use event::ChunkEvent;
 pub use leaf::LeafLevel;
+pub use level_stats::LevelStats;
 pub use node::NodeLevel;

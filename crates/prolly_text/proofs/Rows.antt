@@ -4,17 +4,17 @@ use Rattle.std.proofs.Common.{slice_index_or, drop, reverse, ◌++◌, refl, sym
 use Rattle.std.proofs.lemmas.List.{flat_map_more, reverse-append}
 use Rattle.std.specs.List.{flat_map}
 use Rattle.prolly_text.specs.Rows.{rows_from}
-use Rattle.prolly_check.specs.declared.numbers.Level.{Level}
+use Rattle.prolly_chunk.specs.declared.level_stats.LevelStats.{LevelStats}
 
 -- The first row.
-pub first_row : (levels : List Level) (number entries : ℕ) (d : Level) → 0 < length levels →
+pub first_row : (levels : List LevelStats) (number entries : ℕ) (d : LevelStats) → 0 < length levels →
     slice_get (rows_from number entries levels) 0 ≡
     Some (record { number = number; entries = entries; level = slice_index_or levels 0 d })
 first_row [] number entries d h = absurd (omega arith)
 first_row (level ∷ above) number entries d h = refl
 
 -- Each other one.
-pub higher_row : (levels : List Level) (number entries below : ℕ) (d : Level) →
+pub higher_row : (levels : List LevelStats) (number entries below : ℕ) (d : LevelStats) →
     suc below < length levels → slice_get (rows_from number entries levels) (suc below) ≡
     Some (record {
       number = number + suc below;
@@ -31,14 +31,14 @@ higher_row (level ∷ next ∷ above) number entries (suc below) d h =
     let same : suc number + suc below ≡ number + suc (suc below) = omega arith in
     rw (← same) more
 
-pub length-rows_from : (levels : List Level) (number entries : ℕ) →
+pub length-rows_from : (levels : List LevelStats) (number entries : ℕ) →
     length (rows_from number entries levels) ≡ length levels
 length-rows_from [] number entries = refl
 length-rows_from (level ∷ above) number entries =
     ap suc (length-rows_from above (suc number) level.chunks)
 
 -- A row by its number, where it is not the first.
-pub upper_row : (levels : List Level) (entries at below chunks : ℕ) (d : Level) → at ≡ suc below →
+pub upper_row : (levels : List LevelStats) (entries at below chunks : ℕ) (d : LevelStats) → at ≡ suc below →
     at < length levels → chunks ≡ (slice_index_or levels below d).chunks →
     slice_get (rows_from 0 entries levels) at ≡
     Some (record { number = at; entries = chunks; level = slice_index_or levels at d })

@@ -5,7 +5,7 @@ ghost use Rattle.prolly_text.specs.Table.{bar, head_of, row_line, table_of};
 ghost use Rattle.prolly_text.specs.Rows.{rows_of};
 
 use crate::numbers::records::append_number_line;
-use prolly_check::Level;
+use prolly_chunk::LevelStats;
 use prolly_entry::Version;
 use std::alloc::{AllocError, Global};
 
@@ -51,7 +51,7 @@ fn append_row(alloc: Global, out: &mut Vec<u8>, row: &Row) -> Result<(), AllocEr
         entries,
         level,
     } = *row;
-    let Level {
+    let LevelStats {
         chunks,
         bytes,
         least,
@@ -84,7 +84,7 @@ fn append_bar(alloc: Global, out: &mut Vec<u8>, number: u64) -> Result<(), Alloc
 pub(crate) struct Row {
     pub(crate) number: usize,
     pub(crate) entries: u64,
-    pub(crate) level: Level,
+    pub(crate) level: LevelStats,
 }
 
 /// The row of the level of this number.
@@ -120,5 +120,5 @@ pub struct TreeNumbers<'a> {
     /// The sizes of all chunks, together.
     pub bytes: u64,
     /// The levels, from the leaves to the root's.
-    pub levels: &'a [Level],
+    pub levels: &'a [LevelStats],
 }
