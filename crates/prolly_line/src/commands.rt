@@ -9,7 +9,6 @@ mod diff;
 mod dump;
 mod explain;
 mod get;
-mod groups;
 mod look_up;
 mod nth;
 mod pack;
@@ -17,6 +16,7 @@ mod prove;
 mod root;
 mod scan;
 mod scratch;
+mod shared;
 mod stat;
 mod verify;
 

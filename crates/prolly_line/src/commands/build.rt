@@ -8,7 +8,7 @@ ghost use Rattle.prolly_line.specs.LocalArgs.{HasCommandLine};
 use crate::arguments;
 use crate::assembly::{Line, called, described, with_argument};
 use crate::command::{Command, ParseFault};
-use crate::commands::groups::{
+use crate::commands::shared::{
     ASIDE, CUT, MADE_CHUNK_FILE, NO_PROGRESS, WRITTEN_FORMAT, with_mode,
 };
 use crate::help::Help;

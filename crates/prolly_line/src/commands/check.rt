@@ -9,7 +9,7 @@ ghost use Rattle.prolly_line.specs.LocalArgs.{HasCommandLine};
 use crate::arguments;
 use crate::assembly::{Line, described, with_argument};
 use crate::command::{Command, ParseFault};
-use crate::commands::groups::with_trust;
+use crate::commands::shared::with_trust;
 use crate::help::Help;
 use crate::values::{flag_of, has_several, text_of, texts_of, trust_of};
 use clap::ArgMatches;

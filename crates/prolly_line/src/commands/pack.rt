@@ -10,7 +10,7 @@ ghost use Rattle.prolly_line.specs.LocalArgs.{HasCommandLine};
 use crate::arguments;
 use crate::assembly::{Line, called, described, with_argument};
 use crate::command::{Command, ParseFault};
-use crate::commands::groups::{ALWAYS_ASIDE, with_mode};
+use crate::commands::shared::{ALWAYS_ASIDE, with_mode};
 use crate::help::Help;
 use crate::misfit::Misfit;
 use crate::values::{flag_of, memory_of, mode_of, notation_of, text_of};

@@ -8,7 +8,7 @@ ghost use Rattle.prolly_line.specs.LocalArgs.{HasCommandLine};
 use crate::arguments;
 use crate::assembly::{Line, described_as, with_argument};
 use crate::command::{Command, ParseFault};
-use crate::commands::groups::{
+use crate::commands::shared::{
     ALWAYS_ASIDE, CHUNK_FILE, KEY_OR_SET, with_mode, with_range, with_trust,
 };
 use crate::help::Help;

@@ -7,7 +7,7 @@ ghost use Rattle.prolly_line.specs.LocalArgs.{HasCommandLine};
 use crate::arguments;
 use crate::assembly::{Line, described};
 use crate::command::{Command, ParseFault};
-use crate::commands::groups::CHUNK_FILE;
+use crate::commands::shared::CHUNK_FILE;
 use crate::help::Help;
 use crate::values::text_of;
 use clap::ArgMatches;

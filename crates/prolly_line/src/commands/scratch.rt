@@ -8,7 +8,7 @@ ghost use Rattle.prolly_line.specs.LocalArgs.{HasCommandLine};
 use crate::arguments;
 use crate::assembly::{Line, called, described, with_argument};
 use crate::command::{Command, ParseFault};
-use crate::commands::groups::{ASIDE, CUT, WRITTEN_FORMAT, with_mode};
+use crate::commands::shared::{ASIDE, CUT, WRITTEN_FORMAT, with_mode};
 use crate::help::Help;
 use crate::misfit::Misfit;
 use crate::values::{bits_of, byte_of, chunk_bytes_of, mode_of, option_of};

@@ -1,5 +1,5 @@
 -- One argument more at each step.
-use Rattle.prolly_line.proofs.commands.groups.with_range.Goals as goal
+use Rattle.prolly_line.proofs.commands.shared.with_range.Goals as goal
 
 pub returns : goal.returns
 returns c = λ app has.
