@@ -14,7 +14,7 @@ OPTION = re.compile(r"(?:-(?P<short>[hV]), )?--(?P<name>[a-z-]+)(?: <(?P<value>[
 CHOICES = re.compile(r"\((\d+) or (\d+)\)")
 """How an option of two values names them."""
 
-FILES = {"FILE", "FILES", "OUT", "OLD", "NEW", "PROOF"}
+FILES = {"FILE", "FILES", "KEYS", "OUT", "OLD", "NEW", "PROOF"}
 """The words of a usage that stand for names of files."""
 
 

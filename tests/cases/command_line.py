@@ -16,7 +16,7 @@ BESIDE_RANGE = "the argument '--from <KEY>' cannot be used with '<KEY>'"
 
 NO_FROM = "the following required arguments were not provided:\n  --from <KEY>"
 
-BESIDE_KEYS = "the argument '--keys <FILE>' cannot be used with '{}'"
+BESIDE_KEYS = "the argument '--keys <KEYS>' cannot be used with '{}'"
 
 NO_SORT = "the following required arguments were not provided:\n  --sort"
 
@@ -26,16 +26,16 @@ BESIDE_BITS = "the argument '--bits <Q>' cannot be used with '--chunk-bytes <N>'
 
 EXPLAIN_USAGE = "explain [OPTIONS] <FILE>\n       prolly explain [OPTIONS] --lines"
 
-GET_USAGE = "get [OPTIONS] <FILE> <KEY>\n       prolly get [OPTIONS] --keys <FILE> <FILE>"
+GET_USAGE = "get [OPTIONS] <FILE> <KEY>\n       prolly get [OPTIONS] --keys <KEYS> <FILE>"
 
 PROVE_USAGE = (
     "prove [OPTIONS] <FILE> <KEY> <OUT>\n       prolly prove [OPTIONS] --from <KEY> [--to <KEY>] <FILE> <OUT>"
-    "\n       prolly prove [OPTIONS] --keys <FILE> <FILE> <OUT>"
+    "\n       prolly prove [OPTIONS] --keys <KEYS> <FILE> <OUT>"
 )
 
 VERIFY_USAGE = (
     "verify [OPTIONS] <ROOT> <KEY> [PROOF]\n       prolly verify [OPTIONS] --from <KEY> [--to <KEY>] <ROOT> [PROOF]"
-    "\n       prolly verify [OPTIONS] --keys <FILE> <ROOT> [PROOF]"
+    "\n       prolly verify [OPTIONS] --keys <KEYS> <ROOT> [PROOF]"
 )
 
 
@@ -188,8 +188,8 @@ def usage_cases():
         wrong(["get", "f", "6", "--keys", "k", "--root", "r"], BESIDE_KEYS.format("<KEY>"), GET_USAGE),
         wrong(["get", "--raw", "--keys", "k", "f"], BESIDE_KEYS.format("--raw"), GET_USAGE),
         missing(["get", "--raw", "f"], ["KEY"], GET_USAGE),
-        wrong(["get", "f", "--keys"], "a value is required for '--keys <FILE>' but none was supplied"),
-        wrong(["get", "--keys", "k", "--keys", "k", "f"], "the argument '--keys <FILE>' cannot be used multiple times", GET_USAGE),
+        wrong(["get", "f", "--keys"], "a value is required for '--keys <KEYS>' but none was supplied"),
+        wrong(["get", "--keys", "k", "--keys", "k", "f"], "the argument '--keys <KEYS>' cannot be used multiple times", GET_USAGE),
         missing(["prove"], ["FILE"], PROVE_USAGE),
         missing(["prove", "f"], ["KEY"], PROVE_USAGE),
         missing(["prove", "f", "61"], ["OUT"], PROVE_USAGE),

@@ -61,7 +61,7 @@ def rows(helps):
     for name, text in helps.items():
         options = re.findall(r"(?m)^ +(?:-\w, )?(--[a-z-]+)", text.split("\nOptions:")[1])
         found.append(([name, "--"], options))
-        found += [([name, option, ""], FILES) for option in re.findall(r"(--[a-z-]+) <FILE>", text)]
+        found += [([name, option, ""], FILES) for option in re.findall(r"(--[a-z-]+) <(?:FILE|KEYS)>", text)]
         found += [([name, option, ""], ["1", "2"]) for option in re.findall(r"(--format) <V>", text)]
     return [
         *found,

@@ -262,7 +262,7 @@ abbrev pub stat_line : App
 stat_line = with_rule (with_rule (with_rule (new_app (codes "stat")) text_flag) json_flag)
     file_word
 
--- `get [--text] [--raw] [--root ROOT] [--format V] [--keys FILE] FILE [KEY]`
+-- `get [--text] [--raw] [--root ROOT] [--format V] [--keys KEYS] FILE [KEY]`
 abbrev pub get_line : App
 get_line = with_rule (with_rule (with_rule (with_trust (with_rule (with_rule (new_app (codes "get"))
     text_flag) raw_flag)) keys_option) file_word) optional_key_word
@@ -286,13 +286,13 @@ abbrev pub diff_line : App
 diff_line = with_rule (with_rule (with_mode (with_rule (with_roots (with_rule (with_rule
     (new_app (codes "diff")) text_flag) stat_flag)) out_option)) old_word) new_word
 
--- `prove [--text] [--root ROOT] [--format V] [--from KEY] [--to KEY] [--keys FILE] [--atomic]
+-- `prove [--text] [--root ROOT] [--format V] [--from KEY] [--to KEY] [--keys KEYS] [--atomic]
 -- [--sync] [--force] FILE [KEY] [OUT]`
 abbrev pub prove_line : App
 prove_line = with_rule (with_rule (with_rule (with_mode (with_range (with_trust (with_rule
     (new_app (codes "prove")) text_flag)))) file_word) optional_key_word) optional_out_word
 
--- `verify [--text] [--format V] [--from KEY] [--to KEY] [--keys FILE] ROOT [KEY] [PROOF]`
+-- `verify [--text] [--format V] [--from KEY] [--to KEY] [--keys KEYS] ROOT [KEY] [PROOF]`
 abbrev pub verify_line : App
 verify_line = with_rule (with_rule (with_rule (with_range (with_rule (with_rule
     (new_app (codes "verify")) text_flag) format_option)) root_word) optional_key_word) proof_word

@@ -222,14 +222,14 @@ impl Misfit {
             Misfit::NoKey => "the following required arguments were not provided:\n  <KEY>",
             Misfit::NoOut => "the following required arguments were not provided:\n  <OUT>",
             Misfit::KeyBesideRange => "the argument '--from <KEY>' cannot be used with '<KEY>'",
-            Misfit::KeyBesideKeys => "the argument '--keys <FILE>' cannot be used with '<KEY>'",
+            Misfit::KeyBesideKeys => "the argument '--keys <KEYS>' cannot be used with '<KEY>'",
             Misfit::FromBesideKeys => {
-                "the argument '--keys <FILE>' cannot be used with '--from <KEY>'"
+                "the argument '--keys <KEYS>' cannot be used with '--from <KEY>'"
             }
             Misfit::ToBesideKeys => {
-                "the argument '--keys <FILE>' cannot be used with '--to <KEY>'"
+                "the argument '--keys <KEYS>' cannot be used with '--to <KEY>'"
             }
-            Misfit::RawBesideKeys => "the argument '--keys <FILE>' cannot be used with '--raw'",
+            Misfit::RawBesideKeys => "the argument '--keys <KEYS>' cannot be used with '--raw'",
             Misfit::NoSort => "the following required arguments were not provided:\n  --sort",
             Misfit::NoLines => "the following required arguments were not provided:\n  --lines",
             Misfit::NoFile => "the following required arguments were not provided:\n  <FILE>",

@@ -170,13 +170,13 @@ pub(crate) fn to_option<'a>(alloc: Global) -> Arg<'a>
     )
 }
 
-/// `--keys FILE`, with which many keys are asked for.
+/// `--keys KEYS`, with which many keys are asked for.
 pub(crate) fn keys_option<'a>(alloc: Global) -> Arg<'a>
     ensures { IsReadBy keys_option result }
 {
-    text_option(alloc, "keys", "FILE").help(
-        "Take many keys in place of one: a key in each line of FILE, each greater than the one \
-         before",
+    text_option(alloc, "keys", "KEYS").help(
+        "Take the keys of the file KEYS in place of KEY: one in each line, each greater than the \
+         one before",
     )
 }
 

@@ -49,7 +49,7 @@ there is at each key of a file
 };
 
 const USAGE: &str = "prolly get [OPTIONS] <FILE> <KEY>
-       prolly get [OPTIONS] --keys <FILE> <FILE>";
+       prolly get [OPTIONS] --keys <KEYS> <FILE>";
 
 // What `[KEY]` says where many keys may stand in its place.
 const KEY_OR_KEYS: &str = "The key in hexadecimal, two digits a byte, or with --text as text; at \
@@ -58,7 +58,7 @@ const KEY_OR_KEYS: &str = "The key in hexadecimal, two digits a byte, or with --
 // What `--text` says where keys are taken and their values are printed.
 const KEYS_AND_VALUES: &str = "Take keys and print values as text in place of hexadecimal";
 
-/// `get [--text] [--raw] [--root ROOT] [--format V] [--keys FILE] FILE [KEY]`
+/// `get [--text] [--raw] [--root ROOT] [--format V] [--keys KEYS] FILE [KEY]`
 pub(crate) fn get_line<'a>(alloc: Global) -> Line<'a>
     ensures { IfOk result (HasCommandLine get_line) }
 {

@@ -58,9 +58,9 @@ that it has from there on before the key 63
 
 const USAGE: &str = "prolly prove [OPTIONS] <FILE> <KEY> <OUT>
        prolly prove [OPTIONS] --from <KEY> [--to <KEY>] <FILE> <OUT>
-       prolly prove [OPTIONS] --keys <FILE> <FILE> <OUT>";
+       prolly prove [OPTIONS] --keys <KEYS> <FILE> <OUT>";
 
-/// `prove [--text] [--root ROOT] [--format V] [--from KEY] [--to KEY] [--keys FILE] [--atomic]
+/// `prove [--text] [--root ROOT] [--format V] [--from KEY] [--to KEY] [--keys KEYS] [--atomic]
 /// [--sync] [--force] FILE [KEY] [OUT]`
 ///
 /// Where `--from` or `--keys` is given, the word behind FILE is OUT, and there is no third one.

@@ -63,9 +63,9 @@ it has from there on before the key 63
 
 const USAGE: &str = "prolly verify [OPTIONS] <ROOT> <KEY> [PROOF]
        prolly verify [OPTIONS] --from <KEY> [--to <KEY>] <ROOT> [PROOF]
-       prolly verify [OPTIONS] --keys <FILE> <ROOT> [PROOF]";
+       prolly verify [OPTIONS] --keys <KEYS> <ROOT> [PROOF]";
 
-/// `verify [--text] [--format V] [--from KEY] [--to KEY] [--keys FILE] ROOT [KEY] [PROOF]`
+/// `verify [--text] [--format V] [--from KEY] [--to KEY] [--keys KEYS] ROOT [KEY] [PROOF]`
 ///
 /// Where `--from` or `--keys` is given, the word behind ROOT is PROOF, and there is no third one.
 pub(crate) fn verify_line<'a>(alloc: Global) -> Line<'a>
