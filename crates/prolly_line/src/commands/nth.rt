@@ -28,8 +28,9 @@ takes longer, none over 1 GiB is read, and --format is ignored. With --root
 levels of the frames, and one chunk a level, each compared with the reference
 above it, from ROOT down. So what is printed is right for ROOT, whatever else
 the file holds; a chunk that does not fit is refused.",
-    example: "Example: the first pair
-  prolly nth ab.prl 0",
+    example: "Example: the first pair of a file that was built with --format 2
+  prolly build --format 2 counted.prl monday.rec tuesday.rec
+  prolly nth counted.prl 0",
 };
 
 /// `nth [--text] [--root ROOT] [--format V] FILE N`
