@@ -24,9 +24,11 @@ equal contents (at equal --bits and --format), however they came to be. So to
 compare two trees, compare their roots. If other contents had the same root, two
 different chunks would have the same SHA-512 prefix, which nobody has seen yet.
 
-Two kinds of files are used. A record file is a binary file of pairs, a key with
-its value, and removals, a key to be taken away, with strictly rising keys. A
-chunk file holds a whole tree, and so all pairs of a map.
+Three kinds of files are used besides lines of text. A record file is binary. It
+holds pairs, each a key with its value, and removals, each a key that is taken
+away; its keys rise strictly. A chunk file holds a whole tree, and so all pairs
+of a map. A proof holds some chunks of a tree. They show what the map has at a
+key, in a range, or at many keys, to whoever knows the root.
 
 Keys have at most 1,024 bytes, values at most 65,536.
 
