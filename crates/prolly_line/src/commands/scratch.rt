@@ -28,6 +28,7 @@ about N bytes, from the mean size of the records in the first megabyte that is
 read, and prints on standard error which it took. Equal contents have equal
 roots only at equal bits, so a script which compares roots gives --bits.
 
+Without --out no file is made, and --atomic, --sync and --force are ignored.
 With --out, FILE is opened before the input is read, and emptied once there is
 something to write: after a fault before that it is as it was. Where writing it
 failed, it holds the first part of the chunk file, or with --atomic what it
