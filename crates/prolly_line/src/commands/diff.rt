@@ -34,12 +34,14 @@ that OLD does not have, and B that of their bytes: what a holder of OLD lacks of
 NEW.
 
 Without roots both files are checked first, as by `check`: longer files take
-longer, none over 1 GiB is read, and --format is ignored. With
---old-root and --new-root, which go together, files may be of any size. Of their
-chunks only those are read that the other tree does not have, and a few beside
-them, each compared with the reference above it, from its root down. So what is
+longer, none over 1 GiB is read, and --format is ignored.
+
+With --old-root and --new-root, which go together, files may be of any size. Of
+each chunk the length and the level are read. Only those chunks are read whole
+that the other tree does not have, and a few beside them. Each of these is
+compared with the reference above it, from the root of its tree down. So what is
 printed is right for these roots, whatever else the files hold; at a chunk that
-does not fit it ends. The lengths and levels of all frames are read.
+does not fit it ends.
 
 The exit status is 0 where the maps are equal, and 1 where they are not.
 

@@ -37,10 +37,10 @@ Then --text says only how KEY is written. --keys is refused beside it.
 
 Without --root the whole file is checked first, as by `check`: a longer file
 takes longer, none over 1 GiB is read, and --format is ignored. With --root
-only what is needed is read: the lengths and levels of the frames, and one chunk
-a level, each compared with the reference above it, from ROOT down. So what is
-printed is right for ROOT, whatever else the file holds; a chunk that does not
-fit is refused.",
+only what is needed is read: the length and the level of each chunk, and the
+chunks on the way to a key, one a level. Each of these is compared with the
+reference above it, from ROOT down. So what is printed is right for ROOT,
+whatever else the file holds; a chunk that does not fit is refused.",
     example: "Examples: the value of the key of one byte, 61, the same as it is, and what
 there is at each key of a file
   prolly get ab.prl 61

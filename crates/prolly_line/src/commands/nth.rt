@@ -24,10 +24,11 @@ value, with the escapes of `pack --text`.
 
 Without --root the whole file is checked first, as by `check`: a longer file
 takes longer, none over 1 GiB is read, and --format is ignored. With --root
---format 2 has to be given, and only what is needed is read: the lengths and
-levels of the frames, and one chunk a level, each compared with the reference
-above it, from ROOT down. So what is printed is right for ROOT, whatever else
-the file holds; a chunk that does not fit is refused.",
+--format 2 has to be given, and only what is needed is read: the length and the
+level of each chunk, and the chunks on the way to the pair, one a level. Each of
+these is compared with the reference above it, from ROOT down. So what is
+printed is right for ROOT, whatever else the file holds; a chunk that does not
+fit is refused.",
     example: "Example: the first pair of a file that was built with --format 2
   prolly build --format 2 counted.prl monday.rec tuesday.rec
   prolly nth counted.prl 0",

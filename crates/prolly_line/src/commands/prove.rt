@@ -38,10 +38,10 @@ With --text keys are taken as text, with the escapes of `pack --text`.
 
 Without --root the whole file is checked first, as by `check`: a longer file
 takes longer, none over 1 GiB is read, and --format is ignored. With --root
-only what is needed is read: the lengths and levels of the frames, and the
-chunks of the proof, each compared with the reference above it, from ROOT down.
-So what is written is a proof for ROOT, whatever else the file holds; a chunk
-that does not fit is refused.
+only what is needed is read: the length and the level of each chunk, and the
+chunks of the proof. Each of these is compared with the reference above it, from
+ROOT down. So what is written is a proof for ROOT, whatever else the file holds;
+a chunk that does not fit is refused.
 
 Nothing is printed. The exit status is 0 also where FILE does not have the key,
 or has no pair in the range, or at the keys. It is 3 where a line of the file of

@@ -24,10 +24,10 @@ shown as text, a key, a tab and a value, with the escapes of `pack --text`.
 
 Without --root the whole file is checked first, as by `check`: a longer file
 takes longer, none over 1 GiB is read, and --format is ignored. With --root
-only what is needed is read: the lengths and levels of the frames, and for each
-leaf that has some of these pairs the chunks on the way to it, each compared
-with the reference above it, from ROOT down. So what is printed is right for
-ROOT, whatever else the file holds; at a chunk that does not fit it ends.",
+only what is needed is read: the length and the level of each chunk, and the
+chunks on the way to these pairs. Each of these chunks is compared with the
+reference above it, from ROOT down. So what is printed is right for ROOT,
+whatever else the file holds; at a chunk that does not fit it ends.",
     example: "Example: the first ten pairs from the key 61 on
   prolly scan ab.prl 61 10",
 };
