@@ -22,12 +22,12 @@ const HELP: Help<'static> = Help {
     details: "Prints the value of one key in a chunk file, in hexadecimal. Where the file does
 not have the key, nothing is printed and the exit status is 1.
 
-With --keys there is no KEY among the words, and what is asked for are the keys
-of a file: a key in hexadecimal in each line, greater than the one before it. A
-line is printed for each of them, in their order: HEXKEY HEXVALUE, or HEXKEY
-alone where there is no value. The exit status is 0 also where none has one. A
-line that is no key, or whose key is not greater, is told with its number,
-counted from 0, and nothing else is done; the exit status is then 3.
+With --keys, KEY is left out, and the keys are those of the file KEYS: a key in
+each line, greater than the one before it. A line is printed for each key, in
+their order: HEXKEY HEXVALUE, or HEXKEY alone where there is no value. The exit
+status is 0 also where no key has a value. A line that is no key, or whose key
+is not greater, is told with its number, counted from 0, and nothing else is
+done; the exit status is then 3.
 
 With --text keys are taken and values shown as text, with the escapes of
 `pack --text`, and a key and its value are separated by a tab.
