@@ -24,15 +24,15 @@ proof is the chunks of FILE from the root down to the one at which the look-up
 of the key ends. Whoever knows the root of FILE can check it by `verify`,
 without FILE.
 
-With --from there is no KEY among the words, and the proof is one of a range: of
-all pairs whose key is not less than that of --from, and less than that of --to,
-and that there are no others. Without --to the range has no end. Keys are
-compared byte by byte. The proof is the chunks that have such keys, and those
-above them, each once.
+With --from, KEY is left out, and the proof is that of a range. It shows all
+pairs from the key of --from on and before the key of --to, and that there are
+no others. Without --to the range has no end. Keys are compared byte by byte.
+The proof is the chunks that have such keys, and those above them, each once.
 
-With --keys there is no KEY either, and the proof is one of what FILE has at
-each of the keys of a file, as `get` reads them: a key in each line, greater
-than the one before it. Each chunk is in it once, however many keys meet it.
+With --keys, KEY is left out, too, and the proof is that of the keys of the file
+KEYS. It shows what FILE has at each of them. KEYS is as `get` takes it: a key
+in each line, greater than the one before it. Each chunk is in the proof once,
+however many keys meet it.
 
 With --text keys are taken as text, with the escapes of `pack --text`.
 
@@ -44,8 +44,8 @@ ROOT down. So what is written is a proof for ROOT, whatever else the file holds;
 a chunk that does not fit is refused.
 
 Nothing is printed. The exit status is 0 also where FILE does not have the key,
-or has no pair in the range, or at the keys. It is 3 where a line of the file of
-keys is refused.
+or has no pair in the range, or at the keys. It is 3 where a line of KEYS is
+refused.
 
 OUT is replaced once the proof is whole: after a fault it is as it was. An OUT
 that has bytes and does not begin as a proof does is refused, unless --force is

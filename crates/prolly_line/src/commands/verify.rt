@@ -23,19 +23,18 @@ It may come from anywhere: where it is taken, the tree of that root has what is
 printed at the key, or two different chunks have one SHA-512 prefix, which
 nobody has seen yet.
 
-With --from there is no KEY among the words, and the proof is one of a range: of
-all pairs whose key is not less than that of --from, and less than that of --to,
-or without --to of all from there on. They are printed as `scan` prints them,
-each line HEXKEY HEXVALUE, those of a chunk once it was compared with the
-reference above it. So what is printed is right for ROOT. Only the exit status
-tells that it is all, once the proof was read to its end.
+With --from, KEY is left out, and the proof is that of a range: of all pairs
+from the key of --from on and before the key of --to. Without --to the range has
+no end. Each pair is a line, HEXKEY HEXVALUE. The pairs of a chunk are printed
+once the chunk was compared with the reference above it. So what is printed is
+right for ROOT. Only the exit status 0 says that it is all.
 
-With --keys there is no KEY either, and the proof is one of the keys of a file,
-which is the one that `prove` was given. A line is printed for each key, as
-`get` prints it: HEXKEY HEXVALUE, or HEXKEY alone where there is no value. The
-line of a key with a value is printed once its chunk was compared; that of one
-without, with the next one that has a value, or at the end. So what is printed
-is right for ROOT, and the exit status tells whether it is all.
+With --keys, KEY is left out, too, and the proof is that of the keys of the file
+KEYS, the one that `prove` was given. A line is printed for each key, as `get`
+prints it: HEXKEY HEXVALUE, or HEXKEY alone where there is no value. The line of
+a key with a value is printed once its chunk was compared. The line of a key
+without one is printed with that of the next key that has one, or at the end. So
+what is printed is right for ROOT. Only the exit status 0 says that it is all.
 
 The proof is read from PROOF, or from standard input where PROOF is not given.
 A proof of a range, or of many keys, may be of any size.
@@ -46,10 +45,10 @@ escapes of `pack --text`.
 The exit status is
   0  where the key has a value, which is printed in hexadecimal, or where all
      pairs of the range were printed, also where there are none, or a line for
-     each key of a file
+     each key of KEYS
   1  where the key has none; nothing is printed
   2  where a word is not understood, as where ROOT is not the text of a root
-  3  where a line of the file of keys is refused
+  3  where a line of KEYS is refused
   4  where the proof is refused; a line names the first fault of it
   5  where the proof cannot be read, or the answer cannot be printed
   6  where memory was refused, or a chunk of the proof has more than 1 GiB",
