@@ -18,14 +18,14 @@ const HELP: Help<'static> = Help {
 FILE tell which of the two it is: a chunk file begins with `PRLY`, and no good
 record file does.
 
-Of a chunk file these are the text of its root, its --format and --bits, and its
-numbers of pairs, chunks and bytes; and of each level its numbers of chunks,
-entries and bytes, and how many bytes its least, its middle and its greatest
-chunk have, with a bar that grows by one `#` where the number of chunks doubles.
-The chunk file is checked first, as by `check`.
+Of a chunk file it prints the text of the root, the --format and the --bits, and
+the numbers of pairs, chunks and bytes. Then each level has a line: how many
+chunks, entries and bytes it has, and how many bytes its least, its middle and
+its greatest chunk have. A bar behind them grows by one `#` where the number of
+chunks doubles. The chunk file is checked first, as by `check`.
 
-Of a record file these are its numbers of records, removals and bytes, and its
-first and its last key.
+Of a record file it prints the numbers of records, removals and bytes, and the
+first and the last key.
 
 Keys are shown in hexadecimal, or with --text as text, with the escapes of
 `pack --text`. With --json all this is one line of JSON; keys are in hexadecimal
