@@ -59,9 +59,9 @@ pub enum Command {
         removals: bool,
         mode: WriteMode,
     },
-    /// The same of lines in any order and of any size. Of a key that stands in several lines the
-    /// last one counts; where `unique` is set, such a key is a fault. About `memory` megabytes of
-    /// 1,000,000 bytes are used.
+    /// The same of an input of any size, whose lines may come in any order. Of a key that stands in
+    /// several lines the last one counts; where `unique` is set, such a key is a fault. About
+    /// `memory` megabytes of 1,000,000 bytes are used.
     PackSorted {
         out: String,
         notation: Notation,
