@@ -35,7 +35,7 @@ With --root the file of another root is refused. FILE may be of any size, and
 may be a pipe: 16 MiB of it are held in memory, or more where a chunk is larger.
 The first fault in the order of the bytes is told.",
     example: "Examples: a file, one of any size whose root is known, and several
-  prolly check ab.prl
+  prolly check days.prl
   prolly check --root nu05v9k058pmjdu7s5312ho13geggue6 days.prl
   prolly check monday.prl tuesday.prl",
 };

@@ -43,9 +43,9 @@ reference above it, from ROOT down. So what is printed is right for ROOT,
 whatever else the file holds; a chunk that does not fit is refused.",
     example: "Examples: the value of the key of one byte, 61, the same as it is, and what
 there is at each key of a file
-  prolly get ab.prl 61
-  prolly get --raw ab.prl 61 > value
-  prolly get --keys keys.txt ab.prl",
+  prolly get days.prl 61
+  prolly get --raw days.prl 61 > value
+  prolly get --keys keys.txt days.prl",
 };
 
 const USAGE: &str = "prolly get [OPTIONS] <FILE> <KEY>

@@ -50,10 +50,10 @@ refused.
 OUT is replaced once the proof is whole: after a fault it is as it was. An OUT
 that has bytes and does not begin as a proof does is refused, unless --force is
 given.",
-    example: "Examples: a proof of what ab.prl has at the key of one byte, 61, and one of all
-that it has from there on before the key 63
-  prolly prove ab.prl 61 61.proof
-  prolly prove --from 61 --to 63 ab.prl range.proof",
+    example: "Examples: a proof of what days.prl has at the key of one byte, 61, and one of
+all that it has from there on before the key 63
+  prolly prove days.prl 61 61.proof
+  prolly prove --from 61 --to 63 days.prl range.proof",
 };
 
 const USAGE: &str = "prolly prove [OPTIONS] <FILE> <KEY> <OUT>

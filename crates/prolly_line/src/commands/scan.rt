@@ -29,7 +29,7 @@ chunks on the way to these pairs. Each of these chunks is compared with the
 reference above it, from ROOT down. So what is printed is right for ROOT,
 whatever else the file holds; at a chunk that does not fit it ends.",
     example: "Example: the first ten pairs from the key 61 on
-  prolly scan ab.prl 61 10",
+  prolly scan days.prl 61 10",
 };
 
 /// `scan [--text] [--root ROOT] [--format V] FILE KEY LIMIT`

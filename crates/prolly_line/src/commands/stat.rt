@@ -31,7 +31,7 @@ Keys are shown in hexadecimal, or with --text as text, with the escapes of
 `pack --text`. With --json all this is one line of JSON; keys are in hexadecimal
 there, and --text is ignored.",
     example: "Example: the numbers of a tree, level by level
-  prolly stat ab.prl",
+  prolly stat days.prl",
 };
 
 // What `--text` says where keys are printed.
