@@ -18,13 +18,13 @@ use Rattle.prolly_tree.specs.LookUp.{find}
 use Rattle.prolly_tree.specs.lemmas.Trees.{in_back, in_front}
 use Rattle.prolly_answer.specs.KeyLookUps.{AreFoundByRoot, AreWays, FitsKeys, KeysByRootAreRight}
 use Rattle.prolly_answer.specs.KeyLookUps.{found_at, found_line, found_lines}
-use Rattle.prolly_answer.specs.RootDumps.{IsSettledAs, Outcome, TakesAllFor, TakesFor}
+use Rattle.prolly_answer.specs.RootOutcomes.{IsSettledAs, Outcome, TakesAllFor, TakesFor}
 use Rattle.prolly_answer.specs.Outputs.{TookBytes, TookSoFar, TookUntil}
 use Rattle.prolly_answer.specs.declared.faults.output_fault.OutputFault.{OutputFault}
 use Rattle.prolly_answer.specs.declared.faults.output_fault.OutputFault.TheVariants as outputs
 use Rattle.prolly_answer.specs.declared.faults.root_output_fault.RootOutputFault.TheVariants.{Output}
 use Rattle.prolly_answer.specs.declared.faults.root_output_fault.RootOutputFault.TheVariants.{Root}
-use Rattle.prolly_answer.proofs.RootDumpSteps.{taken_told}
+use Rattle.prolly_answer.proofs.RootSteps.{taken_told}
 use Rattle.prolly_answer.proofs.ScanSteps.{took_also, until_also}
 use Rattle.prolly_answer.proofs.Writing.{took_none}
 

@@ -16,8 +16,8 @@ pub mod Verifying
 pub mod FirstLines
 -- Scans by a root, leaf by leaf.
 pub mod ScanSteps
--- Dumps by a root, leaf by leaf.
-pub mod RootDumpSteps
+-- Going over the pairs of a tree by its root, leaf by leaf.
+pub mod RootSteps
 -- How far a key is below the greatest one that there may be, by which a loop over rising keys ends.
 pub mod KeyRanks
 -- What `stat` answers of a file of either kind.

@@ -44,7 +44,7 @@ use Rattle.prolly_answer.specs.OutputFault.{told}
 use Rattle.prolly_answer.specs.RootDiffs.{WroteIn, record_of}
 use Rattle.prolly_answer.specs.declared.faults.output_fault.OutputFault.{OutputFault}
 use Rattle.prolly_answer.specs.declared.faults.output_fault.OutputFault.TheVariants as outputs
-use Rattle.prolly_answer.specs.RootScans.{IsFlushed, RefusesNone}
+use Rattle.prolly_answer.specs.RootOutcomes.{IsFlushed, RefusesNone}
 use Rattle.prolly_answer.specs.declared.faults.fault.Fault.{Fault}
 use Rattle.prolly_answer.specs.declared.faults.fault.Fault.TheVariants as faults
 use Rattle.prolly_answer.proofs.Counting.{line_is}

@@ -27,7 +27,7 @@ use Rattle.prolly_text.specs.declared.notation.Notation.{Notation}
 use Rattle.prolly_tree.specs.Events.{greatest_count}
 use Rattle.prolly_answer.specs.OutputFault.{told}
 use Rattle.prolly_answer.specs.Outputs.{TookAll, TookBytes, TookPart, TookUntil}
-use Rattle.prolly_answer.specs.RootScans.{IsFlushed}
+use Rattle.prolly_answer.specs.RootOutcomes.{IsFlushed}
 use Rattle.prolly_answer.specs.SetLines.{FitsLeft, RisesIn, alone_lines, left_at_first, left_behind}
 use Rattle.prolly_answer.specs.SetLines.{lines_at_end, lines_so_far, more_lines}
 use Rattle.prolly_answer.specs.SetProofs.{IsNoSetProof, IsStoppedSet, IsVerifiedSet, StoppedSet}

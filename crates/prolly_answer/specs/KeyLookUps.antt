@@ -17,7 +17,7 @@ use Rattle.prolly_tree.specs.LookUp.{find}
 use Rattle.prolly_answer.specs.Answers.{ShowsDone}
 use Rattle.prolly_answer.specs.LookUps.{IsLookedUp, IsNoFile}
 use Rattle.prolly_answer.specs.Outputs.{IsShownPart}
-use Rattle.prolly_answer.specs.RootDumps.{Outcome}
+use Rattle.prolly_answer.specs.RootOutcomes.{Outcome}
 use Rattle.prolly_answer.specs.declared.answers.answer.Answer.{Answer}
 use Rattle.prolly_answer.specs.declared.faults.output_fault.OutputFault.{OutputFault}
 use Rattle.prolly_answer.specs.declared.faults.root_output_fault.RootOutputFault.TheVariants.{Output}

@@ -40,6 +40,8 @@ pub mod SetLines
 pub mod SetProofs
 -- What `diff` answers to who names the roots.
 pub mod RootDiffs
+-- What comes of a command that goes over the pairs of a tree of which only the root is known.
+pub mod RootOutcomes
 -- What `scan` answers to who names the root.
 pub mod RootScans
 -- What `dump` answers to who names the root.

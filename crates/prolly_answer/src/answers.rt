@@ -7,6 +7,7 @@ mod diff;
 mod dump;
 mod explain;
 mod explain_lines;
+mod flushed;
 mod get;
 mod get_keys;
 mod get_raw;

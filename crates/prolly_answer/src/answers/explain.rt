@@ -4,7 +4,7 @@ ghost use Rattle.prolly_answer.specs.Surveys.{AnswersSurvey, AnswersUnread, Show
 ghost use Rattle.prolly_answer.specs.Surveys.{ShowsFlaw, good_text};
 
 use crate::answers::answer::Answer;
-use crate::answers::stat::{key_in, numbers_of};
+use crate::answers::stat::numbers_of;
 use crate::faults::Fault;
 use crate::input::RECORD_LIMIT;
 use crate::lines::append_number;
@@ -64,7 +64,7 @@ fn flaw_answer(
 {
     let mut out = Vec::new(alloc);
     let good = numbers_of(survey);
-    let key = key_in(&flawed.key);
+    let key = flawed.key.as_deref();
     append_flaw(alloc, &mut out, notation, &good, flawed.flaw, key)?;
     Ok(Answer {
         status: 1,

@@ -17,6 +17,7 @@ use std::sync::Wait;
 /// What `pack` answers of lines in any order, and the file that it wrote.
 #[derive(Drop)]
 pub struct SortedPack<W> {
+    /// The number of records, or the line of the fault.
     pub answer: Answer,
     /// The record file; none where the command is not done.
     pub file: Option<W>,

@@ -7,7 +7,7 @@ ghost use Rattle.prolly_answer.specs.LookUps.{ShowsFailedRead};
 ghost use Rattle.prolly_answer.specs.Outputs.{TookAll, TookPart};
 ghost use Rattle.prolly_answer.specs.Proofs.{IsProve, IsProveByRoot, IsProvedOf, IsUnproved, IsVerify};
 ghost use Rattle.prolly_answer.specs.Proofs.{ProofByRoot};
-ghost use Rattle.prolly_answer.specs.RootScans.{RefusesNone};
+ghost use Rattle.prolly_answer.specs.RootOutcomes.{RefusesNone};
 ghost use Rattle.prolly_answer.specs.Answers.{ShowsFault};
 
 use crate::answers::answer::Answer;

@@ -8,14 +8,14 @@ ghost use Rattle.prolly_answer.specs.Outputs.{TookAll, TookSoFar, TookUntil};
 ghost use Rattle.prolly_answer.specs.RootDiffs.{Counts, IsDoneDiff, IsRootDiff, IsStoppedDiff};
 ghost use Rattle.prolly_answer.specs.RootDiffs.{TellsDiffReads, TellsNumbers, WroteIn, WroteOwn};
 ghost use Rattle.prolly_answer.specs.RootDiffs.{fault_of, record_of};
-ghost use Rattle.prolly_answer.specs.RootScans.{RefusesNone};
+ghost use Rattle.prolly_answer.specs.RootOutcomes.{RefusesNone};
 ghost use Rattle.prolly_answer.specs.declared.faults.fault.Fault.{Fault as FaultValue};
 ghost use Rattle.prolly_answer.specs.declared.faults.fault.Fault.TheVariants.{Memory, RootNew, RootOld};
 ghost use Rattle.prolly_answer.specs.declared.faults.output_fault.OutputFault.TheVariants.{Write};
 
 use crate::answers::answer::Answer;
 use crate::answers::diff::{ChangeCounts, stat_line, status_of};
-use crate::answers::root_scan::{fault_flushed, flush};
+use crate::answers::flushed::{fault_flushed, flush};
 use crate::faults::{Fault, OutputFault};
 use prolly_entry::{Ref, Version};
 use prolly_file::{Sink, write_all};

@@ -1,16 +1,15 @@
 //! The command `dump` of a file of which only the root is believed.
-ghost use Rattle.std.specs.Prelude.{◌≡◌, ◌↔◌, true, Err, IfErr, IfOk, IsTrue, OnErr, OnOk};
+ghost use Rattle.std.specs.Prelude.{◌≡◌, true, Err, IfErr, IfOk, OnErr, OnOk};
 ghost use Rattle.prolly_text.specs.RecordForms.{written_records};
 ghost use Rattle.prolly_tree.specs.Difference.{puts};
 ghost use Rattle.prolly_answer.specs.Outputs.{TookBytes, TookUntil};
-ghost use Rattle.prolly_answer.specs.RootDumps.{IsDumpedByRoot, IsRootDump, IsSettledAs, TakesAllFor};
-ghost use Rattle.prolly_answer.specs.RootDumps.{TakesFor, TellsDumpReads};
-ghost use Rattle.prolly_answer.specs.RootScans.{RefusesNone, RefusesNoneOf};
-ghost use Rattle.prolly_answer.specs.declared.faults.output_fault.OutputFault.TheVariants.{Write};
+ghost use Rattle.prolly_answer.specs.RootDumps.{IsDumpedByRoot};
+ghost use Rattle.prolly_answer.specs.RootOutcomes.{AnswersOutcome, RefusesNone, RefusesNoneOf};
+ghost use Rattle.prolly_answer.specs.RootOutcomes.{TakesAllFor, TakesFor, TellsReadsOf};
 ghost use Rattle.prolly_answer.specs.declared.faults.root_output_fault.RootOutputFault.{RootOutputFault as StopValue};
-ghost use Rattle.prolly_answer.specs.declared.faults.root_output_fault.RootOutputFault.TheVariants.{Output};
 
 use crate::answers::answer::Answer;
+use crate::answers::flushed::settled;
 use crate::answers::root_scan::key_behind;
 use crate::faults::{Fault, OutputFault, RootOutputFault};
 use crate::lines::append_lines;
@@ -39,14 +38,14 @@ pub fn answer_dump_by_root<S: ChunkSource, W: Sink>(
     form: RecordForm,
     sink: &mut W,
 ) -> Result<Answer, AllocError>
-    ensures ok { IfOk result (IsRootDump (λ outcome. IsDumpedByRoot
+    ensures ok { IfOk result (AnswersOutcome (λ outcome. IsDumpedByRoot
         (RefusesNone (S.has source.old) version root.now.0) version root.now.0 form
         (TakesAllFor W.seen sink.old sink.new) outcome ×
-        TellsDumpReads (S.failures source.old) (S.failures source.new) outcome)) }
+        TellsReadsOf (S.failures source.old) (S.failures source.new) outcome)) }
     ensures err { OnErr result ((stop : StopValue) × IsDumpedByRoot
         (RefusesNone (S.has source.old) version root.now.0) version root.now.0 form
         (TakesAllFor W.seen sink.old sink.new) (Err stop) ×
-        TellsDumpReads (S.failures source.old) (S.failures source.new) (Err stop)) }
+        TellsReadsOf (S.failures source.old) (S.failures source.new) (Err stop)) }
 {
     match write_dump(alloc, source, version, root, form, sink) {
         Ok(()) => Ok(Answer::of_done(alloc)),
@@ -65,7 +64,7 @@ fn write_dump<S: ChunkSource, W: Sink>(
 ) -> Result<(), RootOutputFault>
     ensures dumped { IsDumpedByRoot (RefusesNone (S.has source.old) version root.now.0) version
         root.now.0 form (TakesAllFor W.seen sink.old sink.new) result }
-    ensures reads { TellsDumpReads (S.failures source.old) (S.failures source.new) result }
+    ensures reads { TellsReadsOf (S.failures source.old) (S.failures source.new) result }
 {
     let reader = Reader::open(alloc, source, version, root)?;
     let outcome = write_leaves(alloc, source, reader, form, sink);
@@ -83,7 +82,7 @@ fn write_leaves<S: ChunkSource, W: Sink>(
     ensures dumped { IsDumpedByRoot (RefusesNoneOf S.is_place (S.has source.old) reader)
         reader.version reader.root form (TakesFor W.seen sink.old sink.new) result }
     ensures keeping { (W.seen sink.old).is_keeping ≡ true → (W.seen sink.new).is_keeping ≡ true }
-    ensures reads { TellsDumpReads (S.failures source.old) (S.failures source.new) result }
+    ensures reads { TellsReadsOf (S.failures source.old) (S.failures source.new) result }
 {
     let mut lines = Vec::new(alloc);
     let mut next = Vec::new(alloc);
@@ -120,26 +119,4 @@ fn write_leaf<W: Sink>(
         }
     }
     Ok(())
-}
-
-/// Flushes the sink, and answers the outcome, or else that this failed. A sink of which a write
-/// failed is left as it is.
-pub(crate) fn settled<W: Sink>(
-    sink: &mut W,
-    outcome: Result<(), RootOutputFault>,
-) -> Result<(), RootOutputFault>
-    ensures { IsSettledAs W.seen sink.old sink.new outcome result }
-{
-    if is_failed_write(&outcome) {
-        return outcome;
-    }
-    sink.flush()?;
-    outcome
-}
-
-/// Whether a write failed.
-fn is_failed_write(outcome: &Result<(), RootOutputFault>) -> bool
-    ensures { IsTrue result ↔ (outcome.now ≡ Err (Output Write)) }
-{
-    matches!(outcome, Err(RootOutputFault::Output(OutputFault::Write)))
 }

@@ -1,13 +1,13 @@
 //! The command `get` of many keys, of a file of which only the root is believed.
 ghost use Rattle.std.specs.Prelude.{◌≡◌, true, map, Err, IfOk, OnErr};
 ghost use Rattle.prolly_answer.specs.KeyLookUps.{AreFoundByRoot};
-ghost use Rattle.prolly_answer.specs.RootDumps.{IsRootDump, TakesAllFor, TakesFor, TellsDumpReads};
-ghost use Rattle.prolly_answer.specs.RootScans.{RefusesNone, RefusesNoneOf};
+ghost use Rattle.prolly_answer.specs.RootOutcomes.{AnswersOutcome, TakesAllFor, TakesFor, TellsReadsOf};
+ghost use Rattle.prolly_answer.specs.RootOutcomes.{RefusesNone, RefusesNoneOf};
 ghost use Rattle.prolly_answer.specs.declared.faults.root_output_fault.RootOutputFault.{RootOutputFault as StopValue};
 
 use crate::answers::answer::Answer;
+use crate::answers::flushed::settled;
 use crate::answers::get_keys::write_found;
-use crate::answers::root_dump::settled;
 use crate::faults::{Fault, RootOutputFault};
 use prolly_entry::{Ref, Version};
 use prolly_file::Sink;
@@ -34,14 +34,14 @@ pub fn answer_get_keys_by_root<S: ChunkSource, W: Sink>(
     notation: Notation,
     sink: &mut W,
 ) -> Result<Answer, AllocError>
-    ensures ok { IfOk result (IsRootDump (λ outcome. AreFoundByRoot
+    ensures ok { IfOk result (AnswersOutcome (λ outcome. AreFoundByRoot
         (RefusesNone (S.has source.old) version root.now.0) version root.now.0 notation
         (map (λ k. k.items) keys.now) (TakesAllFor W.seen sink.old sink.new) outcome ×
-        TellsDumpReads (S.failures source.old) (S.failures source.new) outcome)) }
+        TellsReadsOf (S.failures source.old) (S.failures source.new) outcome)) }
     ensures err { OnErr result ((stop : StopValue) × AreFoundByRoot
         (RefusesNone (S.has source.old) version root.now.0) version root.now.0 notation
         (map (λ k. k.items) keys.now) (TakesAllFor W.seen sink.old sink.new) (Err stop) ×
-        TellsDumpReads (S.failures source.old) (S.failures source.new) (Err stop)) }
+        TellsReadsOf (S.failures source.old) (S.failures source.new) (Err stop)) }
 {
     match write_keys(alloc, source, version, root, keys, notation, sink) {
         Ok(()) => Ok(Answer::of_done(alloc)),
@@ -62,7 +62,7 @@ fn write_keys<S: ChunkSource, W: Sink>(
     ensures found { AreFoundByRoot (RefusesNone (S.has source.old) version root.now.0) version
         root.now.0 notation (map (λ k. k.items) keys.now) (TakesAllFor W.seen sink.old sink.new)
         result }
-    ensures reads { TellsDumpReads (S.failures source.old) (S.failures source.new) result }
+    ensures reads { TellsReadsOf (S.failures source.old) (S.failures source.new) result }
 {
     let reader = Reader::open(alloc, source, version, root)?;
     let outcome = write_each(alloc, source, reader, keys, notation, sink);
@@ -82,7 +82,7 @@ fn write_each<S: ChunkSource, W: Sink>(
         reader.version reader.root notation (map (λ k. k.items) keys.now)
         (TakesFor W.seen sink.old sink.new) result }
     ensures keeping { (W.seen sink.old).is_keeping ≡ true → (W.seen sink.new).is_keeping ≡ true }
-    ensures reads { TellsDumpReads (S.failures source.old) (S.failures source.new) result }
+    ensures reads { TellsReadsOf (S.failures source.old) (S.failures source.new) result }
 {
     let mut line = Vec::new(alloc);
     for key in keys {

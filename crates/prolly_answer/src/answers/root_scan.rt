@@ -1,21 +1,21 @@
 //! The command `scan` of a file of which only the root is believed.
-ghost use Rattle.std.specs.Prelude.{◌≡◌, ◌≢◌, ◌⊎◌, ◌↔◌, IfOk, IfErr, OnOk, OnErr, true, Err};
-ghost use Rattle.std.specs.Prelude.{All, IsTrue};
+ghost use Rattle.std.specs.Prelude.{◌≡◌, ◌-◌, ◌<◌, true, length, take, All, Err, IfErr, IfOk, OnErr};
+ghost use Rattle.std.specs.Prelude.{OnOk};
 ghost use Rattle.prolly_check.specs.ScanWay.{next_key};
 ghost use Rattle.prolly_entry.specs.Byte.{IsByte};
-ghost use Rattle.prolly_file.specs.Failures.{CountsFailure};
-ghost use Rattle.prolly_file.specs.Sink.{IsSettled};
 ghost use Rattle.prolly_answer.specs.LookUps.{pair_lines};
-ghost use Rattle.prolly_answer.specs.Outputs.{TookAll, TookBytes, TookUntil};
-ghost use Rattle.prolly_answer.specs.RootScans.{IsDoneScan, IsFlushed, IsRootScan, IsStoppedScan};
-ghost use Rattle.prolly_answer.specs.RootScans.{RefusesNone, RefusesNoneOf, TellsScanReads};
-ghost use Rattle.prolly_answer.specs.declared.faults.fault.Fault.{Fault as FaultValue};
-ghost use Rattle.prolly_answer.specs.declared.faults.fault.Fault.TheVariants.{Write};
+ghost use Rattle.prolly_answer.specs.Outputs.{TookBytes, TookUntil};
+ghost use Rattle.prolly_answer.specs.RootOutcomes.{AnswersOutcome, RefusesNone, RefusesNoneOf};
+ghost use Rattle.prolly_answer.specs.RootOutcomes.{TakesAllFor, TakesFor, TellsReadsOf};
+ghost use Rattle.prolly_answer.specs.RootScans.{IsScannedByRoot};
+ghost use Rattle.prolly_answer.specs.declared.faults.root_output_fault.RootOutputFault.{RootOutputFault as StopValue};
 
 use crate::answers::answer::Answer;
-use crate::answers::scan::lines_of;
-use crate::faults::{Fault, OutputFault};
-use prolly_entry::{Pair, Ref, Version};
+use crate::answers::flushed::settled;
+use crate::answers::scan::append_first;
+use crate::faults::{Fault, OutputFault, RootOutputFault};
+use prolly_check::Pairs;
+use prolly_entry::{Ref, Version};
 use prolly_file::{Sink, write_all};
 use prolly_root::{ChunkSource, Reader};
 use prolly_text::Notation;
@@ -43,65 +43,53 @@ pub struct RootScan<'a> {
 ///
 /// It goes on leaf by leaf, and looks each up from the root with one [`Reader`], which goes over
 /// the frames below a chunk once and reads no chunk twice. It takes memory for one look-up, and for
-/// the pairs and the lines of one leaf, or of as many of them as are still wanted. What the pairs of
-/// such look-ups are of the map with the root is said by
-/// [`ways_are_right`](prolly_check::laws::ways_are_right). The sink is called once
-/// for each leaf, or more often where it takes only a part, and flushed at the end. Where the limit
-/// is 0, nothing is read.
+/// the lines of one leaf, or of as many of its pairs as are still wanted: they are made from where
+/// the pairs lie. What the pairs of such look-ups are of the map with the root is said by
+/// [`ways_are_right`](prolly_check::laws::ways_are_right). The sink is called once for each leaf, or
+/// more often where it takes only a part, and flushed at the end. Where the limit is 0, nothing is
+/// read.
 pub fn answer_scan_by_root<S: ChunkSource, W: Sink>(
     alloc: Global,
     source: &mut S,
     scan: &RootScan<'_>,
     sink: &mut W,
 ) -> Result<Answer, AllocError>
-    ensures ok { IfOk result (IsRootScan
-        (RefusesNone (S.has source.old) scan.now.version scan.now.root.now.0)
-        scan.now.version scan.now.root.now.0 scan.now.from.now scan.now.limit scan.now.notation
-        (λ bytes. TookAll W.seen bytes sink.old sink.new)
-        (λ fault bytes. TookUntil W.seen fault bytes sink.old sink.new)
-        (TellsScanReads (S.failures source.old) (S.failures source.new))) }
-    ensures err { OnErr result ((fault : FaultValue) × IsStoppedScan
-        (RefusesNone (S.has source.old) scan.now.version scan.now.root.now.0)
-        scan.now.version scan.now.root.now.0 scan.now.from.now scan.now.limit scan.now.notation
-        (λ bytes. TookAll W.seen bytes sink.old sink.new)
-        (λ fault bytes. TookUntil W.seen fault bytes sink.old sink.new) fault ×
-        TellsScanReads (S.failures source.old) (S.failures source.new) (Err fault)) }
+    ensures ok { IfOk result (AnswersOutcome (λ outcome. IsScannedByRoot
+        (RefusesNone (S.has source.old) scan.now.version scan.now.root.now.0) scan.now.version
+        scan.now.root.now.0 scan.now.from.now scan.now.limit scan.now.notation
+        (TakesAllFor W.seen sink.old sink.new) outcome ×
+        TellsReadsOf (S.failures source.old) (S.failures source.new) outcome)) }
+    ensures err { OnErr result ((stop : StopValue) × IsScannedByRoot
+        (RefusesNone (S.has source.old) scan.now.version scan.now.root.now.0) scan.now.version
+        scan.now.root.now.0 scan.now.from.now scan.now.limit scan.now.notation
+        (TakesAllFor W.seen sink.old sink.new) (Err stop) ×
+        TellsReadsOf (S.failures source.old) (S.failures source.new) (Err stop)) }
 {
     match write_scan(alloc, source, scan, sink) {
         Ok(()) => Ok(Answer::of_done(alloc)),
-        Err(fault) => Answer::of_fault(alloc, fault),
+        Err(stop) => Answer::of_fault(alloc, Fault::from(stop)),
     }
 }
 
-/// Writes the lines of a scan, and flushes the sink, also where a fault stops the scan.
+/// Writes the lines of a scan, and flushes the sink, also where a fault stops that.
 fn write_scan<S: ChunkSource, W: Sink>(
     alloc: Global,
     source: &mut S,
     scan: &RootScan<'_>,
     sink: &mut W,
-) -> Result<(), Fault>
-    ensures ok { OnOk result (IsDoneScan scan.now.version scan.now.root.now.0
-        scan.now.from.now scan.now.limit scan.now.notation
-        (λ bytes. TookAll W.seen bytes sink.old sink.new)) }
-    ensures err { IfErr result (IsStoppedScan
-        (RefusesNone (S.has source.old) scan.now.version scan.now.root.now.0)
-        scan.now.version scan.now.root.now.0 scan.now.from.now scan.now.limit scan.now.notation
-        (λ bytes. TookAll W.seen bytes sink.old sink.new)
-        (λ fault bytes. TookUntil W.seen fault bytes sink.old sink.new)) }
-    ensures reads { TellsScanReads (S.failures source.old) (S.failures source.new)
-        result }
+) -> Result<(), RootOutputFault>
+    ensures scanned { IsScannedByRoot
+        (RefusesNone (S.has source.old) scan.now.version scan.now.root.now.0) scan.now.version
+        scan.now.root.now.0 scan.now.from.now scan.now.limit scan.now.notation
+        (TakesAllFor W.seen sink.old sink.new) result }
+    ensures reads { TellsReadsOf (S.failures source.old) (S.failures source.new) result }
 {
     if scan.limit == 0 {
         return Ok(());
     }
-    let reader = match Reader::open(alloc, source, scan.version, scan.root) {
-        Ok(reader) => reader,
-        Err(fault) => return Err(Fault::Root(fault)),
-    };
-    match write_leaves(alloc, source, reader, scan, sink) {
-        Ok(()) => flush(sink),
-        Err(fault) => Err(fault_flushed(sink, fault)),
-    }
+    let reader = Reader::open(alloc, source, scan.version, scan.root)?;
+    let outcome = write_leaves(alloc, source, reader, scan, sink);
+    settled(sink, outcome)
 }
 
 /// Writes the lines of a scan, leaf by leaf, as the reader finds them.
@@ -111,60 +99,51 @@ fn write_leaves<S: ChunkSource, W: Sink>(
     mut reader: Reader<S::Place>,
     scan: &RootScan<'_>,
     sink: &mut W,
-) -> Result<(), Fault>
-    ensures ok { OnOk result (IsDoneScan reader.version reader.root scan.now.from.now
-        scan.now.limit scan.now.notation (λ bytes. TookBytes W.seen bytes sink.old sink.new)) }
-    ensures err { IfErr result (IsStoppedScan
-        (RefusesNoneOf S.is_place (S.has source.old) reader) reader.version reader.root scan.now.from.now scan.now.limit scan.now.notation
-        (λ bytes. TookBytes W.seen bytes sink.old sink.new)
-        (λ fault bytes. TookUntil W.seen fault bytes sink.old sink.new)) }
+) -> Result<(), RootOutputFault>
+    requires { 0 < scan.now.limit }
+    ensures scanned { IsScannedByRoot (RefusesNoneOf S.is_place (S.has source.old) reader)
+        reader.version reader.root scan.now.from.now scan.now.limit scan.now.notation
+        (TakesFor W.seen sink.old sink.new) result }
     ensures keeping { (W.seen sink.old).is_keeping ≡ true → (W.seen sink.new).is_keeping ≡ true }
-    ensures reads { TellsScanReads (S.failures source.old) (S.failures source.new)
-        result }
+    ensures reads { TellsReadsOf (S.failures source.old) (S.failures source.new) result }
 {
-    let Ok(mut next) = Vec::from_slice(alloc, scan.from) else {
-        return Err(Fault::Memory);
-    };
-    let mut left = scan.limit as usize;
-    while left > 0 {
-        let pairs = match reader.pairs_from(alloc, source, &next, left) {
-            Ok(pairs) => pairs,
-            Err(fault) => return Err(Fault::Root(fault)),
-        };
-        let Some(last) = pairs.last() else {
+    let mut lines = Vec::new(alloc);
+    let mut next = Vec::from_slice(alloc, scan.from)?;
+    let mut left = scan.limit;
+    loop {
+        reader.seek(alloc, source, &next)?;
+        let leaf = reader.leaf_from(&next);
+        let Some(last) = leaf.last_key() else {
             return Ok(());
         };
-        if let Err(fault) = write_lines(alloc, scan.notation, &pairs, sink) {
-            return Err(Fault::from(fault));
-        }
-        let count = pairs.len();
-        if count >= left {
+        left = write_leaf(scan.notation, &mut lines, leaf, left, sink)?;
+        if left == 0 {
             return Ok(());
         }
-        left -= count;
-        next = match key_behind(alloc, last.key()) {
-            Ok(next) => next,
-            Err(_) => return Err(Fault::Memory),
-        };
+        next = key_behind(alloc, last)?;
     }
-    Ok(())
 }
 
-/// Writes the lines of the pairs of a leaf.
-fn write_lines<W: Sink>(
-    alloc: Global,
+/// Writes a line for each of the first pairs of a leaf, at most `limit` of them, which are put
+/// together here. Answers how many more are within the limit.
+fn write_leaf<W: Sink>(
     notation: Notation,
-    pairs: &[Pair],
+    lines: &mut Vec<u8>,
+    leaf: Pairs<'_>,
+    limit: u32,
     sink: &mut W,
-) -> Result<(), OutputFault>
-    ensures ok { OnOk result (TookBytes W.seen (pair_lines notation pairs.now) sink.old sink.new) }
+) -> Result<u32, OutputFault>
+    ensures ok { OnOk result
+        (TookBytes W.seen (pair_lines notation (take limit leaf.entry)) sink.old sink.new) }
+    ensures left { IfOk result (λ left. left ≡ limit - length leaf.entry) }
     ensures err { IfErr result (λ fault.
-        TookUntil W.seen fault (pair_lines notation pairs.now) sink.old sink.new) }
+        TookUntil W.seen fault (pair_lines notation (take limit leaf.entry)) sink.old sink.new) }
     ensures keeping { (W.seen sink.old).is_keeping ≡ true → (W.seen sink.new).is_keeping ≡ true }
 {
-    let lines = lines_of(alloc, notation, pairs)?;
-    write_all(sink, &lines)?;
-    Ok(())
+    lines.clear();
+    let left = append_first(lines, notation, leaf, limit)?;
+    write_all(sink, lines)?;
+    Ok(left)
 }
 
 /// The least key that is greater than this one.
@@ -175,38 +154,4 @@ pub(crate) fn key_behind(alloc: Global, key: &[u8]) -> Result<Vec<u8>, AllocErro
     let mut next = Vec::from_slice(alloc, key)?;
     next.push(0)?;
     Ok(next)
-}
-
-/// Flushes the sink.
-pub(crate) fn flush<W: Sink>(sink: &mut W) -> Result<(), Fault>
-    ensures bytes { (W.seen sink.old).is_keeping ≡ true →
-        (W.seen sink.new).taken ≡ (W.seen sink.old).taken }
-    ensures settled { OnOk result (IsSettled (W.seen sink.new)) }
-    ensures failures { CountsFailure (W.seen sink.old).failures (W.seen sink.new).failures result }
-    ensures fault { IfErr result (λ fault. fault ≡ Write) }
-{
-    sink.flush()?;
-    Ok(())
-}
-
-/// Flushes the sink before the fault is told, and answers it, or else that this failed. A sink of
-/// which a write failed is left as it is.
-pub(crate) fn fault_flushed<W: Sink>(sink: &mut W, fault: Fault) -> Fault
-    ensures { ((fault ≡ Write) × (result ≡ fault) × (sink.new ≡ sink.old))
-        ⊎ ((fault ≢ Write) × IsFlushed W.seen sink.old sink.new fault result) }
-{
-    if is_failed_write(fault) {
-        return fault;
-    }
-    match flush(sink) {
-        Ok(()) => fault,
-        Err(failed) => failed,
-    }
-}
-
-/// Whether this is the fault of a write that failed.
-fn is_failed_write(fault: Fault) -> bool
-    ensures { IsTrue result ↔ (fault ≡ Write) }
-{
-    matches!(fault, Fault::Write)
 }

@@ -9,7 +9,6 @@ use crate::faults::Fault;
 use crate::input::INPUT_LIMIT;
 use crate::lines::append_pair_text;
 use prolly_check::{ChunkHasher, Leaves, OneThread, Pairs, check_by};
-use prolly_entry::Pair;
 use prolly_file::Source;
 use prolly_text::Notation;
 use std::alloc::{AllocError, Global};
@@ -78,7 +77,7 @@ fn first_lines(
 
 /// Appends a line for each of the first pairs of a leaf, at most `limit` of them. Answers how many
 /// more are within the limit.
-fn append_first(
+pub(crate) fn append_first(
     lines: &mut Vec<u8>,
     notation: Notation,
     mut leaf: Pairs,
@@ -98,20 +97,4 @@ fn append_first(
         left -= 1;
     }
     Ok(left)
-}
-
-/// A line for each pair.
-pub(crate) fn lines_of(
-    alloc: Global,
-    notation: Notation,
-    pairs: &[Pair],
-) -> Result<Vec<u8>, AllocError>
-    ensures { IfOk result (λ lines. lines.items ≡ pair_lines notation pairs.now) }
-{
-    let mut lines = Vec::new(alloc);
-    for pair in pairs {
-        append_pair_text(&mut lines, notation, pair.key(), pair.value())?;
-        lines.extend_from_slice(b"\n")?;
-    }
-    Ok(lines)
 }

@@ -9,7 +9,7 @@ ghost use Rattle.prolly_answer.specs.SetProofs.{TellsProofReads};
 ghost use Rattle.prolly_answer.specs.declared.faults.fault.Fault.{Fault as FaultValue};
 
 use crate::answers::answer::Answer;
-use crate::answers::root_scan::{fault_flushed, flush};
+use crate::answers::flushed::{fault_flushed, flush};
 use crate::answers::shown_lines::{append_alone, append_shown};
 use crate::faults::{Fault, OutputFault};
 use prolly_entry::{Ref, Version};

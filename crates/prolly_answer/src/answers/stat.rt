@@ -169,18 +169,8 @@ pub(crate) fn numbers_of(survey: &Survey) -> RecordNumbers<'_>
         records: survey.records,
         removals: survey.removals,
         bytes: survey.bytes,
-        first_key: key_in(&survey.first_key),
-        last_key: key_in(&survey.last_key),
-    }
-}
-
-/// The key, where there is one.
-pub(crate) fn key_in(key: &Option<Vec<u8>>) -> Option<&[u8]>
-    ensures { option_copied result ≡ key_bytes key.now }
-{
-    match key {
-        None => None,
-        Some(key) => Some(key.as_slice()),
+        first_key: survey.first_key.as_deref(),
+        last_key: survey.last_key.as_deref(),
     }
 }
 

@@ -8,7 +8,8 @@ ghost use Rattle.prolly_answer.specs.Names.{name_fault_text};
 pub enum NameFault {
     /// The file can't be opened, or made.
     CannotOpen,
-    /// The file can't be replaced: it is no regular file, or no file can be made beside it.
+    /// The file can't be replaced: it is no regular file, or no file can be made beside it; or the one
+    /// that was made lost its name, can't have the rights of the old one, or can't be renamed.
     CannotReplace,
     /// The file is an input, over which the output would be written.
     IsInput,
@@ -30,7 +31,7 @@ pub enum NameFault {
     /// The file has bytes, and a build was given no record files, or `apply` no changes, nor
     /// `--force`.
     NotEmpty,
-    /// Another run is writing the file.
+    /// Another run is writing the file, or another file took its name while this run wrote it.
     IsBusy,
 }
 

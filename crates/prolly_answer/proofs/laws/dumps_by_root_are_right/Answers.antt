@@ -3,7 +3,7 @@ use Rattle.prolly_check.specs.FirstFault.{chunk_bytes}
 use Rattle.prolly_check.specs.ScanWay.{HaveFirstFrom, joined}
 use Rattle.prolly_check.specs.Way.{Clash}
 use Rattle.prolly_answer.specs.RootDumps.{HaveFirst}
-use Rattle.prolly_answer.proofs.RootDumpSteps.{from_least}
+use Rattle.prolly_answer.proofs.RootSteps.{from_least}
 use Rattle.prolly_answer.proofs.laws.dumps_by_root_are_right.Goals as goal
 
 pub returns : goal.returns

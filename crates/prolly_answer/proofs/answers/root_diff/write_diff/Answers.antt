@@ -1,4 +1,4 @@
-use Rattle.prolly_answer.specs.RootScans.{RefusesNone}
+use Rattle.prolly_answer.specs.RootOutcomes.{RefusesNone}
 use Rattle.prolly_answer.proofs.RootDiffSteps.{done_unflushed, stopped_flushed}
 use Rattle.prolly_answer.proofs.answers.root_diff.write_diff.Goals as goal
 

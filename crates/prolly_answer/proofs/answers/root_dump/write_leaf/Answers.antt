@@ -1,5 +1,5 @@
 use Rattle.std.proofs.lemmas.Result.{err_from_is_err_and}
-use Rattle.prolly_answer.proofs.RootDumpSteps.{leaf_cut_off, leaf_spelled}
+use Rattle.prolly_answer.proofs.RootSteps.{leaf_cut_off, leaf_spelled}
 use Rattle.prolly_answer.proofs.answers.root_dump.write_leaf.Goals as goal
 
 pub returns-in_err-write_all-in-Records-clause-err :

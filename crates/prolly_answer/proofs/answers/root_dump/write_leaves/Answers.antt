@@ -1,19 +1,24 @@
-use Rattle.std.proofs.Common.{refl, sym, ap, ◌∙◌, subst}
+use Rattle.std.proofs.Common.{[], refl, sym, ap, ◌∙◌, subst}
 use Rattle.std.proofs.lemmas.Result.{err_from_is_err_and}
-use Rattle.prolly_check.specs.ScanWay.{next_key}
+use Rattle.prolly_check.specs.ScanWay.{EndsEmpty, next_key}
 use Rattle.prolly_root.specs.Reader.{way_of}
-use Rattle.prolly_answer.specs.RootScans.{RefusesNoneOf}
+use Rattle.prolly_answer.specs.RootDumps.{written_pairs}
+use Rattle.prolly_answer.specs.RootOutcomes.{RefusesNoneOf}
+use Rattle.prolly_text.specs.RecordForms.{written_records}
+use Rattle.prolly_tree.specs.Difference.{puts}
 use Rattle.prolly_answer.proofs.KeyRanks.{AreBytes, all_bytes, next_bytes, no_bytes}
-use Rattle.prolly_answer.proofs.RootDumpSteps.{dump_begins, dump_ends, dump_fails, dump_goes_on}
-use Rattle.prolly_answer.proofs.RootDumpSteps.{dump_wants, leaf_found, leaf_unwritten, less_room_behind}
+use Rattle.prolly_answer.proofs.RootSteps.{begins, bytes_more, goes_on, leaf_found, leaf_unwritten}
+use Rattle.prolly_answer.proofs.RootSteps.{leaf_wants, less_room_behind, none_behind, seek_ends}
+use Rattle.prolly_answer.proofs.RootSteps.{seek_fails, some_behind}
 use Rattle.prolly_answer.proofs.answers.root_dump.write_leaves.Goals as goal
 
 pub loop-next-init : goal.loop-next-init
 loop-next-init g c = record {
   version = refl;
   root = refl;
-  dump = dump_begins g.W.Sink.seen c.args.reader.version c.args.reader.root c.args.form
-      c.new-next.result.items c.args.sink.now c.new-next.ensures.items;
+  dump = begins g.W.Sink.seen c.args.reader.version c.args.reader.root [] EndsEmpty
+      (written_pairs c.args.form) c.new-next.result.items c.args.sink.now c.new-next.ensures.items
+      (λ ends. ends) refl;
   bytes = no_bytes c.new-next.result.items c.new-next.ensures.items;
   reads = refl;
   keeps = λ content has. has;
@@ -23,8 +28,8 @@ loop-next-init g c = record {
 pub returns-in_err-seek-clause-dumped : goal.returns-in_err-seek-clause-dumped
 returns-in_err-seek-clause-dumped g c =
     let p = err_from_is_err_and c.from_residual.result c.from_residual.ensures.1 in
-    rw (p.1, p.2) (dump_fails g.W.Sink.seen c.args.reader.version c.args.reader.root c.args.form
-    c.loop-next.next.items c.args.sink.now c.loop-next.sink c.loop-next.invariant.dump
+    rw (p.1, p.2) (seek_fails g.W.Sink.seen c.args.reader.version c.args.reader.root []
+    EndsEmpty (written_pairs c.args.form) c.loop-next.next.items c.args.sink.now c.loop-next.sink c.loop-next.invariant.dump
     (RefusesNoneOf g.S.ChunkSource.is_place (g.S.ChunkSource.has c.args.source.now) c.args.reader)
     c.in_err-seek.field-0.0
     (λ content has opened. c.in_err-seek.ensures.looked.lawful content
@@ -39,10 +44,13 @@ returns-in_default-clause-dumped g c =
     let is = leaf_found c.args.reader c.loop-next.reader next c.deref.result.now
     c.deref-in-loop-next.result.now way leaf inv.version inv.root c.deref.ensures.value
     c.deref-in-loop-next.ensures.value c.in_ok-seek.ensures.found c.leaf_from-leaf.ensures in
-    dump_ends g.W.Sink.seen c.args.reader.version c.args.reader.root c.args.form
-    next c.args.sink.now c.loop-next.sink inv.dump
+    seek_ends g.W.Sink.seen c.args.reader.version c.args.reader.root [] EndsEmpty
+    (written_pairs c.args.form) next c.args.sink.now c.loop-next.sink inv.dump
     (RefusesNoneOf g.S.ChunkSource.is_place (g.S.ChunkSource.has c.args.source.now) c.args.reader)
-    way leaf is c.in_default.ensures.key
+    way leaf is (written_records c.args.form (puts leaf))
+    (bytes_more c.args.form inv.dump.lists leaf)
+    (none_behind inv.dump.lists leaf c.in_default.ensures.key)
+    (ap (λ ps. written_records c.args.form (puts ps)) c.in_default.ensures.key)
 
 pub returns-in_err-write_leaf-clause-dumped : goal.returns-in_err-write_leaf-clause-dumped
 returns-in_err-write_leaf-clause-dumped g c =
@@ -55,10 +63,11 @@ returns-in_err-write_leaf-clause-dumped g c =
     c.deref-in-loop-next.ensures.value c.in_ok-seek.ensures.found c.leaf_from-leaf.ensures in
     let p = err_from_is_err_and c.from_residual-in_err-write_leaf.result
     c.from_residual-in_err-write_leaf.ensures.1 in
-    rw (p.1, p.2) (leaf_unwritten g.W.Sink.seen c.args.reader.version c.args.reader.root c.args.form
-    next c.args.sink.now c.loop-next.sink inv.dump
+    rw (p.1, p.2) (leaf_unwritten g.W.Sink.seen c.args.reader.version c.args.reader.root []
+    EndsEmpty (written_pairs c.args.form) next c.args.sink.now c.loop-next.sink inv.dump
     (RefusesNoneOf g.S.ChunkSource.is_place (g.S.ChunkSource.has c.args.source.now) c.args.reader)
-    way leaf is c.write_leaf.new.sink c.in_err-write_leaf.field-0.0 c.in_err-write_leaf.ensures.err)
+    way leaf is (written_records c.args.form (puts leaf))
+    (bytes_more c.args.form inv.dump.lists leaf) c.write_leaf.new.sink c.in_err-write_leaf.field-0.0 c.in_err-write_leaf.ensures.err)
 
 pub returns-in_err-next-clause-dumped : goal.returns-in_err-next-clause-dumped
 returns-in_err-next-clause-dumped g c =
@@ -71,10 +80,11 @@ returns-in_err-next-clause-dumped g c =
     c.deref-in-loop-next.ensures.value c.in_ok-seek.ensures.found c.leaf_from-leaf.ensures in
     let p = err_from_is_err_and c.from_residual-in_err-next.result
     c.from_residual-in_err-next.ensures.1 in
-    rw (p.1, p.2) (dump_wants g.W.Sink.seen c.args.reader.version c.args.reader.root c.args.form
-    next c.args.sink.now c.loop-next.sink inv.dump
+    rw (p.1, p.2) (leaf_wants g.W.Sink.seen c.args.reader.version c.args.reader.root []
+    EndsEmpty (written_pairs c.args.form) next c.args.sink.now c.loop-next.sink inv.dump
     (RefusesNoneOf g.S.ChunkSource.is_place (g.S.ChunkSource.has c.args.source.now) c.args.reader)
-    way leaf is c.write_leaf.new.sink c.in_ok-write_leaf.ensures.ok c.write_leaf.ensures.keeping)
+    way leaf is (written_records c.args.form (puts leaf))
+    (bytes_more c.args.form inv.dump.lists leaf) c.write_leaf.new.sink c.in_ok-write_leaf.ensures.ok c.write_leaf.ensures.keeping)
 
 pub loop-next-smaller : goal.loop-next-smaller
 loop-next-smaller g c =
@@ -101,11 +111,13 @@ loop-next-preserved g c =
     record {
       version = c.in_ok-seek.ensures.looked.of.0 ∙ inv.version;
       root = c.in_ok-seek.ensures.looked.of.1 ∙ inv.root;
-      dump = dump_goes_on g.W.Sink.seen c.args.reader.version c.args.reader.root c.args.form
-          next c.args.sink.now c.loop-next.sink inv.dump
+      dump = goes_on g.W.Sink.seen c.args.reader.version c.args.reader.root [] EndsEmpty
+          (written_pairs c.args.form) next c.args.sink.now c.loop-next.sink inv.dump
           (RefusesNoneOf g.S.ChunkSource.is_place (g.S.ChunkSource.has c.args.source.now) c.args.reader)
-          way leaf is c.write_leaf.new.sink c.in_ok-write_leaf.ensures.ok
-          c.write_leaf.ensures.keeping c.in_ok-next.next.items c.in-Some.ensures.key.0
+          way leaf is (written_records c.args.form (puts leaf))
+          (bytes_more c.args.form inv.dump.lists leaf) c.write_leaf.new.sink
+          c.in_ok-write_leaf.ensures.ok c.write_leaf.ensures.keeping c.in_ok-next.next.items
+          (some_behind inv.dump.lists leaf c.in-Some.ensures.key.0) c.in-Some.ensures.key.0
           (c.in_ok-next.ensures.behind ∙ ap next_key c.in-Some.ensures.key.1);
       bytes = subst AreBytes (sym c.in_ok-next.ensures.behind)
           (next_bytes c.in-Some.last.now (all_bytes c.in-Some.last.now c.key_behind.ensures.bytes));

@@ -1,16 +1,18 @@
-use Rattle.std.proofs.Common.{◌≡◌}
+use Rattle.std.proofs.Common.{◌≡◌, []}
 use Rattle.prolly_check.specs.Content.{Content}
+use Rattle.prolly_check.specs.ScanWay.{EndsEmpty}
 use Rattle.prolly_root.specs.Reader.{IsReaderOf}
+use Rattle.prolly_answer.specs.RootDumps.{written_pairs}
 use Rattle.prolly_answer.proofs.KeyRanks.{AreBytes, room_above}
-use Rattle.prolly_answer.proofs.RootDumpSteps.{IsDumping}
+use Rattle.prolly_answer.proofs.RootSteps.{IsUnderWay}
 use Rattle.prolly_answer.proofs.answers.root_dump.write_leaves.Given as goal
 
 abbrev pub invariant-loop-next : goal.invariant-loop-next
 invariant-loop-next g l = record {
   version : l.reader.version ≡ l.fn.reader.version;
   root : l.reader.root ≡ l.fn.reader.root;
-  dump : IsDumping g.W.Sink.seen l.fn.reader.version l.fn.reader.root l.form l.next.items
-      l.initial.sink l.sink;
+  dump : IsUnderWay g.W.Sink.seen l.fn.reader.version l.fn.reader.root [] EndsEmpty
+      (written_pairs l.form) l.next.items l.initial.sink l.sink;
   bytes : AreBytes l.next.items;
   reads : g.S.ChunkSource.failures l.source ≡ g.S.ChunkSource.failures l.initial.source;
   keeps : (content : Content) → g.S.ChunkSource.has l.initial.source content →

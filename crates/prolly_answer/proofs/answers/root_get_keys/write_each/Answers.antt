@@ -2,7 +2,7 @@ use Rattle.std.proofs.Common.{◌∙◌, arith, option_map, refl, sym}
 use Rattle.std.proofs.lemmas.Result.{err_from_is_err_and}
 use Rattle.std.specs.Option.{option_copied}
 use Rattle.prolly_root.specs.Reader.{way_of}
-use Rattle.prolly_answer.specs.RootScans.{RefusesNoneOf}
+use Rattle.prolly_answer.specs.RootOutcomes.{RefusesNoneOf}
 use Rattle.prolly_answer.proofs.KeySteps.{asking_begins, asking_cut_off, asking_fails, asks_on}
 use Rattle.prolly_answer.proofs.KeySteps.{way_found}
 use Rattle.prolly_answer.proofs.answers.root_get_keys.write_each.Goals as goal

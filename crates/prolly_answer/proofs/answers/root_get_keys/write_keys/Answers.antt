@@ -1,6 +1,6 @@
 use Rattle.std.proofs.Common.{inr, map}
 use Rattle.std.proofs.lemmas.Result.{err_from_is_err_and}
-use Rattle.prolly_answer.specs.RootScans.{RefusesNone, RefusesNoneOf}
+use Rattle.prolly_answer.specs.RootOutcomes.{RefusesNone, RefusesNoneOf}
 use Rattle.prolly_answer.proofs.KeySteps.{keys_refused, keys_told}
 use Rattle.prolly_answer.proofs.answers.root_get_keys.write_keys.Goals as goal
 

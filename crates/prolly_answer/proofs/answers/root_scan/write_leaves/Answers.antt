@@ -1,178 +1,188 @@
-use Rattle.std.proofs.Common.{◌≡◌, ◌-◌, ◌∙◌, refl, sym, ap, arith, subst, length, Err, Some, None}
-use Rattle.std.specs.List.{slice_get}
+use Rattle.std.proofs.Common.{inr, ◌∙◌, arith, refl, ap, take}
+use Rattle.std.proofs.lemmas.Result.{err_from_is_err_and}
 use Rattle.prolly_check.specs.ScanWay.{next_key}
 use Rattle.prolly_root.specs.Reader.{way_of}
 use Rattle.prolly_answer.specs.LookUps.{pair_lines}
-use Rattle.prolly_answer.specs.Outputs.{TookBytes, TookUntil}
-use Rattle.prolly_answer.proofs.ScanSteps.{all_found, found_from, look_up_tells, many_found}
-use Rattle.prolly_answer.proofs.ScanSteps.{none_found, none_last, scan_begins, scan_ends, scan_fills}
-use Rattle.prolly_answer.proofs.ScanSteps.{scan_fails, scan_full, scan_goes_on, scan_unwritten}
-use Rattle.prolly_answer.proofs.ScanSteps.{scan_wants}
-use Rattle.prolly_answer.specs.RootScans.{RefusesNoneOf, TellsScanReads}
-use Rattle.prolly_answer.specs.declared.faults.fault.Fault.TheVariants.{Root}
+use Rattle.prolly_answer.specs.RootOutcomes.{RefusesNoneOf}
+use Rattle.prolly_answer.specs.RootScans.{AreEnough, limited_lines}
+use Rattle.prolly_answer.proofs.RootSteps.{begins, goes_on, leaf_fills, leaf_found, leaf_unwritten}
+use Rattle.prolly_answer.proofs.RootSteps.{leaf_wants, none_behind, seek_ends, seek_fails, some_behind}
+use Rattle.prolly_answer.proofs.RootSteps.{wants_first}
+use Rattle.prolly_answer.proofs.ScanSteps.{all_left, are_enough, are_left, are_wanted, lines_more}
+use Rattle.prolly_answer.proofs.ScanSteps.{none_yet, take_none}
 use Rattle.prolly_answer.proofs.answers.root_scan.write_leaves.Goals as goal
 
-pub returns-in_default-clause-err : goal.returns-in_default-clause-err
-returns-in_default-clause-err g c = scan_wants g.W.Sink.seen c.args.reader.version
-    c.args.reader.root
-    c.args.scan.now.from.now c.args.scan.now.limit c.args.scan.now.notation c.args.scan.now.limit
-    c.args.scan.now.from.now c.args.sink.now c.args.sink.now
-    (scan_begins g.W.Sink.seen c.args.reader.version c.args.reader.root c.args.scan.now.from.now
-    c.args.scan.now.limit c.args.scan.now.notation
-    c.args.scan.now.limit c.args.scan.now.from.now c.args.sink.now refl refl)
+pub returns-in_err-next-clause-scanned : goal.returns-in_err-next-clause-scanned
+returns-in_err-next-clause-scanned g c =
+    let p = err_from_is_err_and c.from_residual.result c.from_residual.ensures.1 in
+    rw (p.1, p.2) (wants_first g.W.Sink.seen c.args.reader.version c.args.reader.root
+    c.args.scan.now.from.now (AreEnough c.args.scan.now.limit)
+    (limited_lines c.args.scan.now.notation c.args.scan.now.limit)
     (RefusesNoneOf g.S.ChunkSource.is_place (g.S.ChunkSource.has c.args.source.now) c.args.reader)
+    c.args.sink.now (take_none c.args.scan.now.notation c.args.scan.now.limit))
 
-pub loop-left-init : goal.loop-left-init
-loop-left-init g c = record {
-  reads = refl;
+pub loop-next-init : goal.loop-next-init
+loop-next-init g c = record {
   version = refl;
   root = refl;
-  opened = λ content has opened. opened;
-  scan = scan_begins g.W.Sink.seen c.args.reader.version c.args.reader.root c.args.scan.now.from.now
-      c.args.scan.now.limit c.args.scan.now.notation
-      c.args.scan.now.limit c.in-Ok.next.items c.args.sink.now refl c.in-Ok.ensures.items;
+  scan = (
+    begins g.W.Sink.seen c.args.reader.version c.args.reader.root c.args.scan.now.from.now
+        (AreEnough c.args.scan.now.limit)
+        (limited_lines c.args.scan.now.notation c.args.scan.now.limit) c.in_ok-next.next.items
+        c.args.sink.now c.in_ok-next.ensures.items (none_yet c.args.scan.now.limit c.requires)
+        (take_none c.args.scan.now.notation c.args.scan.now.limit),
+    all_left c.args.scan.now.limit,
+    c.requires,
+  );
+  reads = refl;
   keeps = λ content has. has;
+  opened = λ content has opened. opened;
 }
 
-pub returns-clause-ok : goal.returns-clause-ok
-returns-clause-ok g c = scan_full g.W.Sink.seen c.args.reader.version c.args.reader.root
-    c.args.scan.now.from.now
-    c.args.scan.now.limit c.args.scan.now.notation c.loop-left.left c.loop-left.next.items
-    c.args.sink.now c.loop-left.sink
-    c.loop-left.invariant.scan (omega arith)
-
-pub returns-in-Err-clause-err : goal.returns-in-Err-clause-err
-returns-in-Err-clause-err g c = scan_fails g.W.Sink.seen c.args.reader.version
-    c.args.reader.root
-    c.args.scan.now.from.now c.args.scan.now.limit c.args.scan.now.notation c.loop-left.left
-    c.loop-left.next.items c.args.sink.now
-    c.loop-left.sink c.loop-left.invariant.scan (omega arith)
-    (RefusesNoneOf g.S.ChunkSource.is_place (g.S.ChunkSource.has c.args.source.now) c.args.reader) c.in-Err.fault
-    (λ content has opened. c.in-Err.ensures.looked.lawful content
-    (c.loop-left.invariant.keeps content has) (c.loop-left.invariant.opened content has opened))
-
-pub returns-in_default-last-clause-ok : goal.returns-in_default-last-clause-ok
-returns-in_default-last-clause-ok g c =
-    let pairs = c.in-Ok-pairs_from.pairs.items in
-    let left = c.loop-left.left in
-    let is = found_from c.args.reader c.loop-left.reader c.deref.result.now c.loop-left.next.items
-    left (way_of c.pairs_from.new.self) pairs c.loop-left.invariant.version
-    c.loop-left.invariant.root c.deref.ensures.value c.in-Ok-pairs_from.ensures.found in
-    scan_ends g.W.Sink.seen c.args.reader.version c.args.reader.root c.args.scan.now.from.now
-    c.args.scan.now.limit c.args.scan.now.notation left c.loop-left.next.items c.args.sink.now
-    c.loop-left.sink c.loop-left.invariant.scan (omega arith) is.found
-    (way_of c.pairs_from.new.self) is.way
-    (none_found left is.found pairs is.are (omega arith)
-    (none_last pairs (subst (λ ps. slice_get ps (length ps - 1) ≡ None)
-    c.deref-in-loop-left.ensures.value (sym c.in_default-last.ensures.value))))
-
-pub returns-in-Err-write_lines-clause-err : goal.returns-in-Err-write_lines-clause-err
-returns-in-Err-write_lines-clause-err g c =
-    let pairs = c.in-Ok-pairs_from.pairs.items in
-    let left = c.loop-left.left in
-    let is = found_from c.args.reader c.loop-left.reader c.deref.result.now c.loop-left.next.items
-    left (way_of c.pairs_from.new.self) pairs c.loop-left.invariant.version
-    c.loop-left.invariant.root c.deref.ensures.value c.in-Ok-pairs_from.ensures.found in
-    rw c.from.ensures (scan_unwritten g.W.Sink.seen c.args.reader.version c.args.reader.root c.args.scan.now.from.now
-    c.args.scan.now.limit c.args.scan.now.notation left c.loop-left.next.items c.args.sink.now
-    c.loop-left.sink c.loop-left.invariant.scan (omega arith) is.found
-    (way_of c.pairs_from.new.self) is.way c.write_lines.new.sink
+pub returns-in_err-seek-clause-scanned : goal.returns-in_err-seek-clause-scanned
+returns-in_err-seek-clause-scanned g c =
+    let inv = c.loop-next.invariant in
+    let p = err_from_is_err_and c.from_residual-in_err-seek.result
+    c.from_residual-in_err-seek.ensures.1 in
+    rw (p.1, p.2) (seek_fails g.W.Sink.seen c.args.reader.version c.args.reader.root
+    c.args.scan.now.from.now (AreEnough c.args.scan.now.limit)
+    (limited_lines c.args.scan.now.notation c.args.scan.now.limit) c.loop-next.next.items
+    c.args.sink.now c.loop-next.sink inv.scan.0
     (RefusesNoneOf g.S.ChunkSource.is_place (g.S.ChunkSource.has c.args.source.now) c.args.reader)
-    c.in-Err-write_lines.fault
-    (subst (λ ps. TookUntil g.W.Sink.seen c.in-Err-write_lines.fault
-    (pair_lines c.args.scan.now.notation ps) c.loop-left.sink c.write_lines.new.sink)
-    (c.deref-in-loop-left-2.ensures.value ∙ is.are) c.in-Err-write_lines.ensures.err))
+    c.in_err-seek.field-0.0
+    (λ content has opened. c.in_err-seek.ensures.looked.lawful content (inv.keeps content has)
+    (inv.opened content has opened)))
 
-pub returns-then-count-left-clause-ok : goal.returns-then-count-left-clause-ok
-returns-then-count-left-clause-ok g c =
-    let pairs = c.in-Ok-pairs_from.pairs.items in
-    let left = c.loop-left.left in
-    let is = found_from c.args.reader c.loop-left.reader c.deref.result.now c.loop-left.next.items
-    left (way_of c.pairs_from.new.self) pairs c.loop-left.invariant.version
-    c.loop-left.invariant.root c.deref.ensures.value c.in-Ok-pairs_from.ensures.found in
-    scan_fills g.W.Sink.seen c.args.reader.version c.args.reader.root c.args.scan.now.from.now
-    c.args.scan.now.limit c.args.scan.now.notation left c.loop-left.next.items c.args.sink.now
-    c.loop-left.sink c.loop-left.invariant.scan (omega arith) is.found
-    (way_of c.pairs_from.new.self) is.way c.write_lines.new.sink
-    (many_found left is.found pairs is.are (omega (
-      arith,
-      c.if-count-left.true,
-      c.len-count.ensures,
-      c.in-Ok-pairs_from.pairs.ok,
-    )))
-    (subst (λ ps. TookBytes g.W.Sink.seen (pair_lines c.args.scan.now.notation ps) c.loop-left.sink
-    c.write_lines.new.sink) (c.deref-in-loop-left-2.ensures.value ∙ is.are)
-    c.in_default-write_lines.ensures.ok) c.in_default-write_lines.ensures.keeping
-
-pub returns-in-Err-key_behind-clause-err : goal.returns-in-Err-key_behind-clause-err
-returns-in-Err-key_behind-clause-err g c =
-    let pairs = c.in-Ok-pairs_from.pairs.items in
-    let left = c.loop-left.left in
-    let last = c.in-Some.last.now in
-    let is = found_from c.args.reader c.loop-left.reader c.deref.result.now c.loop-left.next.items
-    left (way_of c.pairs_from.new.self) pairs c.loop-left.invariant.version
-    c.loop-left.invariant.root c.deref.ensures.value c.in-Ok-pairs_from.ensures.found in
-    let all = all_found left is.found pairs is.are (omega (
-      arith,
-      c.if-count-left.false,
-      c.len-count.ensures,
-      c.in-Ok-pairs_from.pairs.ok,
-    )) in
-    scan_wants g.W.Sink.seen c.args.reader.version c.args.reader.root c.args.scan.now.from.now
-    c.args.scan.now.limit c.args.scan.now.notation (left - length pairs) (next_key last.key)
-    c.args.sink.now c.write_lines.new.sink
-    (scan_goes_on g.W.Sink.seen c.args.reader.version c.args.reader.root c.args.scan.now.from.now
-    c.args.scan.now.limit c.args.scan.now.notation left c.loop-left.next.items c.args.sink.now
-    c.loop-left.sink c.loop-left.invariant.scan (omega arith) is.found
-    (way_of c.pairs_from.new.self) is.way c.write_lines.new.sink last (left - length pairs)
-    (next_key last.key)
-    (subst (λ ps. TookBytes g.W.Sink.seen (pair_lines c.args.scan.now.notation ps)
-    c.loop-left.sink c.write_lines.new.sink) (c.deref-in-loop-left-2.ensures.value ∙ is.are)
-    c.in_default-write_lines.ensures.ok) c.in_default-write_lines.ensures.keeping
-    (subst (λ ps. slice_get ps (length ps - 1) ≡ Some last)
-    (c.deref-in-loop-left.ensures.value ∙ all) (sym c.in-Some.ensures.value)) refl
-    (ap (λ ps. left - length ps) all))
+pub returns-in_default-clause-scanned : goal.returns-in_default-clause-scanned
+returns-in_default-clause-scanned g c =
+    let inv = c.loop-next.invariant in
+    let next = c.loop-next.next.items in
+    let left = c.loop-next.left in
+    let limit = c.args.scan.now.limit in
+    let notation = c.args.scan.now.notation in
+    let leaf = c.leaf_from-leaf.result in
+    let way = way_of c.seek.new.self in
+    let is = leaf_found c.args.reader c.loop-next.reader next c.deref.result.now
+    c.deref-in-loop-next.result.now way leaf inv.version inv.root c.deref.ensures.value
+    c.deref-in-loop-next.ensures.value c.in_ok-seek.ensures.found c.leaf_from-leaf.ensures in
+    seek_ends g.W.Sink.seen c.args.reader.version c.args.reader.root c.args.scan.now.from.now
+    (AreEnough limit) (limited_lines notation limit) next c.args.sink.now c.loop-next.sink
+    inv.scan.0
     (RefusesNoneOf g.S.ChunkSource.is_place (g.S.ChunkSource.has c.args.source.now) c.args.reader)
+    way leaf is (pair_lines notation (take left leaf))
+    (lines_more notation limit left inv.scan.0.lists leaf inv.scan.1 inv.scan.2)
+    (inr (none_behind inv.scan.0.lists leaf c.in_default.ensures.key))
+    (ap (λ ps. pair_lines notation (take left ps)) c.in_default.ensures.key ∙
+    take_none notation left)
 
-pub loop-left-preserved : goal.loop-left-preserved
-loop-left-preserved g c =
-    let pairs = c.in-Ok-pairs_from.pairs.items in
-    let left = c.loop-left.left in
-    let last = c.in-Some.last.now in
-    let is = found_from c.args.reader c.loop-left.reader c.deref.result.now c.loop-left.next.items
-    left (way_of c.pairs_from.new.self) pairs c.loop-left.invariant.version
-    c.loop-left.invariant.root c.deref.ensures.value c.in-Ok-pairs_from.ensures.found in
-    let all = all_found left is.found pairs is.are (omega (
-      arith,
-      c.if-count-left.false,
-      c.len-count.ensures,
-      c.in-Ok-pairs_from.pairs.ok,
-    )) in
+pub returns-in_err-left-clause-scanned : goal.returns-in_err-left-clause-scanned
+returns-in_err-left-clause-scanned g c =
+    let inv = c.loop-next.invariant in
+    let next = c.loop-next.next.items in
+    let left = c.loop-next.left in
+    let limit = c.args.scan.now.limit in
+    let notation = c.args.scan.now.notation in
+    let leaf = c.leaf_from-leaf.result in
+    let way = way_of c.seek.new.self in
+    let is = leaf_found c.args.reader c.loop-next.reader next c.deref.result.now
+    c.deref-in-loop-next.result.now way leaf inv.version inv.root c.deref.ensures.value
+    c.deref-in-loop-next.ensures.value c.in_ok-seek.ensures.found c.leaf_from-leaf.ensures in
+    let p = err_from_is_err_and c.from_residual-in_err-left.result
+    c.from_residual-in_err-left.ensures.1 in
+    rw (p.1, p.2) (leaf_unwritten g.W.Sink.seen c.args.reader.version c.args.reader.root c.args.scan.now.from.now
+    (AreEnough limit) (limited_lines notation limit) next c.args.sink.now c.loop-next.sink
+    inv.scan.0
+    (RefusesNoneOf g.S.ChunkSource.is_place (g.S.ChunkSource.has c.args.source.now) c.args.reader)
+    way leaf is (pair_lines notation (take left leaf))
+    (lines_more notation limit left inv.scan.0.lists leaf inv.scan.1 inv.scan.2)
+    c.write_leaf.new.sink c.in_err-left.field-0.0 c.in_err-left.ensures.err)
+
+pub returns-then-left-eq0-clause-scanned : goal.returns-then-left-eq0-clause-scanned
+returns-then-left-eq0-clause-scanned g c =
+    let inv = c.loop-next.invariant in
+    let next = c.loop-next.next.items in
+    let left = c.loop-next.left in
+    let limit = c.args.scan.now.limit in
+    let notation = c.args.scan.now.notation in
+    let leaf = c.leaf_from-leaf.result in
+    let way = way_of c.seek.new.self in
+    let is = leaf_found c.args.reader c.loop-next.reader next c.deref.result.now
+    c.deref-in-loop-next.result.now way leaf inv.version inv.root c.deref.ensures.value
+    c.deref-in-loop-next.ensures.value c.in_ok-seek.ensures.found c.leaf_from-leaf.ensures in
+    leaf_fills g.W.Sink.seen c.args.reader.version c.args.reader.root c.args.scan.now.from.now
+    (AreEnough limit) (limited_lines notation limit) next c.args.sink.now c.loop-next.sink
+    inv.scan.0
+    (RefusesNoneOf g.S.ChunkSource.is_place (g.S.ChunkSource.has c.args.source.now) c.args.reader)
+    way leaf is (pair_lines notation (take left leaf))
+    (lines_more notation limit left inv.scan.0.lists leaf inv.scan.1 inv.scan.2)
+    c.write_leaf.new.sink c.in_ok-left.ensures.ok c.write_leaf.ensures.keeping
+    (are_enough limit left inv.scan.0.lists leaf inv.scan.1
+    (omega (arith, c.in_ok-left.ensures.left, c.if-left-eq0.true)))
+
+pub returns-in_err-next-2-clause-scanned : goal.returns-in_err-next-2-clause-scanned
+returns-in_err-next-2-clause-scanned g c =
+    let inv = c.loop-next.invariant in
+    let next = c.loop-next.next.items in
+    let left = c.loop-next.left in
+    let limit = c.args.scan.now.limit in
+    let notation = c.args.scan.now.notation in
+    let leaf = c.leaf_from-leaf.result in
+    let way = way_of c.seek.new.self in
+    let is = leaf_found c.args.reader c.loop-next.reader next c.deref.result.now
+    c.deref-in-loop-next.result.now way leaf inv.version inv.root c.deref.ensures.value
+    c.deref-in-loop-next.ensures.value c.in_ok-seek.ensures.found c.leaf_from-leaf.ensures in
+    let p = err_from_is_err_and c.from_residual-in_err-next-2.result
+    c.from_residual-in_err-next-2.ensures.1 in
+    rw (p.1, p.2) (leaf_wants g.W.Sink.seen c.args.reader.version c.args.reader.root c.args.scan.now.from.now
+    (AreEnough limit) (limited_lines notation limit) next c.args.sink.now c.loop-next.sink
+    inv.scan.0
+    (RefusesNoneOf g.S.ChunkSource.is_place (g.S.ChunkSource.has c.args.source.now) c.args.reader)
+    way leaf is (pair_lines notation (take left leaf))
+    (lines_more notation limit left inv.scan.0.lists leaf inv.scan.1 inv.scan.2)
+    c.write_leaf.new.sink c.in_ok-left.ensures.ok c.write_leaf.ensures.keeping)
+
+pub loop-next-smaller : goal.loop-next-smaller
+loop-next-smaller g c = omega (
+  arith,
+  c.in_ok-left.ensures.left,
+  c.in-Some.ensures.key.0,
+  c.loop-next.invariant.scan.2,
+)
+
+pub loop-next-preserved : goal.loop-next-preserved
+loop-next-preserved g c =
+    let inv = c.loop-next.invariant in
+    let next = c.loop-next.next.items in
+    let left = c.loop-next.left in
+    let limit = c.args.scan.now.limit in
+    let notation = c.args.scan.now.notation in
+    let leaf = c.leaf_from-leaf.result in
+    let way = way_of c.seek.new.self in
+    let is = leaf_found c.args.reader c.loop-next.reader next c.deref.result.now
+    c.deref-in-loop-next.result.now way leaf inv.version inv.root c.deref.ensures.value
+    c.deref-in-loop-next.ensures.value c.in_ok-seek.ensures.found c.leaf_from-leaf.ensures in
+    let lists = inv.scan.0.lists in
     record {
-      reads = c.in-Ok-pairs_from.ensures.looked.reads ∙ c.loop-left.invariant.reads;
-      version = c.in-Ok-pairs_from.ensures.looked.of.0 ∙ c.loop-left.invariant.version;
-      root = c.in-Ok-pairs_from.ensures.looked.of.1 ∙ c.loop-left.invariant.root;
-      opened = λ content has opened. c.in-Ok-pairs_from.ensures.looked.kept content
-          (c.loop-left.invariant.keeps content has) (c.loop-left.invariant.opened content has opened);
-      scan = scan_goes_on g.W.Sink.seen c.args.reader.version c.args.reader.root
-          c.args.scan.now.from.now c.args.scan.now.limit c.args.scan.now.notation left
-          c.loop-left.next.items c.args.sink.now c.loop-left.sink c.loop-left.invariant.scan
-          (omega arith) is.found (way_of c.pairs_from.new.self) is.way c.write_lines.new.sink last
-          _ c.in-Ok-key_behind.next.items
-          (subst (λ ps. TookBytes g.W.Sink.seen (pair_lines c.args.scan.now.notation ps)
-          c.loop-left.sink c.write_lines.new.sink) (c.deref-in-loop-left-2.ensures.value ∙ is.are)
-          c.in_default-write_lines.ensures.ok) c.in_default-write_lines.ensures.keeping
-          (subst (λ ps. slice_get ps (length ps - 1) ≡ Some last)
-          (c.deref-in-loop-left.ensures.value ∙ all) (sym c.in-Some.ensures.value))
-          (c.in-Ok-key_behind.ensures.behind ∙ ap next_key c.key.ensures.key)
-          (omega (arith, c.len-count.ensures, c.in-Ok-pairs_from.pairs.ok, ap length all));
-      keeps = λ content has. c.in-Ok-pairs_from.ensures.looked.keeps content
-          (c.loop-left.invariant.keeps content has);
+      version = c.in_ok-seek.ensures.looked.of.0 ∙ inv.version;
+      root = c.in_ok-seek.ensures.looked.of.1 ∙ inv.root;
+      scan = (
+        goes_on g.W.Sink.seen c.args.reader.version c.args.reader.root c.args.scan.now.from.now
+            (AreEnough limit) (limited_lines notation limit) next c.args.sink.now c.loop-next.sink
+            inv.scan.0
+            (RefusesNoneOf g.S.ChunkSource.is_place (g.S.ChunkSource.has c.args.source.now) c.args.reader)
+            way leaf is (pair_lines notation (take left leaf))
+            (lines_more notation limit left inv.scan.0.lists leaf inv.scan.1 inv.scan.2)
+            c.write_leaf.new.sink c.in_ok-left.ensures.ok c.write_leaf.ensures.keeping
+            c.in_ok-next-2.next.items
+            (are_wanted limit left lists leaf inv.scan.1
+            (omega (arith, c.in_ok-left.ensures.left, c.if-left-eq0.false))
+            (some_behind lists leaf c.in-Some.ensures.key.0)) c.in-Some.ensures.key.0
+            (c.in_ok-next-2.ensures.behind ∙ ap next_key c.in-Some.ensures.key.1),
+        c.in_ok-left.ensures.left ∙ are_left limit left lists leaf inv.scan.1,
+        omega (arith, c.if-left-eq0.false),
+      );
+      reads = c.in_ok-seek.ensures.looked.reads ∙ inv.reads;
+      keeps = λ content has. c.in_ok-seek.ensures.looked.keeps content (inv.keeps content has);
+      opened = λ content has opened. c.in_ok-seek.ensures.looked.kept content (inv.keeps content has)
+          (inv.opened content has opened);
     }
-
-pub returns-in-Err-clause-reads : goal.returns-in-Err-clause-reads
-returns-in-Err-clause-reads g c =
-    let new = g.S.ChunkSource.failures c.pairs_from.new.source in
-    subst (λ n. TellsScanReads n new (Err (Root c.in-Err.fault))) c.loop-left.invariant.reads
-    (look_up_tells (g.S.ChunkSource.failures c.loop-left.source) new c.in-Err.fault
-    c.in-Err.ensures.looked.reads)

@@ -1,15 +1,18 @@
-use Rattle.std.proofs.Common.{◌≡◌}
+use Rattle.std.proofs.Common.{◌≡◌, ◌-◌, ◌<◌, length}
 use Rattle.prolly_check.specs.Content.{Content}
+use Rattle.prolly_check.specs.ScanWay.{joined}
 use Rattle.prolly_root.specs.Reader.{IsReaderOf}
-use Rattle.prolly_answer.proofs.ScanSteps.{IsScanning}
+use Rattle.prolly_answer.specs.RootScans.{AreEnough, limited_lines}
+use Rattle.prolly_answer.proofs.RootSteps.{IsUnderWay}
 use Rattle.prolly_answer.proofs.answers.root_scan.write_leaves.Given as goal
 
-abbrev pub invariant-loop-left : goal.invariant-loop-left
-invariant-loop-left g l = record {
+abbrev pub invariant-loop-next : goal.invariant-loop-next
+invariant-loop-next g l = record {
   version : l.reader.version ≡ l.fn.reader.version;
   root : l.reader.root ≡ l.fn.reader.root;
-  scan : IsScanning g.W.Sink.seen l.fn.reader.version l.fn.reader.root l.fn.scan.from.now
-      l.fn.scan.limit l.fn.scan.notation l.left l.next.items l.initial.sink l.sink;
+  scan : (s : IsUnderWay g.W.Sink.seen l.fn.reader.version l.fn.reader.root l.fn.scan.from.now
+      (AreEnough l.fn.scan.limit) (limited_lines l.fn.scan.notation l.fn.scan.limit) l.next.items
+      l.initial.sink l.sink) × (l.left ≡ l.fn.scan.limit - length (joined s.lists)) × (0 < l.left);
   reads : g.S.ChunkSource.failures l.source ≡ g.S.ChunkSource.failures l.initial.source;
   keeps : (content : Content) → g.S.ChunkSource.has l.initial.source content →
       g.S.ChunkSource.has l.source content;
@@ -18,5 +21,5 @@ invariant-loop-left g l = record {
       IsReaderOf g.S.ChunkSource.is_place content l.reader;
 }
 
-abbrev pub decreases-loop-left : goal.decreases-loop-left
-decreases-loop-left g l = l.left
+abbrev pub decreases-loop-next : goal.decreases-loop-next
+decreases-loop-next g l = l.left

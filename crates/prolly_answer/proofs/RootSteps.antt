@@ -1,4 +1,4 @@
--- Dumps by a root, leaf by leaf.
+-- Going over the pairs of a tree by its root, leaf by leaf.
 use Rattle.std.proofs.Common.{◌≡◌, ◌≢◌, ℕ, ◌<◌, ◌≤◌, inl, inr, true, false, Bool, List, [], ◌∷◌, ◌++◌}
 use Rattle.std.proofs.Common.{length, Ok, Err, refl, sym, ap, ◌∙◌, subst, arith, append-nil}
 use Rattle.std.proofs.lemmas.List.{map-append}
@@ -24,11 +24,10 @@ use Rattle.prolly_text.specs.declared.lines.form.RecordForm.TheVariants.{Records
 use Rattle.prolly_tree.specs.Difference.{puts}
 use Rattle.prolly_tree.specs.RecordFile.{record_file}
 use Rattle.prolly_tree.specs.Tree.{last_key}
-use Rattle.prolly_answer.specs.Outputs.{TookBytes, TookPart, TookUntil}
-use Rattle.prolly_answer.specs.RootDumps.{FitsOutcome, IsDumpedByRoot, IsSettledAs}
-use Rattle.prolly_answer.specs.RootDumps.{Outcome, TakesAllFor, TakesFor}
+use Rattle.prolly_answer.specs.Outputs.{TookAll, TookBytes, TookPart, TookUntil}
 use Rattle.prolly_answer.specs.RootDumps.{written_pairs}
-use Rattle.prolly_answer.specs.RootScans.{Scanned}
+use Rattle.prolly_answer.specs.RootOutcomes.{FitsOutcome, IsSettledAs, IsWrittenByRoot, Outcome}
+use Rattle.prolly_answer.specs.RootOutcomes.{Scanned, TakesAllFor, TakesFor}
 use Rattle.prolly_answer.specs.declared.faults.output_fault.OutputFault.{OutputFault}
 use Rattle.prolly_answer.specs.declared.faults.output_fault.OutputFault.TheVariants.{Memory, Write}
 use Rattle.prolly_answer.specs.declared.faults.root_output_fault.RootOutputFault.TheVariants.{Output}
@@ -139,132 +138,156 @@ module _ {W : Type 0} (seen : W → SinkView) (form : RecordForm) (is : form ≡
   leaf_cut_off x w = subst (λ b. TookPart seen b old new) same_bytes
       (wrote_part seen x bytes old new w)
 
--- ---- a dump on its way
+-- ---- a command on its way
 
-module _ {W : Type 0} (seen : W → SinkView) (version : Version) (root : List ℕ) (form : RecordForm)
+-- No more is sought behind a leaf that has no pairs.
+pub none_behind : (lists : List (List Pair)) (found : List Pair) → found ≡ [] →
+    EndsEmpty (lists ++ found ∷ [])
+none_behind lists found none =
+    subst (λ ps. EndsEmpty (lists ++ ps ∷ [])) (sym none) (ends_empty lists)
+
+-- More is sought behind one that has some.
+pub some_behind : (lists : List (List Pair)) (found : List Pair) → 0 < length found →
+    ¬ (EndsEmpty (lists ++ found ∷ []))
+some_behind lists [] some = absurd (omega arith)
+some_behind lists (p ∷ ps) some = ends_full lists (p ∷ ps) (λ e. cc)
+
+module _ {W : Type 0} (seen : W → SinkView) (version : Version) (root from : List ℕ)
+    (enough : List (List Pair) → Type 0) (bytes : List (List Pair) → List ℕ)
   where
-    -- The next look-up is that of this key.
-    pub record IsDumping (next : List ℕ) (old new : W) : Type 0 where
+    -- What was found is not enough, and the next look-up is that of this key.
+    pub record IsUnderWay (next : List ℕ) (old new : W) : Type 0 where
       pub lists : List (List Pair)
       pub ways : List (List (List ℕ))
-      pub are : AreScanned version root [] lists ways
-      pub full : ¬ (EndsEmpty lists)
-      pub next_is : next ≡ behind [] lists
-      pub took : TookSoFar seen (written_pairs form lists) old new
+      pub are : AreScanned version root from lists ways
+      pub few : ¬ (enough lists)
+      pub next_is : next ≡ behind from lists
+      pub took : TookSoFar seen (bytes lists) old new
 
-    pub dump_begins : (next : List ℕ) (old : W) → next ≡ [] → IsDumping next old old
-    dump_begins next old is = record {
+    abbrev pub begins : (next : List ℕ) (old : W) → next ≡ from → ¬ (enough []) → bytes [] ≡ [] →
+        IsUnderWay next old old
+    begins next old is few none = record {
       lists = [];
       ways = [];
       are = tt;
-      full = λ ends. ends;
+      few = few;
       next_is = is;
-      took = took_none seen old;
+      took = subst (λ b. TookSoFar seen b old old) (sym none) (took_none seen old);
     }
 
-    module _ (next : List ℕ) (old mid : W) (d : IsDumping next old mid) where
+    -- Memory is wanted before anything is sought.
+    pub wants_first : (may : RootFault → Type 0) (old : W) → bytes [] ≡ [] →
+        IsWrittenByRoot may version root from enough bytes (TakesFor seen old old)
+        (Err (Output Memory))
+    wants_first may old none = record {
+      found = record { lists = []; ways = []; are = tt };
+      fits = tt;
+      took = took_front seen (bytes []) old old
+          (subst (λ b. TookSoFar seen b old old) (sym none) (took_none seen old)) (bytes []) []
+          (sym (append-nil (bytes [])));
+    }
+
+    module _ (next : List ℕ) (old mid : W) (d : IsUnderWay next old mid) where
       -- A look-up has a fault.
-      pub dump_fails : (may : RootFault → Type 0) (fault : RootFault) → may fault →
-          IsDumpedByRoot may version root form (TakesFor seen old mid) (Err (Root fault))
-      dump_fails may fault lawful = record {
+      pub seek_fails : (may : RootFault → Type 0) (fault : RootFault) → may fault →
+          IsWrittenByRoot may version root from enough bytes (TakesFor seen old mid)
+          (Err (Root fault))
+      seek_fails may fault lawful = record {
         found = record { lists = d.lists; ways = d.ways; are = d.are };
-        fits = (d.full, lawful);
+        fits = (d.few, lawful);
         took = d.took.all;
       }
 
       module _ (may : RootFault → Type 0) (way : List (List ℕ)) (found : List Pair)
-          (more : IsScanWay version root next way found) where
-        abbrev with_more : Scanned version root []
+          (more : IsScanWay version root next way found) (own : List ℕ)
+          (text : bytes (d.lists ++ found ∷ []) ≡ bytes d.lists ++ own) where
+        abbrev with_more : Scanned version root from
         with_more = record {
           lists = d.lists ++ found ∷ [];
           ways = d.ways ++ way ∷ [];
-          are = scanned_more version root [] d.lists d.ways found way d.are
+          are = scanned_more version root from d.lists d.ways found way d.are
               (subst (λ key. IsScanWay version root key way found) d.next_is more);
         }
 
         -- It finds that there are no more.
-        pub dump_ends : found ≡ [] →
-            IsDumpedByRoot may version root form (TakesFor seen old mid) (Ok tt)
-        dump_ends none = record {
+        pub seek_ends : enough (d.lists ++ found ∷ []) → own ≡ [] →
+            IsWrittenByRoot may version root from enough bytes (TakesFor seen old mid) (Ok tt)
+        seek_ends all none = record {
           found = with_more;
-          fits = subst (λ ps. EndsEmpty (d.lists ++ ps ∷ [])) (sym none) (ends_empty d.lists);
-          took = subst (λ bytes. TookBytes seen bytes old mid) (sym (bytes_more form d.lists found ∙
-              ap (λ ps. written_pairs form d.lists ++ written_records form (puts ps)) none ∙
-              append-nil (written_pairs form d.lists))) d.took.all;
+          fits = all;
+          took = subst (λ b. TookBytes seen b old mid) (sym (text ∙
+              ap (λ b. bytes d.lists ++ b) none ∙ append-nil (bytes d.lists))) d.took.all;
         }
 
         module _ (new : W) where
-          -- Its leaf is not written whole.
-          pub leaf_unwritten : (fault : OutputFault) →
-              TookUntil seen fault (written_records form (puts found)) mid new →
-              IsDumpedByRoot may version root form (TakesFor seen old new) (Err (Output fault))
+          -- What is to be written of its leaf is not written whole.
+          pub leaf_unwritten : (fault : OutputFault) → TookUntil seen fault own mid new →
+              IsWrittenByRoot may version root from enough bytes (TakesFor seen old new)
+              (Err (Output fault))
           leaf_unwritten fault t = record {
             found = with_more;
             fits = tt;
-            took = subst (λ bytes. TookUntil seen fault bytes old new)
-                (sym (bytes_more form d.lists found))
-                (until_also seen (written_pairs form d.lists) (written_records form (puts found))
-                old mid new d.took fault t);
+            took = subst (λ b. TookUntil seen fault b old new) (sym text)
+                (until_also seen (bytes d.lists) own old mid new d.took fault t);
           }
 
-          module _ (t : TookBytes seen (written_records form (puts found)) mid new)
+          module _ (t : TookBytes seen own mid new)
               (keeping : (seen mid).is_keeping ≡ true → (seen new).is_keeping ≡ true) where
-            took_leaf : TookSoFar seen (written_pairs form with_more.lists) old new
-            took_leaf = subst (λ bytes. TookSoFar seen bytes old new)
-                (sym (bytes_more form d.lists found))
-                (took_also seen (written_pairs form d.lists) (written_records form (puts found)) old
-                mid new d.took t keeping)
+            abbrev took_leaf : TookSoFar seen (bytes (d.lists ++ found ∷ [])) old new
+            took_leaf = subst (λ b. TookSoFar seen b old new) (sym text)
+                (took_also seen (bytes d.lists) own old mid new d.took t keeping)
+
+            -- It is written, and that is enough.
+            pub leaf_fills : enough (d.lists ++ found ∷ []) →
+                IsWrittenByRoot may version root from enough bytes (TakesFor seen old new) (Ok tt)
+            leaf_fills all = record { found = with_more; fits = all; took = took_leaf.all }
 
             -- It is written, and memory is wanted before more is sought.
-            pub dump_wants : IsDumpedByRoot may version root form (TakesFor seen old new)
-                (Err (Output Memory))
-            dump_wants = record {
+            pub leaf_wants : IsWrittenByRoot may version root from enough bytes
+                (TakesFor seen old new) (Err (Output Memory))
+            leaf_wants = record {
               found = with_more;
               fits = tt;
-              took = took_front seen (written_pairs form with_more.lists) old new took_leaf
-                  (written_pairs form with_more.lists) []
-                  (sym (append-nil (written_pairs form with_more.lists)));
+              took = took_front seen (bytes with_more.lists) old new took_leaf
+                  (bytes with_more.lists) [] (sym (append-nil (bytes with_more.lists)));
             }
 
-            pub dump_goes_on : (key : List ℕ) → 0 < length found →
-                key ≡ next_key (last_key found) → IsDumping key old new
-            dump_goes_on key some is = record {
+            abbrev pub goes_on : (key : List ℕ) → ¬ (enough (d.lists ++ found ∷ [])) →
+                0 < length found → key ≡ next_key (last_key found) → IsUnderWay key old new
+            goes_on key few some is = record {
               lists = with_more.lists;
               ways = with_more.ways;
               are = with_more.are;
-              full = ends_full d.lists found (some_found found some);
-              next_is = is ∙ sym (behind_more [] d.lists found ∙ behind_some found some);
+              few = few;
+              next_is = is ∙ sym (behind_more from d.lists found ∙ behind_some found some);
               took = took_leaf;
             }
               where
-                some_found : (ps : List Pair) → 0 < length ps → ps ≢ []
-                some_found [] some = absurd (omega arith)
-                some_found (p ∷ ps) some = λ e. cc
-
                 behind_some : (ps : List Pair) → 0 < length ps →
-                    from_behind (behind [] d.lists) ps ≡ next_key (last_key ps)
+                    from_behind (behind from d.lists) ps ≡ next_key (last_key ps)
                 behind_some [] some = absurd (omega arith)
                 behind_some (p ∷ ps) some = refl
 
 -- ---- the end
 
 -- What fits by one account of faults does by another.
-fits_may : (may also : RootFault → Type 0) (lists : List (List Pair)) (outcome : Outcome) →
-    ((fault : RootFault) → may fault → also fault) → FitsOutcome may lists outcome →
-    FitsOutcome also lists outcome
-fits_may may also lists (Ok done) so fits = fits
-fits_may may also lists (Err (Root fault)) so fits = (fits.0, so fault fits.1)
-fits_may may also lists (Err (Output fault)) so fits = tt
+fits_may : (enough : List (List Pair) → Type 0) (may also : RootFault → Type 0)
+    (lists : List (List Pair)) (outcome : Outcome) →
+    ((fault : RootFault) → may fault → also fault) → FitsOutcome enough may lists outcome →
+    FitsOutcome enough also lists outcome
+fits_may enough may also lists (Ok done) so fits = fits
+fits_may enough may also lists (Err (Root fault)) so fits = (fits.0, so fault fits.1)
+fits_may enough may also lists (Err (Output fault)) so fits = tt
 
-fits_told : {W : Type 0} (seen : W → SinkView) (may : RootFault → Type 0)
-    (lists : List (List Pair)) (mid new : W) (outcome told : Outcome) →
-    IsSettledAs seen mid new outcome told → FitsOutcome may lists outcome →
-    FitsOutcome may lists told
-fits_told seen may lists mid new outcome told (inl is) fits =
-    subst (FitsOutcome may lists) (sym is.1) fits
-fits_told seen may lists mid new outcome told (inr is) fits = elim is.1.tells [
-  | inl s ↦ subst (FitsOutcome may lists) (sym s.0) fits
-  | inr s ↦ subst (FitsOutcome may lists) (sym s.0) tt
+fits_told : {W : Type 0} (seen : W → SinkView) (enough : List (List Pair) → Type 0)
+    (may : RootFault → Type 0) (lists : List (List Pair)) (mid new : W) (outcome told : Outcome) →
+    IsSettledAs seen mid new outcome told → FitsOutcome enough may lists outcome →
+    FitsOutcome enough may lists told
+fits_told seen enough may lists mid new outcome told (inl is) fits =
+    subst (FitsOutcome enough may lists) (sym is.1) fits
+fits_told seen enough may lists mid new outcome told (inr is) fits = elim is.1.tells [
+  | inl s ↦ subst (FitsOutcome enough may lists) (sym s.0) fits
+  | inr s ↦ subst (FitsOutcome enough may lists) (sym s.0) tt
 ]
 
 module _ {W : Type 0} (seen : W → SinkView) (old mid new : W)
@@ -306,34 +329,50 @@ module _ {W : Type 0} (seen : W → SinkView) (old mid new : W)
         (part_taken outcome is.0 is.1.same s.1 t)
   ]
 
-module _ {W : Type 0} (seen : W → SinkView) (version : Version) (root : List ℕ) (form : RecordForm)
+module _ {W : Type 0} (seen : W → SinkView) (version : Version) (root from : List ℕ)
+    (enough : List (List Pair) → Type 0) (bytes : List (List Pair) → List ℕ)
     (may : RootFault → Type 0) where
-  -- The root is not found.
-  pub dump_refused : (fault : RootFault) (old : W) → may fault →
-      IsDumpedByRoot may version root form (TakesAllFor seen old old) (Err (Root fault))
-  dump_refused fault old lawful = record {
-    found = record { lists = []; ways = []; are = tt };
-    fits = (λ ends. ends, lawful);
-    took = record {
+  module _ (old : W) (none : bytes [] ≡ []) where
+    nothing_taken : TookAll seen (bytes []) old old
+    nothing_taken = subst (λ b. TookAll seen b old old) (sym none) (record {
       unfailed = refl;
       took = λ k. sym (append-nil (seen old).taken);
       settled = λ before. before;
-    };
-  }
+    })
+
+    -- Nothing is sought.
+    pub nothing_sought : enough [] →
+        IsWrittenByRoot may version root from enough bytes (TakesAllFor seen old old) (Ok tt)
+    nothing_sought all = record {
+      found = record { lists = []; ways = []; are = tt };
+      fits = all;
+      took = nothing_taken;
+    }
+
+    -- The root is not found.
+    pub root_refused : (fault : RootFault) → ¬ (enough []) → may fault →
+        IsWrittenByRoot may version root from enough bytes (TakesAllFor seen old old)
+        (Err (Root fault))
+    root_refused fault few lawful = record {
+      found = record { lists = []; ways = []; are = tt };
+      fits = (few, lawful);
+      took = nothing_taken;
+    }
 
   -- What was written is flushed, and told of the version and the root of the reader.
-  pub dump_told : (by : RootFault → Type 0) (v : Version) (r : List ℕ) (old mid new : W)
+  pub flushed_told : (by : RootFault → Type 0) (v : Version) (r : List ℕ) (old mid new : W)
       (outcome told : Outcome) →
-      IsDumpedByRoot by v r form (TakesFor seen old mid) outcome → (v ≡ version) × (r ≡ root) →
+      IsWrittenByRoot by v r from enough bytes (TakesFor seen old mid) outcome →
+      (v ≡ version) × (r ≡ root) →
       ((seen old).is_keeping ≡ true → (seen mid).is_keeping ≡ true) →
       IsSettledAs seen mid new outcome told → ((fault : RootFault) → by fault → may fault) →
-      IsDumpedByRoot may version root form (TakesAllFor seen old new) told
-  dump_told by v r old mid new outcome told d is keeping settled so =
-      subst (λ v. IsDumpedByRoot may v root form (TakesAllFor seen old new) told) is.0
-      (subst (λ r. IsDumpedByRoot may v r form (TakesAllFor seen old new) told) is.1 (record {
+      IsWrittenByRoot may version root from enough bytes (TakesAllFor seen old new) told
+  flushed_told by v r old mid new outcome told d is keeping settled so =
+      subst (λ v. IsWrittenByRoot may v root from enough bytes (TakesAllFor seen old new) told) is.0
+      (subst (λ r. IsWrittenByRoot may v r from enough bytes (TakesAllFor seen old new) told) is.1
+      (record {
         found = d.found;
-        fits = fits_told seen may d.found.lists mid new outcome told settled
-            (fits_may by may d.found.lists outcome so d.fits);
-        took = taken_told seen old mid new keeping (written_pairs form d.found.lists) outcome told
-            settled d.took;
+        fits = fits_told seen enough may d.found.lists mid new outcome told settled
+            (fits_may enough by may d.found.lists outcome so d.fits);
+        took = taken_told seen old mid new keeping (bytes d.found.lists) outcome told settled d.took;
       }))

@@ -1,0 +1,131 @@
+-- What comes of a command that goes over the pairs of a tree of which only the root is known: how it
+-- ends, what it wrote until then, and what is told of its source.
+use Rattle.std.specs.Prelude.{◌≡◌, ◌≢◌, ◌⊎◌, ℕ, true, List, Result, Ok, Err}
+use Rattle.prolly_check.specs.Content.{Content}
+use Rattle.prolly_check.specs.ScanWay.{AreScanned}
+use Rattle.prolly_entry.specs.Cut.{sha512_cut}
+use Rattle.prolly_entry.specs.Pair.{Pair}
+use Rattle.prolly_entry.specs.declared.version.Version.{Version}
+use Rattle.prolly_file.specs.Failures.{after_failure}
+use Rattle.prolly_file.specs.Sink.{IsSettled, SinkView}
+use Rattle.prolly_root.specs.Reader.{IsReaderOf, ReaderView}
+use Rattle.prolly_root.specs.RootFault.{MayFail, TellsFailure}
+use Rattle.prolly_root.specs.declared.root_fault.RootFault.{RootFault}
+use Rattle.prolly_tree.specs.File.{root_reference}
+use Rattle.prolly_tree.specs.Tree.{Tree}
+use Rattle.prolly_answer.specs.Answers.{ShowsDone, ShowsFault}
+use Rattle.prolly_answer.specs.OutputFault.{told_stop}
+use Rattle.prolly_answer.specs.Outputs.{TookAll, TookBytes, TookUntil}
+use Rattle.prolly_answer.specs.declared.answers.answer.Answer.{Answer}
+use Rattle.prolly_answer.specs.declared.faults.fault.Fault.{Fault}
+use Rattle.prolly_answer.specs.declared.faults.fault.Fault.TheVariants as faults
+use Rattle.prolly_answer.specs.declared.faults.output_fault.OutputFault.TheVariants.{Write}
+use Rattle.prolly_answer.specs.declared.faults.root_output_fault.RootOutputFault.{RootOutputFault}
+use Rattle.prolly_answer.specs.declared.faults.root_output_fault.RootOutputFault.TheVariants.{Output}
+use Rattle.prolly_answer.specs.declared.faults.root_output_fault.RootOutputFault.TheVariants.{Root}
+
+-- ---- what was found
+
+-- Look-ups by the root, one after another from the key on, found these lists of pairs, by these
+-- ways.
+pub record Scanned (version : Version) (root from : List ℕ) : Type 0 where
+  pub lists : List (List Pair)
+  pub ways : List (List (List ℕ))
+  pub are : AreScanned version root from lists ways
+
+-- Where the source has a tree of this version and with this root, the fault is only want of memory,
+-- or a failed read.
+abbrev pub RefusesNone : (Content → Type 0) → Version → List ℕ → RootFault → Type 0
+RefusesNone has version root fault = (content : Content) → has content →
+    version ≡ content.version →
+    root ≡ root_reference (sha512_cut content.bits) content.version content.pairs → MayFail fault
+
+-- A source that has the tree of a reader's root is not refused, but for want of memory or a failed
+-- read.
+abbrev pub RefusesNoneOf : {T : Type 0} →
+    (Content → (level : ℕ) → Tree level → T → Type 0) → (Content → Type 0) → ReaderView T →
+    RootFault → Type 0
+RefusesNoneOf is_place has reader fault = (content : Content) → has content →
+    IsReaderOf is_place content reader → MayFail fault
+
+-- ---- how it ends
+
+-- How such a command ends: all is written, or a fault stops it.
+abbrev pub Outcome : Type 0
+Outcome = Result (Unit {0}) RootOutputFault
+
+-- Where all is written, what was found is enough; where a look-up has a fault, it is one that there
+-- may be, and what was found before is not enough.
+abbrev pub FitsOutcome : (List (List Pair) → Type 0) → (RootFault → Type 0) → List (List Pair) →
+    Outcome → Type 0
+FitsOutcome enough may lists (Ok done) = enough lists
+FitsOutcome enough may lists (Err (Root fault)) = ¬ (enough lists) × may fault
+FitsOutcome enough may lists (Err (Output fault)) = Unit {0}
+
+-- The sink took all of these bytes, where no fault of writing stops the command, and else a part of
+-- them. It may hold some of them back.
+abbrev pub TakesFor : {W : Type 0} → (W → SinkView) → W → W → List ℕ → Outcome → Type 0
+TakesFor seen old new bytes (Ok done) = TookBytes seen bytes old new
+TakesFor seen old new bytes (Err (Root fault)) = TookBytes seen bytes old new
+TakesFor seen old new bytes (Err (Output fault)) = TookUntil seen fault bytes old new
+
+-- The same, and where no fault of writing stops the command it holds none of them back.
+abbrev pub TakesAllFor : {W : Type 0} → (W → SinkView) → W → W → List ℕ → Outcome → Type 0
+TakesAllFor seen old new bytes (Ok done) = TookAll seen bytes old new
+TakesAllFor seen old new bytes (Err (Root fault)) = TookAll seen bytes old new
+TakesAllFor seen old new bytes (Err (Output fault)) = TookUntil seen fault bytes old new
+
+-- Look-ups by the root, one after another from the key on, found lists of pairs, with which this
+-- outcome fits, where `enough` says when no more is sought; and of the bytes that are to be written
+-- for these lists `takes` says what the sink took.
+pub record IsWrittenByRoot (may : RootFault → Type 0) (version : Version) (root from : List ℕ)
+    (enough : List (List Pair) → Type 0) (bytes : List (List Pair) → List ℕ)
+    (takes : List ℕ → Outcome → Type 0) (outcome : Outcome) : Type 0 where
+  pub found : Scanned version root from
+  pub fits : FitsOutcome enough may found.lists outcome
+  pub took : takes (bytes found.lists) outcome
+
+-- What is told of the calls of the source, whose failures were so many before and after: where one
+-- failed, that is told, or that writing failed behind it.
+abbrev pub TellsReadsOf : ℕ → ℕ → Outcome → Type 0
+TellsReadsOf old new (Ok done) = new ≡ old
+TellsReadsOf old new (Err (Root fault)) = TellsFailure old new fault
+TellsReadsOf old new (Err (Output fault)) =
+    (new ≡ old) ⊎ ((fault ≡ Write) × (new ≡ after_failure old))
+
+-- ---- the flush behind it
+
+-- The sink was flushed, which takes no more bytes, and the outcome is told, or that the flush failed.
+pub record IsFlushedAs {W : Type 0} (seen : W → SinkView) (old new : W) (outcome told : Outcome)
+    : Type 0 where
+  pub same : (seen old).is_keeping ≡ true → (seen new).taken ≡ (seen old).taken
+  pub tells : ((told ≡ outcome) × ((seen new).failures ≡ (seen old).failures) ×
+      IsSettled (seen new))
+      ⊎ ((told ≡ Err (Output Write)) × ((seen new).failures ≡ after_failure (seen old).failures))
+
+-- So it was, where no write had failed before.
+abbrev pub IsSettledAs : {W : Type 0} → (W → SinkView) → W → W → Outcome → Outcome → Type 0
+IsSettledAs seen old new outcome told =
+    ((outcome ≡ Err (Output Write)) × (told ≡ outcome) × (new ≡ old))
+    ⊎ ((outcome ≢ Err (Output Write)) × IsFlushedAs seen old new outcome told)
+
+-- The sink was flushed before the fault is told, and that is told, or that the flush failed.
+pub record IsFlushed {W : Type 0} (seen : W → SinkView) (old new : W) (fault told : Fault)
+    : Type 0 where
+  pub same : (seen old).is_keeping ≡ true → (seen new).taken ≡ (seen old).taken
+  pub tells : ((told ≡ fault) × ((seen new).failures ≡ (seen old).failures) ×
+      IsSettled (seen new))
+      ⊎ ((told ≡ faults.Write) × ((seen new).failures ≡ after_failure (seen old).failures))
+
+-- ---- what is answered
+
+-- The answer shows nothing where the command is done, and else the fault.
+abbrev pub ShowsOutcome : Answer → Outcome → Type 0
+ShowsOutcome answer (Ok done) = ShowsDone answer
+ShowsOutcome answer (Err stop) = ShowsFault answer (told_stop stop)
+
+-- The answer is that of such an outcome, of which `is` says how it came to it.
+pub record AnswersOutcome (is : Outcome → Type 0) (answer : Answer) : Type 0 where
+  pub outcome : Outcome
+  pub so : is outcome
+  pub shows : ShowsOutcome answer outcome
