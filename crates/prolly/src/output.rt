@@ -11,7 +11,7 @@ use std::io::{ErrorKind, Seek, SeekFrom, Write};
 use std::{fs, io};
 
 /// The greatest status of a command that is done: by it `diff` says that the maps differ.
-const DONE: u8 = 1;
+const GREATEST_DONE: u8 = 1;
 
 /// The file that a command writes: the one that the words name, or one beside it that is to replace
 /// it.
@@ -81,7 +81,7 @@ impl<'a> Output<'a> {
         answer: Result<Answer, AllocError>,
     ) -> Result<Answer, Refusal> {
         match answer {
-            Ok(done) if done.status <= DONE => {
+            Ok(done) if done.status <= GREATEST_DONE => {
                 self.keep(rt)?;
                 Ok(done)
             }

@@ -8,7 +8,7 @@ use std::{io, thread};
 /// How long is waited before a call is made again, at first, in milliseconds. It doubles each time.
 const FIRST_PAUSE: u64 = 1;
 
-/// How long is waited at most.
+/// How long a pause is at most, in milliseconds. How many there are has no limit.
 const MOST_PAUSE: u64 = 64;
 
 /// A standard stream, of which a call waits until it is done.

@@ -17,8 +17,8 @@ pub enum Stream {
 }
 
 impl Stream {
-    /// What the stream is: nothing where it is closed. Where the system has no names for open files
-    /// it can't be told, and is refused.
+    /// What the stream is; of a closed one, what [`ClosedStreams`] holds in its place. Where the
+    /// system has no names for open files it can't be told, and is refused.
     pub fn found(self, rt: &HostRuntime) -> Result<Found, Refusal> {
         match Found::at(rt, self.path()) {
             Ok(Found::Nothing) if !fs::metadata(rt, OPEN_FILES).is_ok() => {}

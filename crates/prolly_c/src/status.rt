@@ -1,4 +1,5 @@
-//! What calls answer: one number a status. The header has a name for each of them.
+//! What calls answer: one number a status. The header has a name for each that a call answers. 26 is
+//! answered by none: bytes in memory are never too long.
 ghost use Rattle.std.specs.Prelude.{◌≡◌, ◌⊎◌};
 ghost use Rattle.prolly_c.specs.Built.{status_of_records};
 ghost use Rattle.prolly_c.specs.Proofs.{status_of_proof, status_of_root};
@@ -19,7 +20,8 @@ pub(crate) const NONE: u32 = 1;
 /// Memory was refused.
 pub(crate) const MEMORY: u32 = 2;
 
-/// What was asked for has more elements than there is room for; their number is told.
+/// What was asked for has more elements than there is room for. Their number is told, but not by
+/// `prolly_record`.
 pub(crate) const NO_ROOM: u32 = 3;
 
 /// The index, or the cursor, is not of these bytes.

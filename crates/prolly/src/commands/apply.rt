@@ -24,10 +24,10 @@ use std::sync::Wait;
 use std::thread::Threads;
 use std::time::Clock;
 
-/// The most levels of a tree.
+/// How many levels a tree that is made has at most, as by default in a `build`.
 const STAGES: u8 = 12;
 
-/// How many messages wait between two threads, as by default in a `build`.
+/// How many messages wait between two threads, as there.
 const CAPACITY: u32 = 64;
 
 /// How many items a message has at most, as there.

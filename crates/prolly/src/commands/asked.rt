@@ -34,11 +34,10 @@ impl<'a> Asked<'a> {
 
 /// The keys from the one on, before the other one.
 fn range_between<'a>(from: &'a Vec<u8>, to: &'a Option<Vec<u8>>) -> KeySet<'a> {
-    let to = match to {
-        None => None,
-        Some(to) => Some(to.as_slice()),
-    };
-    KeySet::Range { from, to }
+    KeySet::Range {
+        from,
+        to: to.as_deref(),
+    }
 }
 
 /// The keys of the file that the words name in their place, where that is not the output; none where

@@ -92,7 +92,7 @@ fn value_in(
     reader.get(alloc, chunks, key)
 }
 
-/// `get [--text] [--root ROOT] [--format V] --keys FILE FILE`, which prints a line for each key.
+/// `get [--text] [--root ROOT] [--format V] --keys KEYS FILE`, which prints a line for each key.
 fn get_keys<T: Threads + Sync>(
     host: &Host<'_, T>,
     tree: &NamedTree,

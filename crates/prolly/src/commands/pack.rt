@@ -117,8 +117,9 @@ fn keep(
     output.finish(rt, Ok(answer))
 }
 
-/// How many bytes a run may take where so many megabytes of memory may be used: the half, since a
-/// block of the run that grows is there twice for a moment.
+/// How many bytes a run may take where so many megabytes of memory may be used: less than the half.
+/// While a block of the run grows, the run takes up to three times its budget for a moment. So the
+/// peak may be half as much again as was asked for.
 fn budget_of(memory: u32) -> u32 {
     (memory.saturating_mul(1_000_000) / 2).saturating_sub(BESIDE_RUNS)
 }

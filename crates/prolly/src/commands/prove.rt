@@ -21,7 +21,7 @@ use std::alloc::AllocError;
 use std::io::Write;
 use std::thread::Threads;
 
-/// `prove [--text] [--root ROOT] [--format V] [--from KEY] [--to KEY] [--keys FILE] FILE [KEY] OUT
+/// `prove [--text] [--root ROOT] [--format V] [--from KEY] [--to KEY] [--keys KEYS] FILE [KEY] OUT
 /// [--atomic] [--sync] [--force]`
 pub fn answer<T: Threads + Sync>(host: &Host<'_, T>, command: Command) -> Result<Answer, Refusal>
     requires limits { IsWithinLimits command }

@@ -19,10 +19,11 @@ use prolly_range::KeySet;
 use std::alloc::AllocError;
 use std::io::{BufReader, Read};
 
-/// How many bytes of a proof of many keys are read at a time: many frames, where they are short.
+/// How many bytes of a proof of a range or of many keys are read at a time: many frames, where they
+/// are short.
 const PROOF_BYTES: usize = 65_536;
 
-/// `verify [--text] [--format V] [--from KEY] [--to KEY] [--keys FILE] ROOT [KEY] [PROOF]`
+/// `verify [--text] [--format V] [--from KEY] [--to KEY] [--keys KEYS] ROOT [KEY] [PROOF]`
 pub fn answer(rt: &HostRuntime, command: Command) -> Result<Answer, Refusal>
     requires limits { IsWithinLimits command }
     requires verify { IsVerify command }
