@@ -15,7 +15,7 @@ from concurrent.futures import ThreadPoolExecutor
 from functools import partial
 from pathlib import Path
 
-from support.harness import shown
+from support.harness import HANGS, LONGEST, shown
 from support.place import compiled
 
 MOST_GROWTHS = 20_000
@@ -33,7 +33,7 @@ def main():
     with tempfile.TemporaryDirectory() as folder:
         refuser = compiled("refuse", folder)
         tests = [(program, name) for program in map(Path, sys.argv[1:]) for name in tests_of(program)]
-        with ThreadPoolExecutor(os.cpu_count()) as workers:
+        with ThreadPoolExecutor(len(os.sched_getaffinity(0))) as workers:
             for name, count, difference in workers.map(partial(refused, refuser), tests):
                 runs += count
                 failed += difference is not None
@@ -45,7 +45,7 @@ def main():
 
 def tests_of(program):
     """The names of the program's tests of growths."""
-    listed = subprocess.run([program, "--list"], capture_output=True, text=True, check=True).stdout
+    listed = subprocess.run([program, "--list"], capture_output=True, text=True, check=True, timeout=LONGEST).stdout
     names = [line.removesuffix(": test") for line in listed.splitlines() if line.endswith(": test")]
     return [name for name in names if "growths" in name.split("::")]
 
@@ -54,7 +54,10 @@ def refused(refuser, test):
     """Refuses a test each growth in turn, and gives its name, the number of runs, and what was wrong in the last, if anything."""
     program, name = test
     for growth in range(1, MOST_GROWTHS):
-        was_refused, status, out, err = run(refuser, program, name, growth)
+        try:
+            was_refused, status, out, err = run(refuser, program, name, growth)
+        except subprocess.TimeoutExpired:
+            return name, growth, HANGS
         has_passed = status == 0 and out == PASSED
         if not has_passed and not (was_refused and status > 0 and err.startswith(REFUSED)):
             return name, growth, f"status {status}, {shown(out)}, {shown(err)}"
@@ -72,7 +75,11 @@ def run(refuser, program, name, growth):
             [program.resolve(), name], env=env, pass_fds=[writer], stdout=subprocess.PIPE, stderr=subprocess.PIPE, text=True
         )
         os.close(writer)
-        out, err = process.communicate(timeout=120)
+        try:
+            out, err = process.communicate(timeout=LONGEST)
+        finally:
+            # One that hangs is not left behind. Of one that is done nothing is left to end.
+            process.kill()
         return told.read() != b"", process.returncode, out, err
 
 

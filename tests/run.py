@@ -10,7 +10,10 @@ for texts of help, from texts/. Beside the cases there are runs in which files m
 in which standard streams are not as usual, runs whose workers wait for one another, runs in which each growth of memory
 is refused in turn, the reader in Python beside the program, the examples of the README, what is installed, a sort on a
 cluster, tables of several columns, the demonstration, code that must not compile, and random command lines over random
-files. As many parts run beside one another as there are processors, but for those that look at times.
+files. As many parts run beside one another as there are processors that may be used, but for those that look at times.
+
+What can't be tested on a machine is told by a line of SKIPPED. A test that takes an hour hangs. It is ended, and what stands behind
+it in its part is not run.
 """
 
 import os
@@ -63,7 +66,9 @@ from cases import (
     surveys,
 )
 from oracle.trees import chunk_file
-from support.harness import run
+from support.harness import HANGS, broken_off, run, tested
+from support.watch import Hung, at_most
+
 
 def name_of(part):
     """The name of a part, which is that of its file."""
@@ -91,6 +96,10 @@ ALONE = ("links", "progress")
 """The parts that look at times, so that they run by themselves once all others are done."""
 
 
+LONGEST_TEST = 3_600.0
+"""Seconds after which a test hangs. The longest one takes some ten on an idle machine."""
+
+
 def main():
     """Runs all cases, and gives the status."""
     program = str(Path(sys.argv[1]).resolve())
@@ -111,7 +120,7 @@ def main():
 def outcomes(program, words):
     """What comes of all runs, or of those that the words name, part by part."""
     if words[:1] == ["--random"]:
-        yield outcome((case.name, run(program, case)) for case in random_runs.by_hand(words[1:]))
+        yield outcome(runs_of(program, random_runs.by_hand(words[1:])))
         return
     if words[:1] == ["--links"]:
         yield outcome(links.by_hand(program, int(words[1])))
@@ -120,7 +129,7 @@ def outcomes(program, words):
     if unknown:
         raise SystemExit(f"no part of the tests: {' '.join(unknown)}")
     wanted = [part for part in PARTS + NAMED if part[0] in words] if words else PARTS
-    with ProcessPoolExecutor(os.cpu_count()) as workers:
+    with ProcessPoolExecutor(len(os.sched_getaffinity(0))) as workers:
         yield from workers.map(partial(outcome_of, program), [part for part in wanted if part[0] not in ALONE])
     yield from (outcome_of(program, part) for part in wanted if part[0] in ALONE)
 
@@ -130,18 +139,45 @@ def outcome_of(program, part):
     name, kind = part
     with tempfile.TemporaryDirectory() as folder:
         if kind == "cases":
-            return outcome((case.name, run(program, case)) for case in globals()[name].cases(Path(folder)))
-        return outcome(globals()[name].all_runs(program, Path(folder)))
+            return outcome(runs_of(program, globals()[name].cases(Path(folder))), name)
+        return outcome(globals()[name].all_runs(program, Path(folder)), name)
 
 
-def outcome(runs):
+def runs_of(program, cases):
+    """The runs of cases: for each its name and its differences."""
+    for case in cases:
+        yield from tested(case.name, partial(run, program, case))
+
+
+def outcome(runs, part="these"):
     """How many of these runs passed, and the other ones with their differences."""
     passed, differing = 0, []
-    for name, differences in runs:
+    for name, differences in guarded(runs, part):
         passed += not differences
         if differences:
             differing.append((name, differences))
     return passed, differing
+
+
+def guarded(runs, part):
+    """Runs, of which none takes for good. One that hangs is the last, since the others may hang as long. So is one that breaks off
+    by an error which nothing caught before."""
+    runs, at = iter(runs), f"the first test of {part}"
+    while True:
+        try:
+            with at_most(LONGEST_TEST):
+                found = next(runs, None)
+        except (Exception, Hung) as error:
+            yield at, [broken_off(error)]
+            return
+        if found is None:
+            return
+        yield found
+        name, differences = found
+        at = f"what comes behind {name}"
+        if HANGS in differences:
+            yield at, ["it is not run"]
+            return
 
 
 if __name__ == "__main__":

@@ -4,8 +4,18 @@ import os
 import resource
 import subprocess
 import tempfile
+import traceback
 from dataclasses import dataclass, field
 from pathlib import Path
+
+from support.watch import Hung
+
+LONGEST = 300.0
+"""Seconds after which a run hangs, or nobody waits any more for what a run is to do. On an idle machine that takes some milliseconds,
+and now and then a second: so this tells a hang from an answer, and no slow machine from a fast one."""
+
+HANGS = "it hangs"
+"""The difference of what took longer."""
 
 FOLDER = object()
 """Stands among a case's files for a folder without files."""
@@ -58,6 +68,40 @@ class Case:
     that of a thread, nothing is written. Without them neither is an answer."""
 
 
+class Skipped(Exception):
+    """Raised by a test of what this machine has not, or can't do. It says what that is."""
+
+
+def tested(name, test):
+    """A test's name and its differences, in a list. Where this machine can't do the test, that is printed, and the list is empty."""
+    try:
+        return [(name, test())]
+    except Skipped as why:
+        print(f"SKIPPED {name}: {why}", flush=True)
+        return []
+    except (Exception, Hung) as error:
+        return [(name, [broken_off(error)])]
+
+
+def broken_off(error):
+    """The difference of a test that an error broke off: what it is, and the line of the tests where it came up."""
+    if isinstance(error, (subprocess.TimeoutExpired, Hung)):
+        return HANGS
+    tests = str(Path(__file__).parent.parent)
+    lines = [frame for frame in traceback.extract_tb(error.__traceback__) if frame.filename.startswith(tests)]
+    return f"it breaks off at {Path(lines[-1].filename).name}, line {lines[-1].lineno}: {error!r:.300}"
+
+
+def differs(what, found, wanted):
+    """One difference, or none."""
+    return [] if found == wanted else [f"{what}: {brief(found)}, wanted {brief(wanted)}"]
+
+
+def brief(value):
+    """A value, or its start, for a line of a report."""
+    return shown(value) if isinstance(value, bytes) else f"{value!r:.300}"
+
+
 def run(program, case):
     """Runs a case in a folder of its own, and gives the differences, a line each."""
     with tempfile.TemporaryDirectory() as name:
@@ -90,6 +134,7 @@ def start(program, case, folder):
             stderr=subprocess.PIPE,
             input=case.input if stdin is None and case.input is not None else None,
             preexec_fn=(lambda: limit(case)) if is_limited(case) else None,
+            timeout=LONGEST,
             check=False,
         )
     finally:

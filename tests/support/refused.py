@@ -8,7 +8,7 @@ from pathlib import Path
 
 from cases.scratch import ABC
 from oracle.trees import records
-from support.harness import NO_THREAD, SCARCE, file_differences, lay_out, shown
+from support.harness import HANGS, LONGEST, NO_THREAD, SCARCE, file_differences, lay_out, shown
 
 
 @dataclass
@@ -44,25 +44,34 @@ def refuse(program, allocator, command, number):
     with tempfile.TemporaryDirectory() as name:
         folder = Path(name)
         lay_out(folder, command.before)
-        reader, writer = os.pipe()
-        done = subprocess.run(
-            [program, *command.words],
-            cwd=folder,
-            input=command.input,
-            capture_output=True,
-            env={"LD_PRELOAD": str(allocator), "REFUSE": str(number), "TELL": str(writer)},
-            pass_fds=[writer],
-            check=False,
-        )
-        os.close(writer)
-        with os.fdopen(reader, "rb") as told:
-            was_refused = told.read() != b""
-        answer = (done.returncode, done.stdout, done.stderr)
+        try:
+            was_refused, answer = answer_of(program, allocator, command, number, folder)
+        except subprocess.TimeoutExpired:
+            return True, [HANGS]
         if answer == (command.status, command.out, command.err):
             return was_refused, file_differences(folder, command.before | whole_of(command))
-        if was_refused and done.returncode == 6 and is_told(command, done.stdout, done.stderr):
-            return True, part_differences(folder, command, done.stderr.endswith(NO_THREAD))
-        return was_refused, [f"status {done.returncode}, output {shown(done.stdout)}, error {shown(done.stderr)}"]
+        status, out, err = answer
+        if was_refused and status == 6 and is_told(command, out, err):
+            return True, part_differences(folder, command, err.endswith(NO_THREAD))
+        return was_refused, [f"status {status}, output {shown(out)}, error {shown(err)}"]
+
+
+def answer_of(program, allocator, command, number, folder):
+    """Whether the growth of this number was refused, and what the command answered."""
+    reader, writer = os.pipe()
+    with os.fdopen(reader, "rb") as told:
+        with os.fdopen(writer, "wb"):
+            done = subprocess.run(
+                [program, *command.words],
+                cwd=folder,
+                input=command.input,
+                capture_output=True,
+                env={"LD_PRELOAD": str(allocator), "REFUSE": str(number), "TELL": str(writer)},
+                pass_fds=[writer],
+                timeout=LONGEST,
+                check=False,
+            )
+        return told.read() != b"", (done.returncode, done.stdout, done.stderr)
 
 
 def is_told(command, out, err):
