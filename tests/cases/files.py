@@ -7,8 +7,6 @@ import resource
 import signal
 import stat
 import subprocess
-import tempfile
-import threading
 import time
 from functools import partial
 from pathlib import Path
@@ -20,7 +18,7 @@ from oracle.escapes import text_lines
 from oracle.proof import another, proof_of
 from oracle.trees import END_SIZE, chunk_file, records, reference_text, report, root_text, tree
 from support.by_root import Kind
-from support.place import DONE, Place, compiled
+from support.place import DONE, all_of, opened_for_writing
 
 A = records(ABC[:2])
 B = records(ABC[2:])
@@ -332,8 +330,7 @@ def one_of_two(place):
     for _ in range(5):
         runs = [place.start(["build", "--atomic", "--bits", "4", "out", name]) for name in ("first.rec", "second.rec")]
         for run in runs:
-            run.communicate()
-            place.answers((run.returncode, b"", b""), DONE)
+            place.answers(place.finish(run), DONE)
         if place.path("out").read_bytes() not in wholes:
             place.note("OUT is neither")
         place.holds(out=None, first_rec=None, second_rec=None)
@@ -458,32 +455,40 @@ def is_not_on_the_disk(place):
 
 
 def is_ended(place, name, flags):
-    """A signal ends a build at some moment: OUT is a first part, which `check` says, or with --atomic as it was."""
+    """A signal ends a build at some moment, and before some write that is neither its first nor its last."""
     pairs = numbered(300_000)
     place.lay(in_rec=records(pairs))
-    words = ["build", *flags, "--bits", "3", "out", "in.rec"]
+    words, number = ["build", *flags, "--bits", "3", "out", "in.rec"], getattr(signal, name)
     began = time.monotonic()
-    place.answers(place.run(*words), DONE)
+    answer, calls = place.meddled(*words)
     duration = time.monotonic() - began
+    place.answers(answer, DONE)
     whole = place.path("out").read_bytes()
     chance = random.Random(name)
     for _ in range(4):
         place.lay(out=OLD_TREE)
-        process = place.start(words)
-        time.sleep(duration * chance.random())
-        process.send_signal(getattr(signal, name))
-        process.communicate()
-        left = place.path("out").read_bytes()
-        if flags:
-            if left not in (OLD_TREE, whole):
-                place.note(f"OUT holds {len(left)} bytes")
-            for beside in place.folder.glob("out.*.tmp"):
-                beside.unlink()
-        elif left not in (OLD_TREE, whole):
-            place.answers(place.run("check", "out"), (4, b"", b"prolly: chunk file: truncated\n"))
-            if not whole.startswith(left):
-                place.note("OUT is no first part")
+        place.end_at(number, duration * chance.random(), *words)
+        judge_ended(place, flags, whole)
+    writes = sum(line.startswith("write ") for line in calls)
+    for write in chance.sample(range(2, writes), 4):
+        place.lay(out=OLD_TREE)
+        place.end_before_write(number, write, *words)
+        judge_ended(place, flags, whole)
     place.holds(out=None, in_rec=None)
+
+
+def judge_ended(place, flags, whole):
+    """Notes where OUT is not right after a build that was ended: it is a first part, which `check` says, or with --atomic as it was."""
+    left = place.path("out").read_bytes()
+    if left not in (OLD_TREE, whole):
+        if flags:
+            place.note(f"OUT holds {len(left)} bytes")
+            return
+        place.answers(place.run("check", "out"), (4, b"", b"prolly: chunk file: truncated\n"))
+        if not whole.startswith(left):
+            place.note("OUT is no first part")
+    for beside in place.folder.glob("out.*.tmp"):
+        beside.unlink()
 
 
 def is_limited_in_size(place, is_told):
@@ -512,19 +517,16 @@ def has_few_files(place):
 def has_few_threads(place):
     """A limit on threads is told, and nothing is written."""
     place.lay(in_rec=A)
-    answer = place.run("build", "out", "in.rec", limits={resource.RLIMIT_NPROC: 1}, is_nobody=True)
-    place.answers(answer, (6, b"", b"prolly: a thread could not be started\n"))
+    place.answers(place.run_without_threads("build", "out", "in.rec"), (6, b"", b"prolly: a thread could not be started\n"))
     place.holds(in_rec=A)
 
 
 def is_checked_without_threads(place):
     """Where no thread can be had, a file is checked all the same, and refused by the same fault."""
     place.lay(abc_prl=TREE, cut_prl=TREE[:-1])
-    limits = {resource.RLIMIT_NPROC: 1}
     told = b"ok " + root_text(ABC, 0).strip() + b" 0 6\n"
-    place.answers(place.run("check", "abc.prl", limits=limits, is_nobody=True), (0, told, b""))
-    answer = place.run("check", "cut.prl", limits=limits, is_nobody=True)
-    place.answers(answer, (4, b"", b"prolly: chunk file: truncated\n"))
+    place.answers(place.run_without_threads("check", "abc.prl"), (0, told, b""))
+    place.answers(place.run_without_threads("check", "cut.prl"), (4, b"", b"prolly: chunk file: truncated\n"))
 
 
 def has_little_room(place):
@@ -543,17 +545,16 @@ def is_a_pipe(place):
     place.lay(a_rec=A)
     for name in ("in", "out"):
         os.mkfifo(place.path(name))
-    taken = []
-    threads = [
-        threading.Thread(target=lambda: place.path("in").write_bytes(B)),
-        threading.Thread(target=lambda: taken.append(place.path("out").read_bytes())),
-    ]
-    for thread in threads:
-        thread.start()
-    place.answers(place.run("build", "--bits", "0", "out", "a.rec", "in"), (0, TOLD, b""))
-    for thread in threads:
-        thread.join()
-    if taken != [TREE]:
+    # At once, while nobody writes it yet.
+    reader = os.open(place.path("out"), os.O_RDONLY | os.O_NONBLOCK)
+    process = place.start(["build", "--bits", "0", "out", "a.rec", "in"])
+    with opened_for_writing(place.path("in"), process) as pipe:
+        pipe.write(B)
+    # The pipe has room for all of the small tree.
+    place.answers(place.finish(process), (0, TOLD, b""))
+    with os.fdopen(reader, "rb") as pipe:
+        taken = pipe.read()
+    if taken != TREE:
         place.note(f"the pipe gave {taken}")
 
 
@@ -603,13 +604,11 @@ def grows(place):
     place.lay(a_rec=A)
     os.mkfifo(place.path("wait"))
     process = place.start(["build", "--bits", "0", "out", "a.rec", "wait"])
-    with open(place.path("wait"), "wb") as wait:
-        with open(place.path("a.rec"), "ab") as more:
-            more.write(B)
-        wait.write(b"")
-    out, err = process.communicate(timeout=60)
-    if (process.returncode, err) != (0, b"") or out not in (report(ABC[:2], 0), TOLD):
-        place.note(f"status {process.returncode}, {out} {err}")
+    with opened_for_writing(place.path("wait"), process), open(place.path("a.rec"), "ab") as more:
+        more.write(B)
+    status, out, err = place.finish(process)
+    if (status, err) != (0, b"") or out not in (report(ABC[:2], 0), TOLD):
+        place.note(f"status {status}, {out} {err}")
 
 
 def is_read_in_part(place, words, reader, taken):
@@ -768,13 +767,5 @@ def in_part():
 
 
 def all_runs(program, folder):
-    """Runs all tests, each in a folder of its own, and gives for each its name and its differences."""
-    meddler = compiled("meddle", folder)
-    for name, test in tests():
-        with tempfile.TemporaryDirectory() as above:
-            os.chmod(above, 0o755)
-            inside = Path(above) / "place"
-            inside.mkdir()
-            place = Place(program, meddler, inside)
-            test(place)
-            yield f"files: {name}", place.differences
+    """Runs all tests, and gives for each its name and its differences."""
+    return all_of("files", program, folder, tests())

@@ -2,24 +2,18 @@
 write, and is written over only where it is a file of the same kind."""
 
 import errno
-import fcntl
 import os
-import resource
 import stat
 import subprocess
-import tempfile
-import termios
-import time
-from array import array
 from functools import partial
-from pathlib import Path
 
 from cases.dumps import lines
-from cases.files import FAULTS, WRITERS, in_place_of_out, laid, refusal
+from cases.files import FAULTS, IN_PLACE, WRITERS, in_place_of_out, laid, refusal
 from cases.scratch import ABC
 from oracle.proof import proof_of
 from oracle.trees import chunk_file, records, report, root_text, tree
-from support.place import NOBODY, Place, compiled, wait_until_there
+from support.harness import Skipped
+from support.place import NOBODY, all_of, begin, opened_for_writing, wait_until_read
 
 TABLE = b"apple\t3\npear\t5\n"
 """A table of text, which is no chunk file, no proof and no record file."""
@@ -52,9 +46,6 @@ KINDS = {
     "prove --root": "proof",
 }
 """What each command writes."""
-
-IN_PLACE = ("build", "apply", "scratch")
-"""The commands that write OUT itself where they are not told to write a file beside it."""
 
 CALLS = ("statx", "open", "realpath", "readlink", "pread", "ftruncate", "flock", "fchmod", "fsync", "rename", "unlink")
 """The calls of the system that look at, open, make, lock, empty, rename or remove a file."""
@@ -106,7 +97,7 @@ def is_a_block_device(place):
     try:
         os.mknod(node, stat.S_IFBLK | 0o600, os.makedev(120, 0))
     except PermissionError:
-        return
+        raise Skipped("this user can make no block device") from None
     for command, (words, given, _, _) in WRITERS.items():
         given = given or b""
         place.answers(place.run(*words, stdin=given), refusal(f"OUT is not a {KINDS[command]}: out".encode()))
@@ -163,8 +154,7 @@ def stays_before_the_header(place):
     place.lay(a_rec=records(ABC), old=OLD_FILES["chunk file"])
     place.path("old").chmod(0o666)
     for name in ("old", "new"):
-        answer = place.run("build", name, "a.rec", limits={resource.RLIMIT_NPROC: 1}, is_nobody=True)
-        place.answers(answer, (6, b"", b"prolly: a thread could not be started\n"))
+        place.answers(place.run_without_threads("build", name, "a.rec"), (6, b"", b"prolly: a thread could not be started\n"))
     place.holds(a_rec=records(ABC), old=OLD_FILES["chunk file"])
 
 
@@ -174,9 +164,9 @@ def is_made_early(place):
         reader, writer = os.pipe()
         process = place.start(words, stdin=reader)
         os.close(reader)
-        out, err = process.communicate(timeout=60)
+        answer = place.finish(process)
         os.close(writer)
-        place.answers((process.returncode, out, err), refusal(b"cannot open none/out"))
+        place.answers(answer, refusal(b"cannot open none/out"))
     place.holds()
 
 
@@ -240,16 +230,16 @@ def is_busy(place):
     os.mkfifo(place.path("wait"))
     for name in ("out", "new"):
         process = place.start(["build", "--bits", "0", name, "a.rec", "wait"])
-        with open(place.path("wait"), "wb", buffering=0) as pipe:
+        with opened_for_writing(place.path("wait"), process) as pipe:
             pipe.write(records(ABC[:1]))
-            wait_until_read(pipe)
+            # A build has OUT before it reads.
+            wait_until_read(pipe, process)
             for flags in ([], ["--atomic"]):
                 line = refusal(b"another run writes OUT: " + name.encode())
                 place.answers(place.run("build", *flags, name, "a.rec"), line)
                 answer, _ = place.meddled("build", *flags, name, "a.rec", meddle={"network": "1"})
                 place.answers(answer, line)
-        out, err = process.communicate(timeout=60)
-        place.answers((process.returncode, out, err), (0, report(ABC, 0), b""))
+        place.answers(place.finish(process), (0, report(ABC, 0), b""))
     place.holds(a_rec=records(ABC), wait=None, out=chunk_file(ABC, 0), new=chunk_file(ABC, 0))
 
 
@@ -262,14 +252,14 @@ def is_lost(place, flags):
     os.mkfifo(place.path("wait"))
     for name, comes, line in (("out", True, b"another run writes OUT: out"), ("new", True, b"another run writes OUT: new"), ("gone", False, b"cannot open gone")):
         process = place.start(["build", *flags, "--bits", "0", name, "a.rec", "wait"])
-        with open(place.path("wait"), "wb", buffering=0) as pipe:
+        with opened_for_writing(place.path("wait"), process) as pipe:
             pipe.write(records(ABC[:1]))
-            wait_until_read(pipe)
+            # A build has OUT before it reads.
+            wait_until_read(pipe, process)
             place.path(name).unlink()
             if comes:
                 place.lay(**{name: PICTURE})
-        out, err = process.communicate(timeout=60)
-        place.answers((process.returncode, out, err), refusal(line))
+        place.answers(place.finish(process), refusal(line))
     place.holds(a_rec=records(ABC), wait=None, out=PICTURE, new=PICTURE)
 
 
@@ -301,12 +291,11 @@ def is_not_its_own(place):
     """A run that fails before it writes takes away the OUT that it made, and not the file that came in its place."""
     for comes in (False, True):
         process = place.start(["scratch", "--out", "out"], stdin=subprocess.PIPE)
-        wait_until_there(place.path("out"))
+        rest = begin(process, b"\0", place.path("out"))
         if comes:
             place.path("out").unlink()
             place.lay(out=OLD_FILES["chunk file"])
-        out, err = process.communicate(b"\0", timeout=60)
-        place.answers((process.returncode, out, err), (3, b"", b"prolly: file 0: record 0 is cut\n"))
+        place.answers(place.finish(process, rest), (3, b"", b"prolly: file 0: record 0 is cut\n"))
         place.holds(**({"out": OLD_FILES["chunk file"]} if comes else {}))
 
 
@@ -316,13 +305,12 @@ def is_not_its_own_beside(place, words, given, comes, answer):
     place.lay(**files)
     process = place.start(words, stdin=subprocess.PIPE)
     beside = place.path("out.0.tmp")
-    wait_until_there(beside)
+    rest = begin(process, given, beside)
     beside.unlink()
     if comes:
         beside.write_bytes(PICTURE)
         files["out_0_tmp"] = PICTURE
-    out, err = process.communicate(given, timeout=60)
-    place.answers((process.returncode, out, err), answer)
+    place.answers(place.finish(process, rest), answer)
     place.holds(**files)
 
 
@@ -331,11 +319,10 @@ def is_a_newcomer(place, before, force):
     if before is not None:
         place.lay(out=before)
     process = place.start(["pack", *(["--force"] if force else []), "out"], stdin=subprocess.PIPE)
-    wait_until_there(place.path("out.0.tmp"))
+    rest = begin(process, lines(ABC), place.path("out.0.tmp"))
     place.path("out").unlink(missing_ok=True)
     place.lay(out=PICTURE)
-    out, err = process.communicate(lines(ABC), timeout=60)
-    place.answers((process.returncode, out, err), (0, b"3\n", b"") if force else refusal(b"OUT is not a record file: out"))
+    place.answers(place.finish(process, rest), (0, b"3\n", b"") if force else refusal(b"OUT is not a record file: out"))
     place.holds(out=records(ABC) if force else PICTURE)
 
 
@@ -345,14 +332,13 @@ def is_behind_a_link(place):
         place.lay(one=OLD_FILES["record file"], other=OLD_FILES["record file"])
         place.path("out").symlink_to("one")
         process = place.start(["pack", "out"], stdin=subprocess.PIPE)
-        wait_until_there(place.path("one.0.tmp"))
+        rest = begin(process, lines(ABC), place.path("one.0.tmp"))
         place.path("out").unlink()
         place.path("out").symlink_to("other")
         if comes is not None:
             place.path("one").unlink()
             place.lay(one=comes)
-        out, err = process.communicate(lines(ABC), timeout=60)
-        place.answers((process.returncode, out, err), answer)
+        place.answers(place.finish(process, rest), answer)
         place.path("out").unlink()
         place.holds(one=comes or records(ABC), other=OLD_FILES["record file"])
 
@@ -360,10 +346,9 @@ def is_behind_a_link(place):
 def is_a_new_folder(place):
     """So is a folder that came in OUT's place."""
     process = place.start(["pack", "--force", "out"], stdin=subprocess.PIPE)
-    wait_until_there(place.path("out.0.tmp"))
+    rest = begin(process, lines(ABC), place.path("out.0.tmp"))
     place.path("out").mkdir()
-    out, err = process.communicate(lines(ABC), timeout=60)
-    place.answers((process.returncode, out, err), refusal(b"cannot replace out"))
+    place.answers(place.finish(process, rest), refusal(b"cannot replace out"))
     place.path("out").rmdir()
     place.holds()
 
@@ -371,11 +356,10 @@ def is_a_new_folder(place):
 def has_its_owner(place, command):
     """A file that replaces OUT is the same user's and group's, where the system allows that. Where it does not, OUT's group may
     not use it."""
+    needs_root()
     words, given, made, wanted = WRITERS[command]
     flags = ["--atomic"] if command in IN_PLACE else []
     for is_nobody, mode, after in ((False, 0o640, (1234, 1235, 0o640)), (True, 0o666, (NOBODY, NOBODY, 0o606))):
-        if os.geteuid() != 0:
-            return
         files = laid(place)
         place.lay(out=OLD_FILES[KINDS[command]])
         os.chown(place.path("out"), 1234, 1235)
@@ -393,14 +377,13 @@ def has_the_rights_of_now(place, before, mode):
         place.lay(out=before)
         place.path("out").chmod(0o644)
     process = place.start(["pack", "out"], stdin=subprocess.PIPE)
-    wait_until_there(place.path("out.0.tmp"))
+    rest = begin(process, lines(ABC), place.path("out.0.tmp"))
     if mode is None:
         place.path("out").unlink()
     else:
         place.lay(out=OLD_FILES["record file"])
         place.path("out").chmod(mode)
-    out, err = process.communicate(lines(ABC), timeout=60)
-    place.answers((process.returncode, out, err), (0, b"3\n", b""))
+    place.answers(place.finish(process, rest), (0, b"3\n", b""))
     found = stat.S_IMODE(place.path("out").stat().st_mode)
     if found != (0o644 if mode is None else mode):
         place.note(f"mode {found:o}")
@@ -416,7 +399,7 @@ def keeps_its_attributes(place):
         try:
             os.setxattr(place.path("out"), "user.kept", b"1")
         except OSError:
-            return
+            raise Skipped("the file system has no extended attributes of users") from None
         place.answers(place.run(*words, *flags), wanted)
         found = [name for name in os.listxattr(place.path("out")) if name.startswith("user.")]
         if found != kept:
@@ -440,8 +423,7 @@ def has_its_rights_already(place):
 
 def keeps_its_group(place):
     """Where the owner of OUT can't be given to the file that replaces it, that has OUT's group."""
-    if os.geteuid() != 0:
-        return
+    needs_root()
     words, _, made, wanted = WRITERS["build"]
     files = laid(place)
     place.lay(out=OLD_FILES["chunk file"])
@@ -455,14 +437,10 @@ def keeps_its_group(place):
     place.holds(out=made, **files)
 
 
-def wait_until_read(pipe):
-    """Waits, a minute at most, until the other end of a pipe has read all. A build has OUT before it reads."""
-    left = array("i", [1])
-    for _ in range(60_000):
-        fcntl.ioctl(pipe, termios.FIONREAD, left)
-        if left[0] == 0:
-            return
-        time.sleep(0.001)
+def needs_root():
+    """Skips a test that gives files away, which only the system's own user may."""
+    if os.geteuid() != 0:
+        raise Skipped("this user can give no file away")
 
 
 # ---- --atomic, where OUT is whole and the command is not done
@@ -658,13 +636,5 @@ def failing():
 
 
 def all_runs(program, folder):
-    """Runs all tests, each in a folder of its own, and gives for each its name and its differences."""
-    meddler = compiled("meddle", folder)
-    for name, test in tests():
-        with tempfile.TemporaryDirectory() as above:
-            os.chmod(above, 0o755)
-            inside = Path(above) / "place"
-            inside.mkdir()
-            place = Place(program, meddler, inside)
-            test(place)
-            yield f"kept: {name}", place.differences
+    """Runs all tests, and gives for each its name and its differences."""
+    return all_of("kept", program, folder, tests())
