@@ -11,7 +11,7 @@ from oracle.escapes import text_lines
 from oracle.proof import ABSENT, FRAME_SIZE, proof_of, proof_of_chunks, way
 from oracle.reader import Reader
 from oracle.trees import chunk_file, records, reference_text, tree
-from support.harness import hexed, line, shown
+from support.harness import LONGEST, hexed, line, shown
 from support.measured import HUNG
 
 NO_VALUE = (1, b"", b"")
@@ -21,9 +21,6 @@ ALL = 1_000_000
 
 ABOVE_ALL = b"\xff" * 1_025
 """A key that is above all that a map can have."""
-
-LONGEST = 20.0
-"""Seconds after which a look-up hangs. It takes some milliseconds on an idle machine."""
 
 LINES = re.compile(rb"(?:[0-9a-f]* [0-9a-f]*\n)*")
 

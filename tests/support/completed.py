@@ -1,9 +1,10 @@
 """What bash, zsh and fish make of begun words, by the completions that `make install` puts there."""
 
 import re
-import shutil
 import subprocess
 from pathlib import Path
+
+from support.harness import LONGEST
 
 FILES = ["changes.rec", "other.prl"]
 """The files of the folder in which the shells run."""
@@ -97,7 +98,7 @@ def differences(shell, script, helps, folder):
 def completed(shell, script, place, words):
     """A shell that prints what it makes of the last word. The descriptions of fish are taken off."""
     line = " ".join(["prolly", *words])
-    how = {"capture_output": True, "text": True, "check": False, "timeout": 60}
+    how = {"capture_output": True, "text": True, "check": False, "timeout": LONGEST}
     if shell == "bash":
         return subprocess.run(["bash", "-c", BASH, "bash", str(script), str(place), *words], **how)
     if shell == "fish":
@@ -107,8 +108,3 @@ def completed(shell, script, place, words):
     shown = place.parent / "shown.zsh"
     shown.write_text(ZSH_SHOWN)
     return subprocess.run(["zsh", "-f", "-c", ZSH, "zsh", str(script.parent), str(place), line, str(shown)], **how)
-
-
-def installed_shells(scripts):
-    """The shells of this machine, of those for which there are completions."""
-    return [(shell, script) for shell, script in scripts.items() if shutil.which(shell)]
