@@ -14,15 +14,16 @@ from functools import partial
 from math import gcd
 from pathlib import Path
 
+from cases.files import NO_WRITE
 from cases.random_runs import hex_line as random_hex_line
 from cases.random_runs import key as random_key
 from cases.random_runs import text_line as random_text_line
 from oracle.escapes import respelled, text_lines
 from oracle.sorting import BYTE_ORDER_MARK, LONGEST_LINE, latest, packed_in_order
 from oracle.trees import REMOVED, record, records
-from support.harness import FOLDER, Case
+from support.harness import FOLDER, Case, tested
 from support.measured import Measured
-from support.place import Place, compiled, wait_until_there
+from support.place import all_of, begin, compiled
 from support.refused import Command, refuse
 
 SEED, TABLES = 20_261_128, 300
@@ -33,8 +34,6 @@ BEFORE = records([(b"before", b"1")])
 
 WORDS = ["pack", "--sort", "--memory", "16"]
 """The words of most runs: the least memory, so that little makes several runs."""
-
-NO_WRITE = (5, b"", b"prolly: write failed\n")
 
 
 def cases(_):
@@ -484,11 +483,10 @@ def is_moved_away(place):
     """OUT is moved away while a sort of several runs goes on: further files are made all the same, and the last one becomes OUT."""
     place.lay(out=BEFORE)
     process = place.start([*WORDS, "--text", "out"], stdin=subprocess.PIPE)
-    wait_until_there(place.path("out.0.tmp"))
+    rest = begin(process, b"".join(several_runs().lines()), place.path("out.0.tmp"))
     place.path("out").rename(place.path("old"))
     count, digest = several_runs().told()
-    out, err = process.communicate(b"".join(several_runs().lines()), timeout=300)
-    place.answers((process.returncode, out, err), (0, b"%d\n" % count, b""))
+    place.answers(place.finish(process, rest), (0, b"%d\n" % count, b""))
     if sha256_of(place.path("out")) != digest:
         place.note("OUT is not what the lines come to")
     place.holds(out=None, old=BEFORE)
@@ -498,11 +496,10 @@ def is_not_its_own(place):
     """The file of a run whose name another file took: that stays, also where the run is to be read back."""
     place.lay(out=BEFORE)
     process = place.start([*WORDS, "--text", "out"], stdin=subprocess.PIPE)
-    wait_until_there(place.path("out.0.tmp"))
+    rest = begin(process, b"".join(several_runs().lines()), place.path("out.0.tmp"))
     place.path("out.0.tmp").unlink()
     place.path("out.0.tmp").write_bytes(b"another's")
-    out, err = process.communicate(b"".join(several_runs().lines()), timeout=300)
-    place.answers((process.returncode, out, err), (5, b"", b"prolly: the file of a run can't be read\n"))
+    place.answers(place.finish(process, rest), (5, b"", b"prolly: the file of a run can't be read\n"))
     place.holds(out=BEFORE, out_0_tmp=b"another's")
 
 
@@ -595,28 +592,38 @@ def is_interrupted(place, how):
 
 
 def is_ended(place, name):
-    """A signal ends a run at some moment: OUT is as it was or whole, and one file may stand beside it, no more."""
-    table = several_runs()
+    """A signal ends a run at some moment, and before some write that is neither its first nor its last."""
+    table, number = several_runs(), getattr(signal, name)
     given, made = b"".join(table.lines()), records(latest(table.changes()))
     place.lay(given=given)
+    words = [*WORDS, "--text", "out"]
     began = time.monotonic()
     with open(place.path("given"), "rb") as stdin:
-        place.answers(place.run(*WORDS, "--text", "out", stdin=stdin), (0, None, b""))
+        answer, calls = place.meddled(*words, stdin=stdin)
     duration = time.monotonic() - began
+    place.answers(answer, (0, None, b""))
     chance = random.Random(name)
     for _ in range(5):
         place.lay(out=BEFORE)
         with open(place.path("given"), "rb") as stdin:
-            process = place.start([*WORDS, "--text", "out"], stdin=stdin)
-            time.sleep(duration * chance.random())
-            process.send_signal(getattr(signal, name))
-            process.communicate()
-        beside = list(place.folder.glob("out.*.tmp"))
-        if place.path("out").read_bytes() not in (BEFORE, made) or len(beside) > 1:
-            place.note(f"{len(beside)} files beside OUT, or OUT is neither")
-        for path in beside:
-            path.unlink()
+            place.end_at(number, duration * chance.random(), *words, stdin=stdin)
+        judge_ended(place, (BEFORE, made))
+    writes = sum(line.startswith("write ") for line in calls)
+    for write in chance.sample(range(2, writes), 5):
+        place.lay(out=BEFORE)
+        with open(place.path("given"), "rb") as stdin:
+            place.end_before_write(number, write, *words, stdin=stdin)
+        judge_ended(place, (BEFORE,))
     place.holds(out=None, given=None)
+
+
+def judge_ended(place, may_be):
+    """Notes where OUT holds anything else than it may after a run that was ended. One file may stand beside it, no more."""
+    beside = list(place.folder.glob("out.*.tmp"))
+    if place.path("out").read_bytes() not in may_be or len(beside) > 1:
+        place.note(f"{len(beside)} files beside OUT, or OUT is neither")
+    for path in beside:
+        path.unlink()
 
 
 # ---- memory
@@ -708,16 +715,8 @@ def tests():
 
 
 def all_runs(program, folder):
-    """Runs all tests, each in a folder of its own, and gives for each its name and its differences."""
-    meddler = compiled("meddle", folder)
-    for name, test in tests():
-        with tempfile.TemporaryDirectory() as above:
-            os.chmod(above, 0o755)
-            inside = Path(above) / "place"
-            inside.mkdir()
-            place = Place(program, meddler, inside)
-            test(place)
-            yield f"pack --sort: {name}", place.differences
+    """Runs all tests, and gives for each its name and its differences."""
+    yield from all_of("pack --sort", program, folder, tests())
     yield from is_refused_memory(program, folder)
     with tempfile.TemporaryDirectory() as above:
-        yield "pack --sort: 300 MB with --memory 64", held(program, Path(above), 1_530_000, 64, 100_000_000)
+        yield from tested("pack --sort: 300 MB with --memory 64", partial(held, program, Path(above), 1_530_000, 64, 100_000_000))
