@@ -3,17 +3,15 @@
 import errno
 import os
 import pty
+import select
 import subprocess
-import tempfile
-import threading
-import time
-from pathlib import Path
 
 from cases.dumps import lines
 from cases.files import WRITERS, in_place_of_out, laid, refusal
 from cases.scratch import ABC, numbered
 from oracle.trees import chunk_file, records, reference_text, root_text, tree
-from support.place import Place, compiled
+from support.harness import LONGEST
+from support.place import all_of, held_by
 
 
 def is_the_same_pipe(place):
@@ -73,31 +71,31 @@ def tells_a_terminal(place):
     process = place.start(["pack", "out"], stdin=slave)
     os.close(slave)
     os.write(master, b"61 31\n\x04")
-    out, err = process.communicate(timeout=60)
+    answer = place.finish(process)
     os.close(master)
     wanted = b"prolly: reading lines from the terminal; Control-D ends them\n"
-    place.answers((process.returncode, out, err), (0, b"1\n", wanted))
+    place.answers(answer, (0, b"1\n", wanted))
     place.holds(out=records(ABC[:1]))
 
 
 def waits_for_input(place):
-    """A non-blocking standard input that has nothing for a while."""
+    """A non-blocking standard input that has nothing, each time until the program has looked for more in vain."""
     for words, given, wanted in ((["scratch", "--bits", "0"], records(ABC), root_text(ABC, 0)), (["pack", "out"], lines(ABC), b"3\n")):
         reader, writer = os.pipe()
         os.set_blocking(reader, False)
-        process = place.start(words, stdin=reader)
+        process, told = place.start_meddled(words, stdin=reader)
         os.close(reader)
         for at in range(0, len(given), 10):
-            time.sleep(0.05)
+            wait_until_in_vain(writer, told, b"read 0\n")
             os.write(writer, given[at : at + 10])
         os.close(writer)
-        out, err = process.communicate(timeout=60)
-        place.answers((process.returncode, out, err), (0, wanted, b""))
+        answer, _ = place.finish_meddled(process, told)
+        place.answers(answer, (0, wanted, b""))
     place.holds(out=records(ABC))
 
 
 def waits_for_output(place):
-    """A non-blocking standard output that nobody reads for a while."""
+    """A non-blocking standard output that nobody reads until it is full, and the program has tried to write more in vain."""
     pairs = numbered(20_000)
     place.lay(in_prl=chunk_file(pairs, 4), none_prl=chunk_file([], 4))
     text = lines(pairs)
@@ -112,26 +110,49 @@ def waits_for_output(place):
     for words, status, made in runs:
         reader, writer = os.pipe()
         os.set_blocking(writer, False)
-        process = place.start(words, stdout=writer)
+        process, told = place.start_meddled(words, stdout=writer)
         os.close(writer)
-        came = []
-        time.sleep(0.2)
-        with os.fdopen(reader, "rb") as pipe:
-            thread = threading.Thread(target=lambda: came.append(pipe.read()))
-            thread.start()
-            thread.join(60)
-        _, err = process.communicate(timeout=60)
-        place.answers((process.returncode, came[0], err), (status, made, b""))
+        wait_until_in_vain(reader, told, b"write 1\n")
+        # From now on it is read as if the process had been started with a pipe of its own.
+        process.stdout = os.fdopen(reader, "rb")
+        answer, _ = place.finish_meddled(process, told)
+        place.answers(answer, (status, made, b""))
     place.holds(in_prl=None, none_prl=None)
 
 
-def all_runs(program, folder):
-    """Runs all tests, each in a folder of its own, and gives for each its name and its differences."""
-    meddler = compiled("meddle", folder)
+def wait_until_in_vain(pipe, told, call):
+    """Waits until a call that is told by this line, on the other end of a pipe, moves nothing: the pipe holds as much as before."""
+    while True:
+        held = held_by(pipe)
+        while is_readable(told, 0):
+            next_of(told)
+        # A call is told before it is made. So once the second is, the first, which was told since the pipe was looked at, is done.
+        for _ in range(2):
+            while next_of(told) != call:
+                pass
+        if held_by(pipe) == held:
+            return
+
+
+def next_of(told):
+    """The next line of a pipe that tells calls."""
+    assert is_readable(told, LONGEST), "no call is told"
+    line = told.readline()
+    assert line, "the program ended before a call moved nothing"
+    return line
+
+
+def is_readable(pipe, seconds):
+    """Whether a pipe has anything within so many seconds, or has ended."""
+    return select.select([pipe], [], [], seconds)[0] != []
+
+
+def tests():
+    """All tests: for each a name and what it does."""
     for test in (is_the_same_pipe, has_closed_streams, has_no_root_folder, tells_a_terminal, waits_for_input, waits_for_output):
-        with tempfile.TemporaryDirectory() as above:
-            inside = Path(above) / "place"
-            inside.mkdir()
-            place = Place(program, meddler, inside)
-            test(place)
-            yield f"streams: {test.__name__.replace('_', ' ')}", place.differences
+        yield test.__name__.replace("_", " "), test
+
+
+def all_runs(program, folder):
+    """Runs all tests, and gives for each its name and its differences."""
+    return all_of("streams", program, folder, tests())
