@@ -7,11 +7,13 @@ import subprocess
 import tempfile
 import threading
 import time
+from functools import partial
 from pathlib import Path
 
 from cases.scratch import numbered
 from oracle.trees import records, report
-from support.harness import shown
+from support.harness import LONGEST, Skipped, differs, tested
+from support.place import opened_for_writing
 
 CLEARED = b"\r\x1b[K"
 """What takes the line away: back to its beginning, and blank to its end."""
@@ -21,18 +23,10 @@ LINE = re.compile(rb"read (?P<records>\d+) records, (?P<read>\d+)(?: of (?P<tota
 QUIET_TIME = 1.0
 """Seconds in which nothing is shown of a build."""
 
-STANDSTILL = 1.9
-"""Seconds in which a line would be shown, and shown anew."""
-
-LONGEST_WAIT = 60.0
-"""Seconds after which nobody waits for a line any more. On an idle machine two of them are there after 1.5."""
-
 TRIES = 20
 """How often a short build is tried on a machine that is too slow for it."""
 
 PAIRS = numbered(40_000)
-
-FLAWED = records([*PAIRS, PAIRS[0]])
 
 OUT_OF_ORDER = b"prolly: file 0: record 40000: key out of order\r\n"
 
@@ -48,7 +42,7 @@ def all_runs(program, _):
         ("no terminal", no_terminal),
     ):
         with tempfile.TemporaryDirectory() as folder:
-            yield f"progress: {name}", shows(program, Path(folder))
+            yield from tested(f"progress: {name}", partial(shows, program, Path(folder)))
 
 
 # ---- builds that are slow
@@ -56,10 +50,7 @@ def all_runs(program, _):
 
 def slow_input(program, folder):
     """A pipe that stands still until two lines are shown: how long it is nobody knows."""
-    screen = Screen()
-    feeder = fed(folder / "in.rec", records(PAIRS), screen.wait_for_lines)
-    answer = on_terminal(program, folder, screen, "build", "out.prl", "in.rec")
-    feeder.join()
+    answer, screen = shown_build(program, folder, PAIRS)
     told = [int(line["records"]) for line in screen.lines()]
     return [
         *answered(answer, (0, report(PAIRS))),
@@ -78,9 +69,8 @@ def slow_output(program, folder):
     (folder / "in.rec").write_bytes(content)
     (folder / "no.rec").write_bytes(b"")
     screen = Screen()
-    reader = drained(folder / "out.prl", screen.wait_for_lines)
-    answer = on_terminal(program, folder, screen, "build", "out.prl", "in.rec", "no.rec")
-    reader.join()
+    drain = drained(folder / "out.prl", screen.wait_for_lines)
+    answer = on_terminal(program, folder, screen, drain, "build", "out.prl", "in.rec", "no.rec")
     return [
         *answered(answer, (0, report(PAIRS))),
         *differs("what is left on the screen", screen.rest(), b""),
@@ -91,15 +81,19 @@ def slow_output(program, folder):
 
 def slow_fault(program, folder):
     """A fault is told below a line that was taken away."""
-    screen = Screen()
-    feeder = fed(folder / "in.rec", FLAWED, screen.wait_for_lines)
-    answer = on_terminal(program, folder, screen, "build", "out.prl", "in.rec")
-    feeder.join()
+    answer, screen = shown_build(program, folder, [*PAIRS, PAIRS[0]])
     return [
         *answered(answer, (3, b"")),
         *differs("the end of the screen", screen.rest(), OUT_OF_ORDER),
         *differs("there are lines", screen.lines() != [], True),
     ]
+
+
+def shown_build(program, folder, pairs):
+    """A build of a pipe that stands still in the middle until two lines are shown: its answer and its screen."""
+    screen = Screen()
+    feed = fed(folder / "in.rec", records(pairs), screen.wait_for_lines)
+    return on_terminal(program, folder, screen, feed, "build", "out.prl", "in.rec"), screen
 
 
 # ---- builds that show nothing
@@ -108,30 +102,36 @@ def slow_fault(program, folder):
 def quiet(program, folder):
     """A slow build is asked to show nothing."""
     screen = Screen()
-    feeder = fed(folder / "in.rec", records(PAIRS), stand_still)
-    answer = on_terminal(program, folder, screen, "build", "--quiet", "out.prl", "in.rec")
-    feeder.join()
+    feed = fed(folder / "in.rec", records(PAIRS), partial(stand_still, program))
+    answer = on_terminal(program, folder, screen, feed, "build", "--quiet", "out.prl", "in.rec")
     return answered((*answer, screen.found), (0, report(PAIRS), b""))
 
 
 def short(program, folder):
-    """A build that is done before a second is over. One that takes longer tells nothing of this, and is tried again."""
+    """A build that is done before a second is over. One that takes longer may show a line, and is tried again."""
     (folder / "in.rec").write_bytes(records(PAIRS[:10]))
     for _ in range(TRIES):
         screen = Screen()
         began = time.monotonic()
-        answer = on_terminal(program, folder, screen, "build", "out.prl", "in.rec")
-        if time.monotonic() - began < QUIET_TIME:
+        answer = on_terminal(program, folder, screen, None, "build", "out.prl", "in.rec")
+        if time.monotonic() - began < QUIET_TIME or screen.found == b"":
             return answered((*answer, screen.found), (0, report(PAIRS[:10]), b""))
-    return [f"no build of {TRIES} took less than a second"]
+    raise Skipped(f"no build of {TRIES} took less than a second")
 
 
 def no_terminal(program, folder):
     """A slow build whose standard error is a pipe."""
-    feeder = fed(folder / "in.rec", records(PAIRS), stand_still)
-    done = subprocess.run([program, "build", "out.prl", "in.rec"], cwd=folder, capture_output=True, check=False)
-    feeder.join()
-    return answered((done.returncode, done.stdout, done.stderr), (0, report(PAIRS), b""))
+    feed = fed(folder / "in.rec", records(PAIRS), partial(stand_still, program))
+    process = subprocess.Popen([program, "build", "out.prl", "in.rec"], cwd=folder, stdout=subprocess.PIPE, stderr=subprocess.PIPE)
+    out, err = finished(process, feed)
+    return answered((process.returncode, out, err), (0, report(PAIRS), b""))
+
+
+def stand_still(program):
+    """Waits until a build beside it, which shows lines, has shown two: so long that the build which waits would have shown some."""
+    with tempfile.TemporaryDirectory() as folder:
+        _, screen = shown_build(program, Path(folder), PAIRS)
+    assert len(screen.lines()) >= 2, "the build beside it shows no lines"
 
 
 # ---- the parts of a run
@@ -160,7 +160,7 @@ class Screen:
     def wait_for_lines(self):
         """Waits until two lines were shown, the last of which tells of records."""
         with self.changed:
-            self.changed.wait_for(lambda: self.is_closed or self.has_lines(), LONGEST_WAIT)
+            self.changed.wait_for(lambda: self.is_closed or self.has_lines(), LONGEST)
 
     def has_lines(self):
         """Whether two lines were shown so far, the last of which tells of records."""
@@ -190,62 +190,78 @@ def part_of(terminal):
         return b""
 
 
-def on_terminal(program, folder, screen, *words):
-    """Runs the program with a terminal for standard error, whose screen it is, and gives its status and its output."""
+def on_terminal(program, folder, screen, beside, *words):
+    """Runs the program with a terminal for standard error, whose screen it is, and something beside it that is given its process.
+    Gives its status and its output."""
     above, below = pty.openpty()
     process = subprocess.Popen([program, *words], cwd=folder, stdin=subprocess.DEVNULL, stdout=subprocess.PIPE, stderr=below)
     os.close(below)
-    screen.follow(above)
-    out, _ = process.communicate(timeout=300)
+    follower = threading.Thread(target=screen.follow, args=[above], daemon=True)
+    follower.start()
+    out, _ = finished(process, beside)
+    follower.join(LONGEST)
     return process.returncode, out
 
 
-def stand_still():
-    """Waits for as long as two lines would take."""
-    time.sleep(STANDSTILL)
+def finished(process, beside):
+    """What a process prints, and something runs beside it that is given it. Both are ended where they hang."""
+    # A thread that waits for good, as an open may, must not keep these tests.
+    broken = []
+    thread = threading.Thread(target=noting, args=[broken, beside, process], daemon=True)
+    thread.start()
+    try:
+        printed = process.communicate(timeout=2 * LONGEST)
+    finally:
+        process.kill()
+    thread.join(LONGEST)
+    assert not broken and not thread.is_alive(), f"what runs beside the build: {broken or 'it hangs'}"
+    return printed
+
+
+def noting(broken, beside, process):
+    """Does what is to be done beside a process, if anything, and notes by what it was broken off."""
+    try:
+        if beside is not None:
+            beside(process)
+    except Exception as error:
+        broken.append(error)
 
 
 def fed(path, content, wait):
-    """A named pipe into which bytes are written, half of them after a wait; the thread that does it."""
+    """A named pipe, and what writes bytes into it, the second half of them after a wait."""
     os.mkfifo(path)
 
-    def feed():
+    def feed(process):
         half = len(content) // 2
-        with open(path, "wb") as it:
-            it.write(content[:half])
-            it.flush()
+        with opened_for_writing(path, process) as pipe:
+            write_all(pipe, content[:half])
             wait()
-            it.write(content[half:])
+            write_all(pipe, content[half:])
 
-    return started(feed)
+    return feed
+
+
+def write_all(pipe, content):
+    """Writes bytes into a pipe, which takes a part of them at a time."""
+    while content:
+        content = content[pipe.write(content) :]
 
 
 def drained(path, wait):
-    """A named pipe that is opened, and read after a wait; the thread that does it."""
+    """A named pipe that is open for reading, and what reads it after a wait."""
     os.mkfifo(path)
+    # At once, while nobody writes it yet.
+    reader = os.open(path, os.O_RDONLY | os.O_NONBLOCK)
 
-    def drain():
-        with open(path, "rb") as it:
+    def drain(_):
+        with os.fdopen(reader, "rb") as pipe:
             wait()
-            it.read()
+            os.set_blocking(reader, True)
+            pipe.read()
 
-    return started(drain)
-
-
-def started(work):
-    """The thread that does some work, started."""
-    thread = threading.Thread(target=work)
-    thread.start()
-    return thread
+    return drain
 
 
 def answered(found, wanted):
     """How an answer differs from the one that is wanted."""
     return differs("the answer", found, wanted)
-
-
-def differs(what, found, wanted):
-    """One difference, or none."""
-    if found == wanted:
-        return []
-    return [f"{what}: {shown(found) if isinstance(found, bytes) else found}, wanted {shown(wanted) if isinstance(wanted, bytes) else wanted}"]
