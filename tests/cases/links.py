@@ -4,13 +4,12 @@ it; nobody waits for ever; waiting takes next to no time of the processor; and w
 import os
 import select
 import tempfile
-import time
 from functools import partial
 from pathlib import Path
 
 from cases.scratch import numbered
 from oracle.trees import begun_file, chunk_file, record, records, report
-from support.harness import file_differences, lay_out, shown
+from support.harness import HANGS, LONGEST, file_differences, lay_out, shown, tested
 from support.measured import HUNG, Measured, run, run_over_pipe
 
 LEAST_LINKS = ["--capacity", "1", "--batch", "1"]
@@ -22,10 +21,11 @@ WAITING_PAIRS = 512
 """Pairs of a build whose sleeps end late: enough for thousands of waits."""
 
 LATE = 1.0
-"""By how many seconds such sleeps may end late. Workers that only slept, and did not wake one another, took minutes."""
+"""By how many seconds such sleeps may end late."""
 
-LONGEST = 20.0
-"""Seconds after which a build of few records hangs. It takes less than a tenth of a second on an idle machine."""
+LONGEST_LATE = 100.0
+"""Seconds that such a build may take. It takes less than a tenth of one on an idle machine. Workers that only slept, and did not wake
+one another, took more than 200."""
 
 BUILDS = 100
 """How often the gate looks for a build that hangs."""
@@ -55,17 +55,11 @@ LONG_PAIRS = 1_024
 MORE_LONG_PAIRS = 2 * LONG_PAIRS
 """More of them than a build has room for."""
 
-STANDSTILL = 3.0
-"""Seconds that the output of a build stands still, so that all its links fill."""
-
 MOST_MEMORY = 80_000_000
 """What such a build may take. Measured is half to two thirds of it."""
 
 FEW_LARGE = ["--capacity", "4", "--batch", "1024"]
 """The words of a build whose links have room for more items than there are, but for little of long ones."""
-
-LONGEST_LARGE = 120.0
-"""Seconds after which a build of long values hangs."""
 
 EMPTY_KEY = (b"", b"")
 
@@ -94,7 +88,7 @@ def two_cores():
 def answer_differences(done, out, err=b"", status=0):
     """How a run's answer differs from what is wanted."""
     if done.status == HUNG:
-        return ["it hangs"]
+        return [HANGS]
     if (done.status, done.out, done.err) == (status, out, err):
         return []
     return [f"status {done.status}, output {shown(done.out)}, error {shown(done.err)}"]
@@ -151,13 +145,16 @@ def is_bounded(program, folder, files, options):
     # At once, while nobody writes it yet.
     reader = os.open(folder / "out", os.O_RDONLY | os.O_NONBLOCK)
     begun = Measured([program, "build", "--bits", "4", *options, "out", *inputs], folder=folder)
-    select.select([reader], [], [], LONGEST)
-    time.sleep(STANDSTILL)
+    # Its links are full once it has begun to write, and no thread of it goes on.
+    has_begun = select.select([reader], [], [], LONGEST)[0] != []
+    stands_still = has_begun and begun.wait_until_still(LONGEST)
     os.set_blocking(reader, True)
     with open(reader, "rb") as pipe:
         built = pipe.read()
-    done = begun.finish(LONGEST_LARGE)
+    done = begun.finish(LONGEST)
     differences = answer_differences(done, report(pairs, 4))
+    if not stands_still:
+        differences.append("it never stood still" if has_begun else "it never wrote")
     if built != chunk_file(pairs, 4):
         differences.append(f"another file of {len(built)} bytes")
     if done.peak > MOST_MEMORY:
@@ -170,7 +167,7 @@ def lets_go(program, folder, flaw, options):
     content, pairs, line = FLAWED[flaw]
     files = {"0.rec": records(long_pairs()), "1.rec": content}
     lay_out(folder, files)
-    done = run([program, "build", "--bits", "0", *options, "out.prl", *files], LONGEST_LARGE, folder=folder)
+    done = run([program, "build", "--bits", "0", *options, "out.prl", *files], LONGEST, folder=folder)
     differences = answer_differences(done, b"", b"prolly: file 1: " + line + b"\n", 3)
     return differences or file_differences(folder, {**files, "out.prl": begun_file(pairs, 0)})
 
@@ -178,7 +175,7 @@ def lets_go(program, folder, flaw, options):
 def cannot_write(program, folder, options):
     """A full device, behind which the writer lets all chunks go."""
     lay_out(folder, {"0.rec": records(long_pairs())})
-    done = run([program, "build", "--bits", "4", *options, "/dev/full", "0.rec"], LONGEST_LARGE, folder=folder)
+    done = run([program, "build", "--bits", "4", *options, "/dev/full", "0.rec"], LONGEST, folder=folder)
     return answer_differences(done, b"", b"prolly: write failed\n", 5)
 
 
@@ -187,7 +184,7 @@ def cannot_write(program, folder, options):
 
 def tests():
     """All tests: for each a name and what it does."""
-    late = {"pairs": numbered(WAITING_PAIRS), "bits": 2, "longest": LONGEST, "late": LATE}
+    late = {"pairs": numbered(WAITING_PAIRS), "bits": 2, "longest": LONGEST_LATE, "late": LATE}
     yield f"each sleep {LATE:.0f} s late", partial(is_woken, **late)
     yield "a record a second", waits_cheaply
     yield "long values in one file", partial(is_bounded, files=1, options=[])
@@ -214,4 +211,4 @@ def run_all(program, tests):
     """Runs tests, each in a folder of its own."""
     for name, test in tests:
         with tempfile.TemporaryDirectory() as inside:
-            yield f"links: {name}", test(program, Path(inside))
+            yield from tested(f"links: {name}", partial(test, program, Path(inside)))
