@@ -3,7 +3,8 @@
 
 The archive `prolly-VERSION-x86_64-linux.tar.gz` has the program, load.py, the manual page, the shells' completions, the
 README, the license, docs/ and examples/, which these name. It is made in FOLDER, or else beside PROGRAM, and its name is
-printed. One that was there stays until the new one is whole. Equal contents give equal bytes.
+printed. One that was there stays until the new one is whole. Equal contents give equal bytes, on whatever day: the manual page has the
+day on which PROGRAM was last changed, or that of SOURCE_DATE_EPOCH.
 """
 
 import gzip
@@ -38,7 +39,8 @@ def main():
 def install(program, root, made):
     """Puts the program and what belongs to it below a folder."""
     words = [f"PROGRAM={program}", "DESTDIR=", f"PREFIX={root}", f"MADE={made}"]
-    subprocess.run(["make", "-s", "-C", TOP, "install", *words], check=True)
+    changed = {"SOURCE_DATE_EPOCH": str(int(program.stat().st_mtime))}
+    subprocess.run(["make", "-s", "-C", TOP, "install", *words], check=True, env=changed | os.environ)
 
 
 def contents(root):

@@ -9,7 +9,8 @@ import tempfile
 from functools import partial
 from pathlib import Path
 
-from support.completed import differences, installed_shells
+from support.completed import differences
+from support.harness import Skipped, differs, tested
 
 TOP = Path(__file__).parent.parent.parent
 
@@ -40,30 +41,33 @@ LINTS = [
 """What looks for faults in a page's source."""
 
 
+OLD_DAY = 1_000_000_000
+"""A second of 2001-09-09, by the clock of the system."""
+
+
 def all_runs(program, _):
     """Installs, looks, and takes away: for each step its name and its differences."""
     with tempfile.TemporaryDirectory() as folder:
         place = Path(folder) / "usr"
         made = Path(folder) / "made"
         yield "make install", make("install", program, place, made)
-        yield "what is installed", differs(files_below(place), sorted(INSTALLED + library()))
+        yield "what is installed", differs("files", files_below(place), sorted(INSTALLED + library()))
         if library():
-            yield "a program over the library, as pkg-config finds it", list(linked(place, Path(folder) / "linked"))
+            name = "a program over the library, as pkg-config finds it"
+            yield from tested(name, lambda: list(linked(place, Path(folder) / "linked")))
         page, told = (place / MANUAL).read_text(), helps(program)
         yield "the manual has all words of the helps", list(missing(told, page))
         yield "the manual's lists are lists", list(run_together(told, page))
-        yield "the manual's sections", differs(re.findall(r'(?m)^\.SH "?([^"\n]*)', page), SECTIONS)
-        yield "the manual's statuses", differs(statuses(page), told_statuses())
+        yield "the manual's sections", differs("sections", re.findall(r'(?m)^\.SH "?([^"\n]*)', page), SECTIONS)
+        yield "the manual's statuses", differs("statuses", statuses(page), told_statuses())
         yield "the manual has no usage's brackets", re.findall(r"<[A-Z]+>", page)
         for lint in LINTS:
-            if shutil.which(lint[0]):
-                yield f"the manual, as {lint[0]} reads it", linted([*lint, str(place / MANUAL)])
-        scripts = {shell: place / name for shell, name in COMPLETIONS.items()}
-        for shell, script in installed_shells(scripts):
-            yield f"what {shell} reads", silent([shell, "-n", str(script)])
-            yield f"completions of {shell}", list(differences(shell, script, told[1], Path(folder) / shell))
+            yield from tested(f"the manual, as {lint[0]} reads it", partial(linted, [*lint, str(place / MANUAL)]))
+        for shell, script in COMPLETIONS.items():
+            yield from tested(f"what {shell} reads", partial(read_by, shell, place / script))
+            yield from tested(f"completions of {shell}", partial(completed_by, shell, place / script, told[1], Path(folder) / shell))
         yield "make uninstall", make("uninstall", program, place, made)
-        yield "what is left", differs(files_below(place), [])
+        yield "what is left", differs("files", files_below(place), [])
         yield "the archive", list(unpacked(program, Path(folder) / "archive"))
 
 
@@ -74,8 +78,7 @@ def library():
 
 def linked(place, program):
     """What goes wrong with a program that is built and run by what pkg-config tells."""
-    if shutil.which("pkg-config") is None:
-        return
+    needs("pkg-config")
     source = program.with_suffix(".c")
     source.write_text('#include <prolly.h>\nint main(void) { prolly_report r; return prolly_check((const uint8_t *)"", 0, &r) != 16; }\n')
     names = {**os.environ, "PKG_CONFIG_PATH": str(place / "lib" / "pkgconfig"), "LD_LIBRARY_PATH": str(place / "lib")}
@@ -92,24 +95,29 @@ def make(target, program, place, made):
 
 
 def unpacked(program, folder):
-    """How an archive differs from one that has all that is installed, the documents, and the program as it is."""
+    """How an archive differs from one that has all that is installed, the documents, and the program as it is, of whose day it is."""
     folder.mkdir()
-    archive = packed(program, folder)
+    old = folder / "prolly"
+    shutil.copy(program, old)
+    os.utime(old, (OLD_DAY, OLD_DAY))
+    archive = packed(old, folder)
     first = archive.read_bytes()
-    yield from differs(packed(program, folder).read_bytes() == first, True)
+    yield from differs("packed again, the archive is the same", packed(old, folder).read_bytes() == first, True)
     subprocess.run(["tar", "-xzf", archive, "-C", folder], check=True)
     root = Path(str(archive).removesuffix(".tar.gz"))
     wanted = [*INSTALLED, *library(), "README.md", "LICENSE", "docs/commands.md", "docs/format.md", "examples/load.py", "examples/python/prolly_read.py"]
     yield from (f"{name} is missing" for name in wanted if not (root / name).is_file())
-    yield from differs((root / "bin" / "prolly").read_bytes() == Path(program).read_bytes(), True)
+    yield from differs("the program is as it was", (root / "bin" / "prolly").read_bytes() == Path(program).read_bytes(), True)
+    yield from differs("the manual's day", (root / MANUAL).read_text().split()[3], "2001-09-09")
     told = subprocess.run([root / "bin" / "prolly", "--version"], capture_output=True, text=True, check=False).stdout
-    yield from differs(told.split(",")[0], root.name.removesuffix("-x86_64-linux").replace("-", " "))
+    yield from differs("the version", told.split(",")[0], root.name.removesuffix("-x86_64-linux").replace("-", " "))
 
 
 def packed(program, folder):
     """Makes the archive in a folder."""
     words = [str(TOP / "share" / "dist.py"), program, str(folder)]
-    return Path(subprocess.run(words, capture_output=True, text=True, check=True).stdout.strip())
+    names = {name: value for name, value in os.environ.items() if name != "SOURCE_DATE_EPOCH"}
+    return Path(subprocess.run(words, capture_output=True, text=True, check=True, env=names).stdout.strip())
 
 
 def silent(words):
@@ -119,16 +127,30 @@ def silent(words):
     return [] if (done.returncode, said) == (0, "") else [f"status {done.returncode}: {said[-300:]!r}"]
 
 
+def needs(command):
+    """Skips a test of what a command makes that is not there."""
+    if shutil.which(command) is None:
+        raise Skipped(f"{command} is not there")
+
+
+def read_by(shell, script):
+    """What a shell says of its completions."""
+    needs(shell)
+    return silent([shell, "-n", str(script)])
+
+
+def completed_by(shell, script, helps, folder):
+    """What is wrong with what it makes of begun words."""
+    needs(shell)
+    return list(differences(shell, script, helps, folder))
+
+
 def linted(words):
     """What a reader of manuals warns of."""
+    needs(words[0])
     done = subprocess.run(words, capture_output=True, text=True, check=False)
     said = (done.stdout if "-Tlint" in words else "") + done.stderr
     return [said[-300:]] if said or done.returncode else []
-
-
-def differs(found, wanted):
-    """A line, where the two are not the same."""
-    return [] if found == wanted else [f"{found}, wanted {wanted}"]
 
 
 def files_below(place):
