@@ -26,7 +26,7 @@ PROBES = 100_000
 
 TURNS = 5
 
-MEGABYTES = 1 << 30
+MAPPED_BYTES = 1 << 30
 """How much of a file sqlite3 and LMDB may map."""
 
 
@@ -88,7 +88,7 @@ def sqlite_store():
 
     def opened():
         base = sqlite3.connect("pairs.db")
-        base.execute(f"pragma mmap_size = {MEGABYTES}")
+        base.execute(f"pragma mmap_size = {MAPPED_BYTES}")
         ask = base.cursor()
         return (
             lambda key: ask.execute("select value from pairs where key = ?", (key,)).fetchone()[0],
@@ -107,11 +107,11 @@ def lmdb_store():
         return
 
     def load(pairs):
-        with lmdb.open("pairs.lmdb", map_size=MEGABYTES) as base, base.begin(write=True) as change:
+        with lmdb.open("pairs.lmdb", map_size=MAPPED_BYTES) as base, base.begin(write=True) as change:
             change.cursor().putmulti(pairs, append=True)
 
     def opened():
-        view = lmdb.open("pairs.lmdb", map_size=MEGABYTES, readonly=True).begin()
+        view = lmdb.open("pairs.lmdb", map_size=MAPPED_BYTES, readonly=True).begin()
         return view.get, view.cursor
 
     yield "from Python, lmdb", load, opened

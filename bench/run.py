@@ -453,6 +453,7 @@ def show_proofs(program):
             f" peak {max(done.peak for done in verifying) / 1e6:.1f} MB"
         )
         show_key_lists(program, root, bits)
+    remove(["records", "tree", "proof"])
 
 
 def show_key_lists(program, root, bits):
@@ -468,7 +469,7 @@ def show_key_lists(program, root, bits):
                 f" prove --root {making.seconds:.3f} s, verify {verifying.seconds:.3f} s, get --root {getting.seconds:.3f} s,"
                 f" peak {verifying.peak / 1e6:.1f} MB"
             )
-    remove(["records", "tree", "proof"])
+    remove(["keys"])
 
 
 def show_rooted(program):
