@@ -8,12 +8,13 @@ import signal
 import subprocess
 import sys
 import tempfile
-import time
+from functools import partial
 from pathlib import Path
 
 from oracle.trees import chunk_file, report
-from support.harness import Case, run
+from support.harness import LONGEST, Case, differs, run, tested
 from support.measured import run as measured
+from support.place import wait_until
 
 EXAMPLES = Path(__file__).parent.parent.parent / "examples"
 
@@ -37,12 +38,11 @@ IN_PARTS = "import sys; import load; load.MOST_RECORDS = 3; sys.exit(load.main()
 def all_runs(program, folder):
     """All of it: for each run its name and its differences."""
     for case in [*loads(program), *faults(program), *backs(program)]:
-        yield case.name, run(LOAD, case)
+        yield from tested(case.name, partial(run, LOAD, case))
     for number in range(TABLES):
-        yield f"load.py: random {SEED}, table {number}", there_and_back(program, random.Random(f"{SEED} {number}"))
-    yield "load.py: parts", in_parts(program)
-    yield "load.py: ended by a signal", ended(program)
-    yield "load.py: more rows than memory", streamed(program)
+        yield from tested(f"load.py: random {SEED}, table {number}", partial(there_and_back, program, random.Random(f"{SEED} {number}")))
+    for name, test in (("parts", in_parts), ("ended by a signal", ended), ("more rows than memory", streamed)):
+        yield from tested(f"load.py: {name}", partial(test, program))
 
 
 # ---- what tables come to
@@ -245,12 +245,6 @@ def ran(folder, program, words, *files, given=b""):
     return done.stdout + done.stderr
 
 
-def differs(name, found, wanted):
-    """A line, where the two are not the same."""
-    if found != wanted:
-        yield f"{name}: {found!r:.300}, wanted {wanted!r:.300}"
-
-
 # ---- more rows
 
 
@@ -281,12 +275,9 @@ def ended(program):
             process = subprocess.Popen(words, cwd=folder, preexec_fn=heeded(number), **pipes)
             process.stdin.write(b"1,2\n" * 100_000)
             process.stdin.flush()
-            for _ in range(1_200):
-                if len(list(folder.iterdir())) > 1:
-                    break
-                time.sleep(0.05)
+            wait_until("a file stands beside OUT", lambda: len(list(folder.iterdir())) > 1, process)
             process.send_signal(number)
-            out, err = process.communicate(timeout=60)
+            out, err = process.communicate(timeout=LONGEST)
             found += differs(number.name, (process.returncode, out, err), (128 + number, b"", b""))
             found += differs("files", [path.name for path in folder.iterdir()], ["out.prl"])
             found += differs("OUT", (folder / "out.prl").read_bytes(), BEFORE)

@@ -14,6 +14,7 @@ sys.path.insert(0, str(EXAMPLE))
 from prolly_read import Malformed, Tree, reference_from, verify, verify_keys, verify_range  # noqa: E402
 from cases.scratch import ABC  # noqa: E402
 from oracle.trees import chunk_file, reference_text, tree  # noqa: E402
+from support.harness import differs  # noqa: E402
 
 MOST_LINES = 260
 """The reader is to be one that is read at a sitting."""
@@ -61,11 +62,6 @@ def some_keys(pairs):
     """Keys that are there, and keys around them."""
     keys = [key for key, _ in pairs[:: max(1, len(pairs) // 6)]]
     return sorted({b"", b"\xff" * 5, *keys, *(key + b"\0" for key in keys)})
-
-
-def differs(what, found, wanted):
-    """A line, where the two are not the same."""
-    return [] if found == wanted else [f"{what}: {found!r}, wanted {wanted!r}"]
 
 
 def as_value(found):
