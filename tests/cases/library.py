@@ -11,7 +11,7 @@ from cases.scratch import ABC
 from oracle.proof import proof_of
 from oracle.range_proof import range_proof_of, within
 from oracle.trees import chunk_file, record, tree
-from support.harness import hexed
+from support.harness import Skipped, hexed, tested
 
 TOP = Path(__file__).parent.parent.parent
 
@@ -57,7 +57,7 @@ def all_runs(_, folder):
         yield f"{kind[0]}.c is built with {kind[1]}", built(kind[0], program, LIBRARY / kind[1])
     if not all(program.exists() for program in programs.values()):
         return
-    yield "the header, as C++ reads it", as_cpp()
+    yield from tested("the header, as C++ reads it", as_cpp)
     yield "the names that are seen", names_seen()
     yield "the examples of docs/c.md", examples_compile(folder)
     for number, (name, pairs, bits, version) in enumerate(TREES):
@@ -69,7 +69,7 @@ def all_runs(_, folder):
     for name, first, end, version, proof, told in some_range_proofs():
         yield f"the proof of {name}", proves_range([programs["ranges"]], folder, first, end, version, proof, told)
     for name, old, new in DIFFERING:
-        yield f"the difference of {name}", differs([programs["diffs"]], folder, old, new)
+        yield f"the difference of {name}", tells_changes([programs["diffs"]], folder, old, new)
     chunks, records = laid_out(folder, "some", some_pairs(2, 300), 3, 2)
     pairs = some_pairs(2, 300)
     shared = {**os.environ, "LD_LIBRARY_PATH": str(LIBRARY)}
@@ -143,7 +143,7 @@ DIFFERING = [
 """Names, and two maps with the bits and the version of their trees."""
 
 
-def differs(words, folder, old, new):
+def tells_changes(words, folder, old, new):
     """What differs between the changes that the library tells and the right ones."""
     places = [laid_out(folder, name, *side)[0] for name, side in (("old", old), ("new", new))]
     done = subprocess.run([*words, *places], capture_output=True, check=False)
@@ -212,7 +212,7 @@ def built(name, program, library):
 def as_cpp():
     """What a compiler of C++ says of the header."""
     if shutil.which("c++") is None:
-        return []
+        raise Skipped("c++ is not there")
     words = ["c++", "-Wall", "-Wextra", "-Werror", "-fsyntax-only", "-x", "c++", TOP / "include" / "prolly.h"]
     return silent(words)
 

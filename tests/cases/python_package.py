@@ -39,4 +39,7 @@ def ran(words, folder=None, **environment):
     """What goes wrong with a run."""
     names = {**os.environ, **{name: str(value) for name, value in environment.items()}}
     done = subprocess.run(words, capture_output=True, text=True, check=False, cwd=folder, env=names)
+    for line in done.stdout.splitlines():
+        if line.startswith("SKIPPED "):
+            print(line, flush=True)
     return [] if done.returncode == 0 else [f"status {done.returncode}: {(done.stdout + done.stderr)[-900:]!r}"]
