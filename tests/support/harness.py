@@ -84,12 +84,12 @@ def tested(name, test):
 
 
 def broken_off(error):
-    """The difference of a test that an error broke off: what it is, and the line of the tests where it came up."""
+    """The difference of a test that an error broke off: what it is, and the line of the test where it came up."""
     if isinstance(error, (subprocess.TimeoutExpired, Hung)):
         return HANGS
-    tests = str(Path(__file__).parent.parent)
-    lines = [frame for frame in traceback.extract_tb(error.__traceback__) if frame.filename.startswith(tests)]
-    return f"it breaks off at {Path(lines[-1].filename).name}, line {lines[-1].lineno}: {error!r:.300}"
+    frames = traceback.extract_tb(error.__traceback__)
+    at = [frame for frame in frames if Path(frame.filename).parent.name == "cases"] or frames
+    return f"it breaks off at {Path(at[-1].filename).name}, line {at[-1].lineno}: {error!r:.300}"
 
 
 def differs(what, found, wanted):
