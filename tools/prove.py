@@ -2,9 +2,9 @@
 """Proves and builds the program with the libraries that it stands on, and says a line a crate: `tools/prove.py [JOBS]`.
 
 JOBS crates are proved side by side, each by one job of the prover, since every further job of one crate loads all that it
-stands on once more. Without JOBS there are as many as processors, and fewer where memory is short. Once each crate that is
-left stands on the one before it, so that nothing can run beside another, they go on one by one, by two jobs each: a second
-job costs little, and takes a third off the time. What the prover notes goes to a log, which is named where a proof fails.
+stands on once more. Without JOBS there are as many as processors, and fewer where memory is short. A crate beside which
+nothing can run, as the first one and the last ones, is proved by up to four jobs. What the prover notes goes to a log, which is
+named where a proof fails.
 """
 
 import os
@@ -23,8 +23,8 @@ LOG = CRATES / PROGRAM / "out" / "proofs.log"
 JOB_BYTES = 2_500_000_000
 """What a job takes of memory at most, but for the last ones, which run alone."""
 
-JOBS_ALONE = 2
-"""By how many jobs a crate is proved beside which no other one can be."""
+JOBS_ALONE = 4
+"""By how many jobs a crate is proved at most beside which no other one can be."""
 
 
 def main():
@@ -33,7 +33,7 @@ def main():
     LOG.parent.mkdir(parents=True, exist_ok=True)
     with open(LOG, "w", encoding="utf-8") as log:
         proving = Proving(jobs, log)
-        root = proving.side_by_side() and proving.one_by_one() and proving.built()
+        root = proving.alone() and proving.side_by_side() and proving.alone() and proving.built()
     if not root:
         sys.exit(f"what the prover says stands in {LOG.relative_to(TOP)}")
     print(f"crates/{PROGRAM}/out/{PROGRAM} is built; the root of the empty map is {root}")
@@ -75,11 +75,18 @@ class Proving:
 
     def is_chain(self):
         """Whether of any two crates that are left one stands on the other."""
-        return all(one in self.below[other] or other in self.below[one] for one, other in combinations(self.left, 2))
+        return all(self.are_in_line(one, other) for one, other in combinations(self.left, 2))
 
-    def one_by_one(self):
-        """Proves the libraries that are left. Gives whether all are proved."""
+    def are_in_line(self, one, other):
+        """Whether one of the crates stands on the other, or they are the same."""
+        return one == other or one in self.below[other] or other in self.below[one]
+
+    def alone(self):
+        """Proves libraries one by one, from the lowest up, as long as nothing can run beside the next one. Gives whether all of
+        these are proved."""
         for crate in sorted(self.left - {PROGRAM}, key=lambda crate: len(self.below[crate])):
+            if not all(self.are_in_line(crate, other) for other in self.left):
+                break
             if self.run(crate, "lib") is None:
                 return False
             self.note(crate)
