@@ -22,7 +22,8 @@ STATUSES = {
 BESIDE = """Stands beside OUT while a command writes what is to take its place, or `pack --sort` lines that do not fit into memory.
 Where such a file is there already, it has the next number that is free. It is left behind only by a run that was killed."""
 
-SEE_ALSO = "`LC_ALL=C sort` puts keys into the order that records have, as `pack --sort` does. Text has the escapes of PostgreSQL's COPY."
+SEE_ALSO = """`pack --sort` puts lines into the order that records have. `LC_ALL=C sort` does so where no key has an escape or a
+byte below the tab, and hexadecimal digits are in one case. Text has the escapes of PostgreSQL's COPY."""
 
 INLINE = re.compile(r"`(?P<code>[^`]+)`|(?P<option>(?<![\w-])--[a-z][a-z-]*)|(?P<word>\b[A-Z]+\b)")
 """What stands out in running text: code, an option, and what may be the name of an argument."""
