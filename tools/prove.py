@@ -96,7 +96,7 @@ class Proving:
         """Proves and builds the program, and runs it. Gives the last word that it prints, or None."""
         with open(CRATES / PROGRAM / "stdin", "rb") as empty:
             printed = self.run(PROGRAM, "run", "--", "scratch", "--bits", "0", stdin=empty)
-        if printed is not None and PROGRAM in self.left:
+        if printed is not None:
             self.note(PROGRAM)
         return printed and printed.split()[-1]
 
@@ -110,8 +110,10 @@ class Proving:
         return done.stdout if done.returncode == 0 else None
 
     def note(self, crate):
-        """Says that a crate is done."""
-        self.left.discard(crate)
+        """Says that a crate is done, where that was not said yet."""
+        if crate not in self.left:
+            return
+        self.left.remove(crate)
         done, every = len(self.below) - len(self.left), len(self.below)
         minutes, seconds = divmod(int(time.monotonic() - self.start), 60)
         print(f"[{done:2} of {every}] {crate:16} done after {minutes} min {seconds:02} s", flush=True)
