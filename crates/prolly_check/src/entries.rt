@@ -21,7 +21,7 @@ use std::marker::Model;
 pub const CHUNK_LIMIT: usize = 1_073_741_824;
 
 /// The first byte of a leaf: its level.
-pub(crate) const LEAF: u8 = 0;
+pub const LEAF: u8 = 0;
 
 /// Whether the entries are those of a leaf.
 pub(crate) fn is_leaf(mut entries: &[u8]) -> bool

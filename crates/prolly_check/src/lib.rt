@@ -12,10 +12,12 @@ mod stream;
 mod tree;
 mod verdict;
 
-pub use entries::{CHUNK_LIMIT, Pairs, leaf_event, pairs_of, split_first_child, split_first_pair};
+pub use entries::{
+    CHUNK_LIMIT, LEAF, Pairs, leaf_event, pairs_of, split_first_child, split_first_pair,
+};
 pub use look_up::{
     ChildSought, ChunkFlaw, Due, Leaves, Mark, Sought, Step, falls_to, first_pairs, pair_sought,
-    rest_from, step_at, step_of, test_chunk, value_in,
+    reference_of_ordered, rest_from, step_at, step_of, test_chunk, value_in,
 };
 pub use numbers::Missing;
 pub use prolly_chunk::LevelStats;

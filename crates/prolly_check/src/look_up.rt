@@ -13,4 +13,6 @@ pub use leaves::{Leaves, rest_from};
 pub use scan::first_pairs;
 pub(crate) use scan::scan_pairs;
 pub use sought::{ChildSought, Mark, Sought};
-pub use step::{ChunkFlaw, Due, Step, falls_to, step_at, step_of, test_chunk};
+pub use step::{
+    ChunkFlaw, Due, Step, falls_to, reference_of_ordered, step_at, step_of, test_chunk,
+};

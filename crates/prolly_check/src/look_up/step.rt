@@ -94,6 +94,21 @@ pub fn test_chunk(
     }
 }
 
+/// The reference of a chunk that is a level and whole lawful entries of that level's kind, whose keys
+/// rise; none of other bytes. So a chunk can be tested before it is known which one is due.
+///
+/// Takes no memory. Reads the chunk twice and hashes it, so in time linear in its length.
+pub fn reference_of_ordered(version: Version, chunk: &[u8]) -> Option<Ref>
+    ensures named { IfSome result (λ reference. IsNamed version reference.0 chunk.now) }
+    ensures none { IfNone result (IsOrdered version chunk.now → ⊥) }
+{
+    if is_whole(version, chunk) && keys_rise(version, chunk) {
+        Some(Ref::of(chunk))
+    } else {
+        None
+    }
+}
+
 /// Tests whether a chunk has the reference, and is a level and whole lawful entries of that level's
 /// kind, whose keys rise.
 fn test_named(version: Version, chunk: &[u8], reference: &Ref) -> Result<(), ChunkFlaw>

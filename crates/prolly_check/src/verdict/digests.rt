@@ -103,8 +103,10 @@ impl ChunkHasher for OneThread {
 /// work, so no file is refused for that.
 #[derive(Drop)]
 pub struct ManyThreads<'a, R: Threads + Sync> {
-    rt: &'a R,
-    threads: NonZeroUsize,
+    /// What starts them.
+    pub rt: &'a R,
+    /// How many they are at most.
+    pub threads: NonZeroUsize,
 }
 
 impl<'a, R: Threads + Sync> ManyThreads<'a, R> {
@@ -112,6 +114,13 @@ impl<'a, R: Threads + Sync> ManyThreads<'a, R> {
     /// sizes, so some four threads a processor even the shares out.
     pub fn new(rt: &'a R, threads: NonZeroUsize) -> ManyThreads<'a, R> {
         ManyThreads { rt, threads }
+    }
+
+    /// How many threads share so many bytes of chunks.
+    pub fn count_for(&self, bytes: usize) -> usize
+        ensures { 0 < result }
+    {
+        self.threads.get().min(bytes / BYTES_PER_THREAD).max(1)
     }
 }
 
@@ -126,15 +135,8 @@ impl<'a, R: Threads + Sync> ChunkHasher for ManyThreads<'a, R> {
         bytes: &[u8],
         spans: &[Range<usize>],
     ) -> Result<Vec<ChunkDigest>, AllocError> {
-        let mut digests = told_in_threads(
-            self.rt,
-            self.threads,
-            alloc,
-            cut,
-            version,
-            bytes,
-            spans,
-        )?;
+        let count = self.count_for(bytes.len());
+        let mut digests = told_in_threads(self.rt, count, alloc, cut, version, bytes, spans)?;
         digests.truncate(whole_count(&digests));
         Ok(digests)
     }
@@ -163,17 +165,19 @@ fn digests_of(
     Ok(digests)
 }
 
-/// What is told of each chunk. The memory for all is taken first, so no thread takes any.
+/// What is told of each chunk, by so many threads. The memory for all is taken first, so no thread
+/// takes any.
 fn told_in_threads<R: Threads + Sync>(
     rt: &R,
-    threads: NonZeroUsize,
+    threads: usize,
     alloc: Global,
     cut: Sha512Cut,
     version: Version,
     bytes: &[u8],
     spans: &[Range<usize>],
 ) -> Result<Vec<ChunkDigest>, AllocError>
-    requires { AllByRecursion (IsWithin bytes.now) spans.now }
+    requires threads { 0 < threads }
+    requires within { AllByRecursion (IsWithin bytes.now) spans.now }
     ensures { IfOk result (λ told.
         EachHas (Tells version cut) (chunks_in bytes.now spans.now) told.items) }
 {
@@ -184,12 +188,7 @@ fn told_in_threads<R: Threads + Sync>(
         ensures { Tells version cut
             (get_or (chunks_in bytes.entry.now spans.entry.now) number []) told.exit.now }
     { *told = digest_at(cut, version, bytes, spans, number) };
-    for_each_mut(
-        rt,
-        told.as_mut_slice(),
-        thread_count(threads, bytes.len()),
-        &tell,
-    );
+    for_each_mut(rt, told.as_mut_slice(), threads, &tell);
     Ok(told)
 }
 
@@ -206,13 +205,6 @@ fn digest_at(
     ensures { Tells version cut (get_or (chunks_in bytes.now spans.now) number []) result }
 {
     ChunkDigest::of(cut, version, chunk_at(bytes, &spans[number]))
-}
-
-/// How many threads share so many bytes of chunks.
-fn thread_count(most: NonZeroUsize, bytes: usize) -> usize
-    ensures { 0 < result }
-{
-    most.get().min(bytes / BYTES_PER_THREAD).max(1)
 }
 
 /// How many chunks there are before the first one that is not whole.
