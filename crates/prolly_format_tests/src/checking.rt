@@ -80,7 +80,7 @@ fn put(bytes: &mut [u8], place: usize, byte: u8) {
 }
 
 /// Flips the highest bit of a byte.
-fn flip(bytes: &mut [u8], place: usize) {
+pub(crate) fn flip(bytes: &mut [u8], place: usize) {
     if let Some(byte) = bytes.get_mut(place) {
         *byte ^= 0x80;
     }

@@ -7,7 +7,7 @@ use crate::expect::{expect_bytes, expect_eq};
 use crate::rooted::{Chunks, Rooted, Shown, Sought, expect_shown, keys_from, look_up, open};
 use crate::rooted_differences::changes_between;
 use crate::set_proofs::{Tree, range};
-use prolly_check::{CheckFault, OneThread, StreamFault, check, check_by_root};
+use prolly_check::{CheckFault, ManyThreads, OneThread, StreamFault, check, check_by_root};
 use prolly_entry::{
     Pair, Record, RecordFault, Ref, Sha512Cut, Version, append_child, append_child_as, append_pair,
     append_record, records,
@@ -20,8 +20,10 @@ use prolly_root::{Reader, RootFault, Subtree};
 use prolly_root_diff::RootDiffFault;
 use prolly_test_parts::{joined, pairs_of};
 use std::alloc::{AllocError, Global};
+use std::num::NonZeroUsize;
 use std::process::Abort;
 use std::test::Fail;
+use std::thread::Threads;
 
 /// What is appended to bytes.
 #[derive(Clone, Copy)]
@@ -254,6 +256,37 @@ fn expect_scan(rt: &impl Abort, alloc: Global) -> Result<(), Fail> {
 #[test]
 fn a_scan_wants_memory_and_goes_on_later(rt: HostRuntime) -> Result<(), Fail> {
     expect_scan(&rt, rt.alloc())
+}
+
+/// Goes over the leaves of a, b, c and d, which are read ahead. Where memory is refused for one of
+/// them there, it is read when it is due.
+fn expect_read_ahead<T: Threads + Sync>(
+    rt: &impl Abort,
+    threads: &T,
+    alloc: Global,
+) -> Result<(), Fail> {
+    let rooted = Rooted::of(alloc, Version::One, &[b"a", b"b", b"c", b"d"])?;
+    let hasher = ManyThreads::new(threads, NonZeroUsize::MIN);
+    let mut chunks = rooted.chunks(alloc, 0)?;
+    let mut reader = open(alloc, &mut chunks, &rooted)?;
+    for (from, spelled) in [
+        (b"".as_slice(), b"\0\x01a\0\0\0\x011".as_slice()),
+        (b"a\0", b"\0\x01b\0\0\0\x011"),
+        (b"b\0", b"\0\x01c\0\0\0\x011"),
+        (b"c\0", b"\0\x01d\0\0\0\x011"),
+    ] {
+        if let Err(fault) = reader.seek_on(&hasher, alloc, &mut chunks, from) {
+            expect_eq(rt, &fault, &RootFault::Memory);
+            reader.seek_on(&hasher, alloc, &mut chunks, from)?;
+        }
+        expect_bytes(rt, reader.leaf_from(from).spellings(), spelled);
+    }
+    Ok(())
+}
+
+#[test]
+fn leaves_are_read_ahead_or_when_they_are_due(rt: HostRuntime) -> Result<(), Fail> {
+    expect_read_ahead(&rt, &rt, rt.alloc())
 }
 
 #[test]

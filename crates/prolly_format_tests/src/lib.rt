@@ -15,6 +15,8 @@ mod growths;
 #[cfg(test)]
 mod levels;
 #[cfg(test)]
+mod read_ahead;
+#[cfg(test)]
 mod rooted;
 #[cfg(test)]
 mod rooted_differences;

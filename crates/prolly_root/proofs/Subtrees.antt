@@ -254,13 +254,11 @@ module _ {content : Content} {level : ℕ} {t : Tree level} {from k : ℕ}
 
 -- ---- the bytes of a chunk
 
--- what was read of them is all of them
-pub chunk_there : {bytes : List ℕ} {content : Content} → IsFileOf bytes content →
-    {frame : Frame} → IsFrame content frame → (count : ℕ) (buf : List ℕ) →
-    length buf ≡ length (nth_chunk content frame.number) →
-    take count buf ≡ take (length buf) (drop frame.start bytes) →
-    take count buf ≡ nth_chunk content frame.number
-chunk_there {bytes = bytes} {content = content} f {frame = frame} is count buf long gives =
+-- they stand where the frame says
+pub frame_there : {bytes : List ℕ} {content : Content} → IsFileOf bytes content →
+    {frame : Frame} → IsFrame content frame →
+    take frame.len (drop frame.start bytes) ≡ nth_chunk content frame.number
+frame_there {bytes = bytes} {content = content} f {frame = frame} is =
     let n = frame.number in
     let chunk = nth_chunk content n in
     let left = drop (suc n) (chunks_of content) in
@@ -272,8 +270,17 @@ chunk_there {bytes = bytes} {content = content} f {frame = frame} is count buf l
     ap (λ cs. drop 9 (flat_map framed cs ++ ending f n))
     (drop-cons (chunks_of content) n [] is.within) ∙
     append_assoc chunk (flat_map framed left) (ending f n) in
-    gives ∙ ap (take (length buf)) there ∙ ap (λ n. take n (chunk ++ more)) long ∙
+    ap (λ n. take n (drop frame.start bytes)) is.len ∙ ap (take (length chunk)) there ∙
     take-append_seam chunk more
+
+-- what was read of them is all of them
+pub chunk_there : {bytes : List ℕ} {content : Content} → IsFileOf bytes content →
+    {frame : Frame} → IsFrame content frame → (count : ℕ) (buf : List ℕ) →
+    length buf ≡ length (nth_chunk content frame.number) →
+    take count buf ≡ take (length buf) (drop frame.start bytes) →
+    take count buf ≡ nth_chunk content frame.number
+chunk_there {bytes = bytes} f {frame = frame} is count buf long gives = gives ∙
+    ap (λ n. take n (drop frame.start bytes)) (long ∙ sym is.len) ∙ frame_there f is
 
 -- and nothing stands behind them
 pub read_whole : (count len : ℕ) (buf chunk more : List ℕ) → take count buf ≡ chunk →

@@ -14,6 +14,8 @@ pub mod Marks
 pub mod Descent
 -- Trees in a chunk file on a device.
 pub mod Subtree
+-- Leaves of a chunk file that are read before they are asked for.
+pub mod ReadAhead
 -- The root that a chunk file names.
 pub mod NamedRoot
 -- A reader that looks up by the root again and again.

@@ -6,6 +6,7 @@ ghost use Rattle.prolly_root.specs.ChunkSource.{HasAsked, IsChildNumber, IsLawfu
 ghost use Rattle.prolly_root.specs.ChunkSource.{root_tree};
 ghost use Rattle.prolly_tree.specs.Tree.{Tree, bytes_of};
 
+use crate::given_chunk::GivenChunk;
 use crate::root_fault::RootFault;
 use prolly_entry::Version;
 use std::alloc::Global;
@@ -14,8 +15,8 @@ use std::alloc::Global;
 /// [`FileChunks`](crate::FileChunks).
 ///
 /// Nothing that a source gives is believed. Who asks compares each chunk with the reference in the
-/// one above it, and the first with the root. So whatever a source gives, what is answered is
-/// right. What the contracts say here is for one thing alone: that the tree of a source that has it
+/// one above it, and the first with the root; a [`GivenChunk`] tells its reference only where it was
+/// hashed. So whatever a source gives, what is answered is right. What the contracts say here is for one thing alone: that the tree of a source that has it
 /// is never refused.
 pub trait ChunkSource {
     /// Where a chunk stands, and what was found below it so far.
@@ -52,10 +53,10 @@ pub trait ChunkSource {
         ensures asked { HasAsked has failures self.old self.new result };
 
     /// The chunk that stands there. Takes memory for it.
-    fn chunk(&mut self, alloc: Global, place: &Self::Place) -> Result<Vec<u8>, RootFault>
+    fn chunk(&mut self, alloc: Global, place: &Self::Place) -> Result<GivenChunk, RootFault>
         ensures is { (content : Content) (l : ℕ) (t : Tree l) → has self.old content →
             is_place content l t place.now →
-            IsOrFails (λ chunk. chunk.items ≡ bytes_of content.version l t) MayFail result }
+            IsOrFails (λ chunk. chunk ≡ bytes_of content.version l t) MayFail result }
         ensures asked { HasAsked has failures self.old self.new result };
 
     /// The number by which faults name the chunk that stands there.

@@ -1,6 +1,7 @@
 //! The chunks of a file: its frames, one after another, and the trees that stand among them.
 
 mod end_record;
+mod fetched;
 mod file_chunks;
 mod header;
 mod marks;

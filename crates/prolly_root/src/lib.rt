@@ -7,15 +7,19 @@
 
 mod chunk_source;
 mod file;
+mod given_chunk;
 pub mod laws;
 mod look_up;
 mod proof;
+mod read_ahead;
 mod root_fault;
 mod tested;
 
 pub use chunk_source::ChunkSource;
 pub use file::{FileChunks, Subtree, named_header, named_root};
+pub use given_chunk::GivenChunk;
 pub use look_up::Reader;
 pub use proof::{ProofFault, prove, verify};
+pub use read_ahead::ReadAhead;
 pub use root_fault::RootFault;
 pub use tested::tested_chunk;

@@ -11,7 +11,7 @@ ghost use Rattle.prolly_tree.specs.Tree.{bytes_of};
 use crate::chunk_source::ChunkSource;
 use crate::root_fault::RootFault;
 use prolly_check::laws::tops_are_read;
-use prolly_check::test_chunk;
+use prolly_check::{falls_to, test_chunk};
 use prolly_entry::{Ref, Version};
 use std::alloc::Global;
 
@@ -19,7 +19,7 @@ use std::alloc::Global;
 /// is a level and whole lawful entries of that level's kind, whose keys rise, and stands one level
 /// below `above`, where there is a chunk above it.
 ///
-/// Takes memory for the chunk, and time linear in its length.
+/// Takes memory for the chunk, and time linear in its length, but not where the source has tested it.
 pub fn tested_chunk<S: ChunkSource>(
     alloc: Global,
     source: &mut S,
@@ -40,8 +40,16 @@ pub fn tested_chunk<S: ChunkSource>(
     // By this law the chunk of a lawful tree can be read.
     tops_are_read();
     let chunk = source.chunk(alloc, place)?;
-    test(version, &chunk, reference, above, S::number(place))?;
-    Ok(chunk)
+    if !chunk.is_named(version, reference) || !falls_to(above, chunk.as_bytes()) {
+        test(
+            version,
+            chunk.as_bytes(),
+            reference,
+            above,
+            S::number(place),
+        )?;
+    }
+    Ok(chunk.into_bytes())
 }
 
 /// Tests whether the chunk of this number is the one that is due.

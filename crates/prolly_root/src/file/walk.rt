@@ -60,6 +60,15 @@ impl Walk {
         })
     }
 
+    /// The place behind a frame of the same file. Nothing is read.
+    pub(crate) fn behind(&self, frame: &Frame) -> Walk {
+        Walk {
+            offset: frame.start.saturating_add(frame.len),
+            number: frame.number.saturating_add(1),
+            size: self.size,
+        }
+    }
+
     /// Goes over the next frame; none where the end record is next. One read, of ten bytes.
     pub(crate) fn next<D: Device>(&mut self, device: &mut D) -> Result<Option<Frame>, RootFault>
         ensures read { HasRead (D.seen device.old) (D.seen device.new) result }

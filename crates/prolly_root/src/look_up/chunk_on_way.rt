@@ -101,7 +101,7 @@ impl<T: Copy> ChunkOnWay<T> {
     }
 
     /// The child in which a look-up goes on from here; none where it ends here.
-    fn child<'a>(&self, version: Version, sought: Sought<'a>) -> Option<ChildSought<'a>>
+    pub(crate) fn child<'a>(&self, version: Version, sought: Sought<'a>) -> Option<ChildSought<'a>>
         requires { IsTested version self.now }
         ensures on { IfSome result
             (IsChildOf (sought_of sought.entry) (kind_of version self.now.chunk.items)) }

@@ -1,9 +1,8 @@
 //! Looking up by the root again and again, in a tree of which no more is read than that wants.
-ghost use Rattle.std.specs.Prelude.{◌≡◌, ◌≤◌, ◌<◌, ℕ, [], ◌∷◌, ◌++◌, List, length, option_map, IfOk};
-ghost use Rattle.std.specs.Prelude.{Err, IfErr, IfSome, Ok, OnErr, OnOk, take};
+ghost use Rattle.std.specs.Prelude.{◌≡◌, ◌<◌, ℕ, [], ◌∷◌, ◌++◌, List, length, option_map, IfOk};
+ghost use Rattle.std.specs.Prelude.{Err, IfErr, Ok, OnErr, OnOk};
 ghost use Rattle.std.specs.List.{AllByRecursion};
 ghost use Rattle.prolly_check.specs.Content.{Content};
-ghost use Rattle.prolly_check.specs.FoundPairs.{pair_found};
 ghost use Rattle.prolly_check.specs.HeldPairs.{pairs_held};
 ghost use Rattle.prolly_check.specs.Leaves.{pairs_from};
 ghost use Rattle.prolly_check.specs.Sought.{sought_of};
@@ -17,19 +16,21 @@ ghost use Rattle.prolly_root.specs.ProofFile.{IsSomeProof, proof_file};
 ghost use Rattle.prolly_root.specs.RootFault.{OnlyRead, TellsReads};
 ghost use Rattle.prolly_root.specs.Reader.{AreFirstFound, IsEmptied, IsReaderOf, LooksUp, way_of};
 ghost use Rattle.prolly_tree.specs.File.{root_reference};
-ghost use Rattle.prolly_tree.specs.LookUp.{find};
 
 use crate::chunk_source::ChunkSource;
 use crate::look_up::chunk_on_way::ChunkOnWay;
+use crate::look_up::copies::{copy_of, first_value};
 use crate::look_up::descent::{chunks_of, go_down};
 use crate::proof::proof_of;
+use crate::read_ahead::ReadAhead;
 use crate::root_fault::RootFault;
 use prolly_check::laws::tops_are_read;
-use prolly_check::{Pairs, Sought, first_pairs, pair_sought};
-use prolly_entry::{Pair, Ref, Version, key_order};
+use prolly_check::{ManyThreads, Pairs, Sought, first_pairs, pair_sought};
+use prolly_entry::{Pair, Ref, Version};
 use std::alloc::{AllocError, Global};
 use std::marker::Model;
 use std::mem;
+use std::thread::Threads;
 
 /// Looks up by the root, in one tree, one look-up after another. Its chunks come from a
 /// [`ChunkSource`], which is lent to each call.
@@ -206,6 +207,29 @@ impl<T: Copy + Drop> Reader<T> {
         Ok(())
     }
 
+    /// The same for who goes over all leaves, one behind another: the source
+    /// [reads them ahead](ReadAhead::read_ahead), and threads take their hashes.
+    pub fn seek_on<S: ReadAhead<Place = T>, R: Threads + Sync>(
+        &mut self,
+        hasher: &ManyThreads<'_, R>,
+        alloc: Global,
+        source: &mut S,
+        key: &[u8],
+    ) -> Result<(), RootFault>
+        ensures found { OnOk result
+            (IsWayTo self.old.version self.old.root (Key key.now) (way_of self.new)) }
+        ensures looked { LooksUp S.has S.failures S.is_place source.old source.new self.old
+            self.new result }
+    {
+        if self.goes_below(key) {
+            if let Err(fault) = source.read_ahead(hasher, alloc, self.version) {
+                self.forget();
+                return Err(fault);
+            }
+        }
+        self.seek(alloc, source, key)
+    }
+
     /// The pairs whose key is not less than `from`, of the leaf at which the last look-up ended. A
     /// look-up that ended at a node has none. They lie in the chunk that is kept, and take no
     /// memory.
@@ -268,34 +292,24 @@ impl<T: Copy + Drop> Reader<T> {
         match found {
             Ok(value) => Ok(value),
             Err(AllocError) => {
-                self.levels.clear();
+                self.forget();
                 Err(RootFault::Memory)
             }
         }
     }
-}
 
-/// A copy of the value of the key, where the first of these pairs has it.
-fn first_value(alloc: Global, pairs: &Pairs<'_>, key: &[u8]) -> Result<Option<Vec<u8>>, AllocError>
-    ensures { IfOk result (λ value.
-        option_map (λ v. v.items) value ≡ find (take 1 pairs.now) key.now) }
-{
-    match pairs.first() {
-        Some((found, value)) if key_order(found, key).is_eq() => {
-            Ok(Some(Vec::from_slice(alloc, value)?))
+    /// Whether a look-up of the key goes on below the root that is kept; or none is kept.
+    fn goes_below(&self, key: &[u8]) -> bool {
+        match self.levels.first() {
+            Some(root) => root.child(self.version, Sought::Key(key)).is_some(),
+            None => true,
         }
-        _ => Ok(None),
     }
-}
 
-/// A copy of the pair.
-fn copy_of(alloc: Global, pair: Option<(&[u8], &[u8])>) -> Result<Option<Pair>, AllocError>
-    requires { IfSome pair (λ pair. (length pair.0.now ≤ 1024) ×
-        (length pair.1.now ≤ 65536)) }
-    ensures { IfOk result (λ copy. copy ≡ pair_found pair.entry) }
-{
-    match pair {
-        None => Ok(None),
-        Some((key, value)) => Ok(Some(Pair::copy_of(alloc, key, value)?)),
+    /// Keeps nothing.
+    fn forget(&mut self)
+        ensures { IsEmptied self.old self.new }
+    {
+        self.levels.clear();
     }
 }

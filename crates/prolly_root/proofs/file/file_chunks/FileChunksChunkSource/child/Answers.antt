@@ -9,7 +9,7 @@ pub returns-in_err-top-clause-place : goal.returns-in_err-top-clause-place
 returns-in_err-top-clause-place g c content ts t has stands at =
     let kept = subst (λ n. KeepsLastChild content n c.args.node.now.top.below c.args.node.now.last)
     (one_less c.args.level) stands.1 in
-    let only : OnlyRead c.in_err-top.field-0.0 = c.in_err-top.ensures.place content has kept
+    let only : OnlyRead c.in_err-top.field-0.0 = c.in_err-top.ensures.place content has.0 kept
     stands.0.below _ (top_nth (child_among stands.0 at)) in
     search rules
 
@@ -18,6 +18,6 @@ returns-clause-place g c content ts t has stands at =
     let kept = subst (λ n. KeepsLastChild content n c.args.node.now.top.below c.args.node.now.last)
     (one_less c.args.level) stands.1 in (
       place_found (child_among stands.0 at) c.in_ok-top.top
-          (c.in_ok-top.ensures.place content has kept stands.0.below),
+          (c.in_ok-top.ensures.place content has.0 kept stands.0.below),
       tt,
     )
