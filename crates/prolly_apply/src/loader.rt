@@ -12,9 +12,10 @@ ghost use Rattle.prolly_tree.specs.File.{root_reference};
 ghost use Rattle.prolly_apply.specs.OldLoaded.{IsOldLoaded, TellsReadsOf, load_end};
 
 use crate::old_leaf::OldLeaf;
+use prolly_check::ManyThreads;
 use prolly_entry::{Ref, Version};
 use prolly_link::{End, Out, RunFault};
-use prolly_root::{ChunkSource, RootFault};
+use prolly_root::{ReadAhead, RootFault};
 use prolly_root_diff::laws::leaves_are_right;
 use prolly_root_diff::{LeafRead, RootLeaves};
 use prolly_stage::OLD_TREE;
@@ -22,9 +23,6 @@ use std::alloc::{AllocError, Global};
 use std::num::NonZeroUsize;
 use std::sync::Wait;
 use std::thread::{Threads, available_parallelism};
-
-/// How many bytes of leaves are read ahead, at most one leaf more.
-const AHEAD_BYTES: usize = 4_194_304;
 
 /// What the loader of an old tree gives back.
 #[derive(Drop)]
@@ -46,11 +44,10 @@ pub struct OldLoaded<S, O: Out<OldLeaf>> {
 /// refused, by a send too, the end says so; at any other fault it is a failed read of the file with
 /// the number [`OLD_TREE`].
 ///
-/// Each chunk of a tree that the source has is read once, and hashed once. Leaves are read ahead, up
-/// to 4 MiB of the children of one node and one more, and hashed by a thread for each 128 KiB of
-/// them, at most one for each processor. Holds these, and the references of the
-/// children of the nodes above.
-pub fn load_old<S: ChunkSource, O: Out<OldLeaf>, R: Wait + Threads + Sync>(
+/// Each chunk of a tree that the source has is read once, and hashed once. The source is asked to
+/// [read leaves ahead](ReadAhead::read_ahead), and at most one thread for each processor takes
+/// their hashes. Holds a leaf, and the references of the children of the nodes above.
+pub fn load_old<S: ReadAhead, O: Out<OldLeaf>, R: Wait + Threads + Sync>(
     rt: &R,
     alloc: Global,
     version: Version,
@@ -90,7 +87,7 @@ fn end_of(fault: Option<RootFault>) -> End
 }
 
 /// Sends the leaves of the tree with this root.
-fn send_leaves<S: ChunkSource, O: Out<OldLeaf>, R: Wait + Threads + Sync>(
+fn send_leaves<S: ReadAhead, O: Out<OldLeaf>, R: Wait + Threads + Sync>(
     rt: &R,
     alloc: Global,
     version: Version,
@@ -111,8 +108,8 @@ fn send_leaves<S: ChunkSource, O: Out<OldLeaf>, R: Wait + Threads + Sync>(
     // By these laws what a walk gives are the leaves of any map with this root.
     leaves_are_right();
     let mut leaves = RootLeaves::new(alloc, version, root)?;
-    let threads = processors(rt);
-    while let Some(leaf) = next_leaf(rt, threads, alloc, source, &mut leaves)? {
+    let hasher = ManyThreads::new(rt, processors(rt));
+    while let Some(leaf) = next_leaf(&hasher, alloc, version, source, &mut leaves)? {
         send_leaf(rt, alloc, version, out, leaf)?;
     }
     Ok(())
@@ -127,10 +124,10 @@ fn processors<R: Threads>(rt: &R) -> NonZeroUsize {
 }
 
 /// The next leaf, which was read ahead where it could be.
-fn next_leaf<S: ChunkSource, R: Threads + Sync>(
-    rt: &R,
-    threads: NonZeroUsize,
+fn next_leaf<S: ReadAhead, R: Threads + Sync>(
+    hasher: &ManyThreads<'_, R>,
     alloc: Global,
+    version: Version,
     source: &mut S,
     leaves: &mut RootLeaves<S::Place>,
 ) -> Result<Option<LeafRead>, RootFault>
@@ -146,7 +143,9 @@ fn next_leaf<S: ChunkSource, R: Threads + Sync>(
         IsOrFails (λ _. WalksIn S.is_place content leaves.new) MayFail result }
     ensures asked { HasAsked S.has S.failures source.old source.new result }
 {
-    leaves.read_ahead(rt, threads, alloc, source, AHEAD_BYTES)?;
+    if !leaves.is_exhausted() {
+        source.read_ahead(hasher, alloc, version)?;
+    }
     leaves.next(alloc, source)
 }
 

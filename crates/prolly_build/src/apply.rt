@@ -16,7 +16,7 @@ use prolly_entry::Ref;
 use prolly_file::{Sink, Source};
 use prolly_link::RunFault;
 use prolly_report::ApplyFault;
-use prolly_root::ChunkSource;
+use prolly_root::ReadAhead;
 use prolly_stage::Gate;
 use std::alloc::Global;
 use std::mem;
@@ -30,7 +30,7 @@ pub const CHANGES_LIMIT: usize = 15;
 /// then ends the file.
 fn run_old<
     R: Wait + Threads + Sync,
-    D: ChunkSource + Send + Drop,
+    D: ReadAhead + Send + Drop,
     S: Source + Send + Drop,
     W: Sink,
     G: Gate,
@@ -113,7 +113,7 @@ where
 /// and of the references of the nodes above them.
 pub fn apply_changes_with<
     R: Wait + Threads + Sync,
-    D: ChunkSource + Send + Drop,
+    D: ReadAhead + Send + Drop,
     S: Source + Send + Drop,
     W: Sink,
     G: Gate,
@@ -164,7 +164,7 @@ where
 /// Applies changes as [`apply_changes_with`] does, where all workers may start.
 pub fn apply_changes<
     R: Wait + Threads + Sync,
-    D: ChunkSource + Send + Drop,
+    D: ReadAhead + Send + Drop,
     S: Source + Send + Drop,
     W: Sink,
     G: Gate,

@@ -30,5 +30,3 @@ pub mod LeafTrees
 pub mod LeafSteps
 -- A walk over the leaves of a tree, from the first to the last.
 pub mod LeafRuns
--- Reading leaves ahead.
-pub mod Fetching

@@ -12,8 +12,6 @@ pub mod ToGo
 pub mod DueTrees
 -- The leaves that are left of a tree, for who knows its chunks by their references alone.
 pub mod Leaves
--- Leaves that are read ahead of a walk.
-pub mod Ahead
 -- What a walk over the leaves of a tree keeps, and what it gives.
 pub mod LeafWalk
 -- Lemmas for the crates above, by subject.

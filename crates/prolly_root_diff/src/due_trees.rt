@@ -1,22 +1,18 @@
 //! The subtrees of a tree that are due.
-ghost use Rattle.std.specs.Prelude.{◌≡◌, ◌<◌, ◌∷◌, length, None, OnOk, IfOk, IfSome};
+ghost use Rattle.std.specs.Prelude.{◌≡◌, ◌<◌, ◌∷◌, length, OnOk, IfOk};
 ghost use Rattle.prolly_check.specs.Content.{Content};
 ghost use Rattle.prolly_root.specs.ChunkSource.{HasAsked};
 ghost use Rattle.prolly_root.specs.RootFault.{IsOrFails, MayFail};
 ghost use Rattle.prolly_root_diff.specs.DueTrees.{AreDueIn, IsWholeTree, ReadsFirst, all_due};
 ghost use Rattle.prolly_root_diff.specs.Sides.{PutBehindFirst};
 
-use crate::ahead::{Ahead, Fetched};
 use crate::siblings::Siblings;
-use prolly_check::falls_to;
+use prolly_check::LEAF;
 use prolly_check::laws::tops_are_read;
 use prolly_entry::{Ref, Version};
 use prolly_root::{ChunkSource, RootFault};
 use std::alloc::{AllocError, Global};
 use std::collections::VecDeque;
-
-/// The level of a leaf.
-pub(crate) const LEAF: u8 = 0;
 
 /// The whole tree with this root is due.
 pub(crate) fn whole_tree<T: Copy + Drop>(
@@ -64,58 +60,6 @@ pub(crate) fn read_first<S: ChunkSource>(
             Ok((reference, chunk))
         }
     }
-}
-
-/// Takes the leaf that stands in the place of the first subtree that is due, where it was read ahead.
-/// Gives the reference and the chunk.
-pub(crate) fn take_first<S: ChunkSource>(
-    due: &mut VecDeque<Siblings<S::Place>>,
-    ahead: &mut Ahead,
-) -> Result<Option<(Ref, Vec<u8>)>, AllocError>
-    ensures version { ahead.new ≡ ahead.old }
-    ensures none { IfOk result (λ taken. taken ≡ None → due.new ≡ due.old) }
-    ensures reads { IfOk result (λ taken. IfSome taken (λ read. ReadsFirst ahead.old
-        (all_due due.old.items) read.0.0 read.1.items (all_due due.new.items))) }
-    ensures lawful { (content : Content) → AreDueIn S.is_place content due.old.items →
-        IfOk result (λ _. AreDueIn S.is_place content due.new.items) }
-{
-    let Some(siblings) = due.front() else {
-        return Ok(None);
-    };
-    let Some(leaf) = ahead.take(&siblings.next) else {
-        return Ok(None);
-    };
-    if !falls_to(siblings.above(), &leaf) {
-        return Ok(None);
-    }
-    let Some(siblings) = due.pop_front() else {
-        return Ok(None);
-    };
-    let read = (siblings.next, leaf);
-    put_others(due, siblings)?;
-    Ok(Some(read))
-}
-
-/// Reads the chunks of the leaves that are due first, until they have so many bytes, where they are
-/// the children of one node. None is tested. The next one stands last.
-pub(crate) fn fetch_first<S: ChunkSource>(
-    due: &mut VecDeque<Siblings<S::Place>>,
-    alloc: Global,
-    source: &mut S,
-    bytes: usize,
-) -> Result<Vec<Fetched>, RootFault>
-    ensures same { OnOk result (all_due due.new.items ≡ all_due due.old.items) }
-    ensures lawful { (content : Content) → S.has source.old content →
-        AreDueIn S.is_place content due.old.items →
-        IsOrFails (λ _. AreDueIn S.is_place content due.new.items) MayFail result }
-    ensures asked { HasAsked S.has S.failures source.old source.new result }
-{
-    let Some(mut siblings) = due.pop_front() else {
-        return Ok(Vec::new(alloc));
-    };
-    let chunks = siblings.fetch(alloc, source, bytes)?;
-    put_first(due, siblings)?;
-    Ok(chunks)
 }
 
 /// Puts the subtrees behind the next one of these before the others, where some are.

@@ -6,7 +6,6 @@
 //! and in the end the root, vouches for.
 #![tactic(auto)]
 
-mod ahead;
 mod change;
 mod differences;
 mod due_trees;

@@ -1,15 +1,14 @@
 //! The leaves of a tree, for who knows its root.
-ghost use Rattle.std.specs.Prelude.{◌≡◌, ◌<◌, length, None, Some, Err, IfOk, IfErr, IfSome, OnOk};
+ghost use Rattle.std.specs.Prelude.{◌≡◌, ◌<◌, [], true, None, Some, Err, IfOk, IfErr, IfSome, OnOk};
 ghost use Rattle.prolly_check.specs.Content.{Content};
 ghost use Rattle.prolly_root.specs.ChunkSource.{HasAsked};
 ghost use Rattle.prolly_root.specs.RootFault.{IsOrFails, MayFail};
 ghost use Rattle.prolly_root.specs.declared.root_fault.RootFault.{RootFault as RootFaultValue};
-ghost use Rattle.prolly_root_diff.specs.DueTrees.{AreDueIn, ReadsFirst, all_due};
+ghost use Rattle.prolly_root_diff.specs.DueTrees.{AreDueIn, all_due};
 ghost use Rattle.prolly_root_diff.specs.LeafWalk.{GivesNext, IsLeafWalk, WalksIn, due_of_walk};
 ghost use Rattle.prolly_root_diff.specs.ToGo.{weights};
 
-use crate::ahead::Ahead;
-use crate::due_trees::{fetch_first, read_first, take_first, whole_tree};
+use crate::due_trees::{read_first, whole_tree};
 use crate::laws::leaves_are_right;
 use crate::siblings::Siblings;
 use prolly_check::pairs_of;
@@ -18,8 +17,6 @@ use prolly_root::{ChunkSource, RootFault};
 use std::alloc::{AllocError, Global};
 use std::collections::VecDeque;
 use std::marker::Model;
-use std::num::NonZeroUsize;
-use std::thread::Threads;
 
 /// A leaf that was read: it has pairs, it can be read, and it has the reference.
 #[derive(Drop)]
@@ -37,14 +34,14 @@ pub struct LeafRead {
 /// whatever the source does: each chunk is compared with the reference in the one above it, and the
 /// first with the root. The tree that the source has is never refused.
 ///
-/// Each chunk of the tree is read once. Memory is taken for the leaf that is given, for those that
-/// were read ahead, and for the references of the children of the nodes above.
+/// Each chunk of the tree is read once. Memory is taken for the leaf that is given, and for the
+/// references of the children of the nodes above.
 #[derive(Drop)]
 pub struct RootLeaves<T> {
+    /// The version of the tree's chunks.
+    version: Version,
     /// The subtrees that are due, those below the lowest node first.
     due: VecDeque<Siblings<T>>,
-    /// Leaves that were read ahead.
-    ahead: Ahead,
     /// The fault that stopped it.
     fault: Option<RootFault>,
 }
@@ -54,7 +51,7 @@ impl<T> Model for RootLeaves<T> {
 
     ghost Value = { LeafWalk T };
 
-    ghost view = { λ l. record { version = l.ahead; due = l.due; fault = l.fault } };
+    ghost view = { λ l. record { version = l.version; due = l.due; fault = l.fault } };
 }
 
 impl<T: Copy + Drop> RootLeaves<T> {
@@ -64,57 +61,17 @@ impl<T: Copy + Drop> RootLeaves<T> {
         ensures { IfOk result (IsLeafWalk version root.now.0) }
     {
         Ok(RootLeaves {
+            version,
             due: whole_tree(alloc, root)?,
-            ahead: Ahead::none(alloc, version),
             fault: None,
         })
     }
 
-    /// Reads leaves ahead, until they have so many bytes, and tests them in so many threads at most.
-    /// It reads none where one is left that was read ahead before. It saves time alone:
-    /// [`next`](RootLeaves::next) gives the same leaves without it.
-    ///
-    /// The leaves are children of one node. Memory is taken for all of them.
-    ///
-    /// After an `Err` each further call answers the same, and reads nothing.
-    pub fn read_ahead<R: Threads + Sync, S: ChunkSource<Place = T>>(
-        &mut self,
-        rt: &R,
-        threads: NonZeroUsize,
-        alloc: Global,
-        source: &mut S,
-        bytes: usize,
-    ) -> Result<(), RootFault>
-        ensures version { self.new.version ≡ self.old.version }
-        ensures same { OnOk result (due_of_walk self.new ≡ due_of_walk self.old) }
-        ensures stops { IfErr result (λ fault. self.new.fault ≡ Some fault) }
-        ensures goes_on { OnOk result (self.new.fault ≡ None) }
-        ensures stopped { (fault : RootFaultValue) → self.old.fault ≡ Some fault →
-            (result ≡ Err fault) × (source.new ≡ source.old) }
-
-        // The tree, where the source has it, is not refused, and a failed read is told.
-        ensures lawful { (content : Content) → S.has source.old content → self.old.fault ≡ None →
-            WalksIn S.is_place content self.old →
-            IsOrFails (λ _. WalksIn S.is_place content self.new) MayFail result }
-        ensures asked { self.old.fault ≡ None →
-            HasAsked S.has S.failures source.old source.new result }
+    /// Whether no subtree is due any more, so that no leaf is left.
+    pub fn is_exhausted(&self) -> bool
+        ensures { result ≡ true → due_of_walk self.now ≡ [] }
     {
-        if let Some(fault) = self.fault {
-            return Err(fault);
-        }
-        if !self.ahead.is_empty() {
-            return Ok(());
-        }
-        match fetch_first(&mut self.due, alloc, source, bytes) {
-            Ok(chunks) => {
-                self.ahead = Ahead::of(rt, threads, self.ahead.version(), chunks);
-                Ok(())
-            }
-            Err(fault) => {
-                self.fault = Some(fault);
-                Err(fault)
-            }
-        }
+        self.due.is_empty()
     }
 
     /// The next leaf that has pairs, or none where none is left. (The one leaf of the empty map has
@@ -147,8 +104,7 @@ impl<T: Copy + Drop> RootLeaves<T> {
         if let Some(fault) = self.fault {
             return Err(fault);
         }
-        let version = self.ahead.version();
-        let leaf = next_leaf(&mut self.due, &mut self.ahead, alloc, source, version);
+        let leaf = next_leaf(&mut self.due, alloc, source, self.version);
         self.fault = match &leaf {
             Ok(_) => None,
             Err(fault) => Some(*fault),
@@ -160,13 +116,10 @@ impl<T: Copy + Drop> RootLeaves<T> {
 /// The next leaf that has pairs, or none where none is left.
 fn next_leaf<S: ChunkSource>(
     due: &mut VecDeque<Siblings<S::Place>>,
-    ahead: &mut Ahead,
     alloc: Global,
     source: &mut S,
     version: Version,
 ) -> Result<Option<LeafRead>, RootFault>
-    requires { ahead.old ≡ version }
-    ensures version { ahead.new ≡ version }
     ensures gives { IfOk result (λ leaf. GivesNext version (all_due due.old.items) leaf
         (all_due due.new.items)) }
     ensures nearer { IfOk result (λ leaf. IfSome leaf (λ _.
@@ -179,35 +132,10 @@ fn next_leaf<S: ChunkSource>(
     // By these laws the leaves that are left stay the same where a node is read.
     leaves_are_right();
     'nodes: while !due.is_empty() {
-        let (reference, chunk) = next_chunk(due, ahead, alloc, source, version)?;
+        let (reference, chunk) = read_first(due, alloc, source, version)?;
         if !pairs_of(version, &chunk).is_empty() {
             return Ok(Some(LeafRead { reference, chunk }));
         }
     }
     Ok(None)
-}
-
-/// The chunk of the first subtree that is due, which was read ahead or is read now, and its
-/// reference. Its children are due in its place.
-fn next_chunk<S: ChunkSource>(
-    due: &mut VecDeque<Siblings<S::Place>>,
-    ahead: &mut Ahead,
-    alloc: Global,
-    source: &mut S,
-    version: Version,
-) -> Result<(Ref, Vec<u8>), RootFault>
-    requires due { 0 < length (all_due due.old.items) }
-    requires version { ahead.old ≡ version }
-    ensures version { ahead.new ≡ version }
-    ensures reads { IfOk result (λ read. ReadsFirst version (all_due due.old.items) read.0.0
-        read.1.items (all_due due.new.items)) }
-    ensures lawful { (content : Content) → S.has source.old content →
-        version ≡ content.version → AreDueIn S.is_place content due.old.items →
-        IsOrFails (λ _. AreDueIn S.is_place content due.new.items) MayFail result }
-    ensures asked { HasAsked S.has S.failures source.old source.new result }
-{
-    match take_first::<S>(due, ahead)? {
-        Some(read) => Ok(read),
-        None => read_first(due, alloc, source, version),
-    }
 }

@@ -1,6 +1,6 @@
 //! The subtrees that are due below one node.
-ghost use Rattle.std.specs.Prelude.{◌≡◌, ◌<◌, ◌≤◌, [], ◌∷◌, length, map, true, false, drop, None};
-ghost use Rattle.std.specs.Prelude.{IfOk, IfErr, MatchOption};
+ghost use Rattle.std.specs.Prelude.{◌≡◌, ◌<◌, [], map, true, false, drop, None};
+ghost use Rattle.std.specs.Prelude.{IfOk, MatchOption};
 ghost use Rattle.prolly_check.specs.Content.{Content};
 ghost use Rattle.prolly_check.specs.Entries.{IsNode, IsWhole, children_in};
 ghost use Rattle.prolly_check.specs.Way.{FallsTo, IsNamed, level_of};
@@ -11,7 +11,6 @@ ghost use Rattle.prolly_root_diff.specs.Sides.{AreChildrenOf, AreSiblingsOf, Hav
 ghost use Rattle.prolly_root_diff.specs.Sides.{IsBehindFirst, IsTopThere, bound_of};
 ghost use Rattle.prolly_root_diff.specs.Sides.{level_above};
 
-use crate::ahead::Fetched;
 use prolly_check::laws::tops_are_read;
 use prolly_check::split_first_child;
 use prolly_entry::{Ref, Version};
@@ -21,9 +20,6 @@ use std::collections::VecDeque;
 
 /// A level is below this number.
 const LEVELS: u16 = 256;
-
-/// The level of the nodes above leaves.
-const ABOVE_LEAVES: u16 = 1;
 
 /// The subtrees that are due below one node; or the whole tree, where nothing of it was read yet.
 #[derive(Drop)]
@@ -147,82 +143,6 @@ impl<T: Copy + Drop> Siblings<T> {
                 source.child(&mut parent.place, parent.level.saturating_sub(1), number)
             }
         }
-    }
-
-    /// Reads the chunks of these, where they are leaves, in their order, until they have so many
-    /// bytes, or one can't be had or kept. None is tested. The next one stands last.
-    pub(crate) fn fetch<S: ChunkSource<Place = T>>(
-        &mut self,
-        alloc: Global,
-        source: &mut S,
-        bytes: usize,
-    ) -> Result<Vec<Fetched>, RootFault>
-        ensures same { HaveSame self.old self.new }
-        ensures lawful { (content : Content) → S.has source.old content →
-            AreSiblingsOf S.is_place content self.old →
-            AreSiblingsOf S.is_place content self.new × IsOrFails (λ _. Unit {0}) MayFail result }
-        ensures asked { HasAsked S.has S.failures source.old source.new result }
-    {
-        let mut chunks = Vec::new(alloc);
-        if self.bound() != ABOVE_LEAVES {
-            return Ok(chunks);
-        }
-        let mut left = bytes;
-        for number in 0..self.behind.len().saturating_add(1) {
-            if left == 0 {
-                break;
-            }
-            let reference = self.reference(number);
-            match self.fetch_one(alloc, source, number) {
-                Ok(chunk) => {
-                    left = left.saturating_sub(chunk.len());
-                    if chunks.push(Fetched::new(reference, chunk)).is_err() {
-                        break;
-                    }
-                }
-                Err(RootFault::Read) => return Err(RootFault::Read),
-                Err(_) => break,
-            }
-        }
-        chunks.reverse();
-        Ok(chunks)
-    }
-
-    /// The reference of the one with this number, counted from the next one.
-    fn reference(&self, number: usize) -> Ref {
-        if number == 0 {
-            return self.next;
-        }
-        match self.behind.get(number - 1) {
-            Some(reference) => *reference,
-            None => self.next,
-        }
-    }
-
-    /// Reads the chunk of the one with this number, counted from the next one. It is not tested.
-    /// (There is none above the root.)
-    fn fetch_one<S: ChunkSource<Place = T>>(
-        &mut self,
-        alloc: Global,
-        source: &mut S,
-        number: usize,
-    ) -> Result<Vec<u8>, RootFault>
-        ensures same { HaveSame self.old self.new }
-        ensures lawful { (content : Content) → S.has source.old content →
-            number ≤ length self.old.behind.items → AreSiblingsOf S.is_place content self.old →
-            AreSiblingsOf S.is_place content self.new × IsOrFails (λ _. Unit {0}) MayFail result }
-        ensures asked { HasAsked S.has S.failures source.old source.new result }
-    {
-        // By these laws the tops of a lawful tree's subtrees are found by their references.
-        tops_are_read();
-        let left = self.behind.len();
-        let Some(parent) = &mut self.parent else {
-            return Ok(Vec::new(alloc));
-        };
-        let next = parent.count.saturating_sub(left).saturating_sub(1);
-        let number = next.saturating_add(number) as u64;
-        let place = source.child(&mut parent.place, parent.level.saturating_sub(1), number)?;
-        source.chunk(alloc, &place)
     }
 
     /// Reads the chunk of the next one. Gives its place, too.

@@ -11,10 +11,11 @@ ghost use Rattle.prolly_root_diff.specs.Sides.{IsAtRoot, IsSideOf, PassesFirst};
 ghost use Rattle.prolly_root_diff.specs.Sides.{left_of};
 ghost use Rattle.prolly_root_diff.specs.Walks.{IsDue, IsReady};
 
-use crate::due_trees::{LEAF, put_others, read_first, whole_tree};
+use crate::due_trees::{put_others, read_first, whole_tree};
 use crate::leaf::Leaf;
 use crate::notes::Note;
 use crate::siblings::Siblings;
+use prolly_check::LEAF;
 use prolly_entry::{Pair, Ref, Version};
 use prolly_root::{ChunkSource, RootFault};
 use std::alloc::{AllocError, Global};

@@ -5,7 +5,7 @@ use prolly_apply::{Applied, OLD_TREE, OldLeaf, OldLoaded, apply_stage, load_old}
 use prolly_chunk::ChunkEvent;
 use prolly_entry::{Record, Ref, Sha512Cut, Version};
 use prolly_link::{BatchReceiver, Out};
-use prolly_root::{ChunkSource, RootFault};
+use prolly_root::{ReadAhead, RootFault};
 use prolly_stage::Worker;
 use std::alloc::Global;
 use std::sync::Wait;
@@ -28,7 +28,7 @@ pub(crate) struct OldRead<D> {
     pub fault: Option<RootFault>,
 }
 
-impl<D: ChunkSource + Drop> Job for LoadOld<D> {
+impl<D: ReadAhead + Drop> Job for LoadOld<D> {
     ghost use Rattle.prolly_build.specs.OldWorkers.{IsOldLoadedFrom};
 
     type Item = OldLeaf;

@@ -8,7 +8,7 @@ use prolly_build::laws::no_failed_read_is_told;
 use prolly_build::{AppliedChanges, ApplyFault, apply_changes};
 use prolly_entry::Ref;
 use prolly_file::{InMemory, ScriptDevice};
-use prolly_root::{ChunkSource, FileChunks, RootFault};
+use prolly_root::{FileChunks, ReadAhead, RootFault};
 
 /// Lays changes over the tree with this root in a file in memory, of which no read fails.
 fn applied_in_memory<R: Wait + Threads + Sync>(
@@ -43,7 +43,7 @@ fn a_file_in_memory_is_read_without_a_failure(rt: HostRuntime) -> Result<(), Fai
 }
 
 /// Lays one change over the tree with this root.
-fn one_applied<R: Wait + Threads + Sync, D: ChunkSource + Send + Drop>(
+fn one_applied<R: Wait + Threads + Sync, D: ReadAhead + Send + Drop>(
     rt: &R,
     alloc: Global,
     config: &Config,

@@ -7,8 +7,8 @@ use Rattle.prolly_root_diff.proofs.LeafSteps.{gives_leaf, leaves_end, no_pairs, 
 use Rattle.prolly_root_diff.proofs.LeafSteps.{some_pairs, stay_on}
 use Rattle.prolly_root_diff.proofs.root_leaves.next_leaf.Goals as goal
 
-pub next_chunk-requires-clause-due : goal.next_chunk-requires-clause-due
-next_chunk-requires-clause-due g c = some_due c.nodes.due.items (search rules)
+pub read_first-requires : goal.read_first-requires
+read_first-requires g c = some_due c.nodes.due.items (search rules)
 
 pub returns-then-not-is_empty-clause-gives : goal.returns-then-not-is_empty-clause-gives
 returns-then-not-is_empty-clause-gives g c =
@@ -24,7 +24,7 @@ returns-then-not-is_empty-clause-gives g c =
         reference = reads.reference_is ∙ sym reads.named.is;
       },
       gives_leaf c.leaves_are_right.ensures.opens c.args.version (all_due c.args.due.now.items)
-          (all_due c.nodes.due.items) (all_due c.next_chunk.new.due.items)
+          (all_due c.nodes.due.items) (all_due c.read_first.new.due.items)
           c.in_ok-reference.reference.0 chunk reads c.nodes.invariant.stays some,
     )
 
@@ -32,13 +32,13 @@ pub returns-then-not-is_empty-clause-nearer : goal.returns-then-not-is_empty-cla
 returns-then-not-is_empty-clause-nearer g c = omega (
   arith,
   c.nodes.invariant.nearer,
-  reads_lighter c.args.version (all_due c.nodes.due.items) (all_due c.next_chunk.new.due.items)
+  reads_lighter c.args.version (all_due c.nodes.due.items) (all_due c.read_first.new.due.items)
       c.in_ok-reference.reference.0 c.in_ok-reference.chunk.items c.in_ok-reference.ensures.reads,
 )
 
 pub nodes-smaller : goal.nodes-smaller
 nodes-smaller g c = reads_lighter c.args.version (all_due c.nodes.due.items)
-    (all_due c.next_chunk.new.due.items) c.in_ok-reference.reference.0
+    (all_due c.read_first.new.due.items) c.in_ok-reference.reference.0
     c.in_ok-reference.chunk.items c.in_ok-reference.ensures.reads
 
 pub nodes-preserved : goal.nodes-preserved
@@ -51,16 +51,15 @@ nodes-preserved g c =
     c.is_empty-in-nodes.result (c.is_empty-in-nodes.ensures ∙ ap (λ ps. length ps == 0) held)
     c.if-not-is_empty.false in
     record {
-      version = c.in_ok-reference.ensures.version;
       stays = stay_on c.leaves_are_right.ensures.opens c.args.version
           (all_due c.args.due.now.items) (all_due c.nodes.due.items)
-          (all_due c.next_chunk.new.due.items) c.in_ok-reference.reference.0 chunk reads
+          (all_due c.read_first.new.due.items) c.in_ok-reference.reference.0 chunk reads
           before.stays none;
       nearer = omega (
         arith,
         before.nearer,
         reads_lighter c.args.version (all_due c.nodes.due.items)
-            (all_due c.next_chunk.new.due.items) c.in_ok-reference.reference.0 chunk reads,
+            (all_due c.read_first.new.due.items) c.in_ok-reference.reference.0 chunk reads,
       );
       keeps = λ content has. c.in_ok-reference.ensures.asked.0 content (before.keeps content has);
       failures = c.in_ok-reference.ensures.asked.1 ∙ before.failures;

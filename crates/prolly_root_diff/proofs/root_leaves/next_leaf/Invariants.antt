@@ -7,7 +7,6 @@ use Rattle.prolly_root_diff.proofs.root_leaves.next_leaf.Given as goal
 
 abbrev pub invariant-nodes : goal.invariant-nodes
 invariant-nodes g l = record {
-  version : l.ahead ≡ l.version;
   stays : LeavesStay l.version (all_due l.fn.due.items) (all_due l.due.items);
   nearer : weights (all_due l.due.items) ≤ weights (all_due l.fn.due.items);
   keeps : (content : Content) → g.S.ChunkSource.has l.fn.source content →
