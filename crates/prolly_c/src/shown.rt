@@ -19,14 +19,12 @@ use crate::leaf::entries_from;
 use crate::run::Run;
 use crate::status::WrongIndex;
 use crate::verified::verified;
-use crate::writer::{LEAF, Written, add_leaf};
+use crate::writer::{Written, add_leaf};
+use prolly_check::LEAF;
 use prolly_entry::{Ref, Version};
 use prolly_file::front_frame;
-use prolly_range::{KeySet, SetFault};
+use prolly_range::{KeySet, PROOF_START, SetFault};
 use std::alloc::Global;
-
-/// How many bytes the proof of a range begins with.
-const PROOF_START: usize = 5;
 
 /// Verifies a proof, writes the index of the pairs that it shows, as far as there is room, and answers
 /// how many runs that has.

@@ -11,15 +11,13 @@ ghost use Rattle.prolly_c.specs.Runs.{AreRuns, IsEnd, IsRun, run_count};
 ghost use Rattle.prolly_c.specs.Writing.{Passes, Spells, Wrote, WroteChunk};
 
 use crate::run::Run;
+use prolly_check::LEAF;
 use prolly_check::laws::files_are_accepted;
 use prolly_entry::split_pair;
 use prolly_file::{FRAME_FRONT, HEADER_SIZE, front_frame};
 
 /// How many pairs a run has at most.
 const RUN_PAIRS: u64 = 16;
-
-/// The level of a leaf.
-pub(crate) const LEAF: u8 = 0;
 
 /// How many runs there are so far, and how many pairs they hold.
 #[derive(Clone, Copy)]

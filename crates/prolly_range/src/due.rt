@@ -10,12 +10,10 @@ ghost use Rattle.prolly_range.specs.SetProof.{due_below};
 
 use crate::children::{ChildMet, children_met};
 use crate::key_set::KeySet;
+use prolly_check::LEAF;
 use prolly_entry::{Ref, Version};
 use std::alloc::{AllocError, Global};
 use std::collections::VecDeque;
-
-/// The level of a leaf.
-pub(crate) const LEAF: u8 = 0;
 
 /// A chunk that is due.
 #[derive(Clone, Copy)]

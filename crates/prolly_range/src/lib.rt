@@ -28,4 +28,5 @@ pub use prove_fault::ProveFault;
 pub use proved::{PairsWanted, ProvedChunk};
 pub use prover::prove_set;
 pub use sorted_keys::{NotRising, SortedKeys};
+pub use start::PROOF_START;
 pub use verifier::SetVerifier;

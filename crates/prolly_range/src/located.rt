@@ -15,7 +15,8 @@ ghost use Rattle.prolly_range.specs.Prover.{AreChildrenThere, IsLocated, located
 ghost use Rattle.prolly_range.specs.SetProof.{due_below};
 
 use crate::children::{ChildMet, children_met};
-use crate::due::{Due, LEAF};
+use crate::due::Due;
+use prolly_check::LEAF;
 use prolly_check::laws::tops_are_read;
 use prolly_entry::Version;
 use prolly_root::{ChunkSource, RootFault, tested_chunk};

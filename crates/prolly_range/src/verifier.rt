@@ -17,7 +17,7 @@ use crate::fault::SetFault;
 use crate::frames::next_frame;
 use crate::key_set::KeySet;
 use crate::proved::ProvedChunk;
-use crate::start::{START_SIZE, test_start};
+use crate::start::{PROOF_START, test_start};
 use prolly_check::test_chunk;
 use prolly_entry::{Ref, Version};
 use prolly_file::{FRAME_START, PartReader, Source};
@@ -193,7 +193,7 @@ fn read_start<S: Source>(
     ensures steady { (S.seen source.old).is_steady ≡ true → (S.seen source.new).is_steady ≡ true }
 {
     let mut front = Vec::new(alloc);
-    let _ = reader.read_up_to(source, &mut front, START_SIZE)?;
+    let _ = reader.read_up_to(source, &mut front, PROOF_START)?;
     match test_start(version, &front) {
         Ok(()) => Ok(()),
         Err(fault) => Err(SetFault::Proof(fault)),
