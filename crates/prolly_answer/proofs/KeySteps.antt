@@ -18,14 +18,14 @@ use Rattle.prolly_tree.specs.LookUp.{find}
 use Rattle.prolly_tree.specs.lemmas.Trees.{in_back, in_front}
 use Rattle.prolly_answer.specs.KeyLookUps.{AreFoundByRoot, AreWays, FitsKeys, KeysByRootAreRight}
 use Rattle.prolly_answer.specs.KeyLookUps.{found_at, found_line, found_lines}
-use Rattle.prolly_answer.specs.RootOutcomes.{IsSettledAs, Outcome, TakesAllFor, TakesFor}
-use Rattle.prolly_answer.specs.Outputs.{TookBytes, TookSoFar, TookUntil}
+use Rattle.prolly_answer.specs.RootOutcomes.{Outcome, TakesAllFor, TakesFor}
+use Rattle.prolly_answer.specs.Outputs.{IsSettledAs, TookBytes, TookSoFar, TookUntil}
 use Rattle.prolly_answer.specs.declared.faults.output_fault.OutputFault.{OutputFault}
 use Rattle.prolly_answer.specs.declared.faults.output_fault.OutputFault.TheVariants as outputs
 use Rattle.prolly_answer.specs.declared.faults.root_output_fault.RootOutputFault.TheVariants.{Output}
 use Rattle.prolly_answer.specs.declared.faults.root_output_fault.RootOutputFault.TheVariants.{Root}
 use Rattle.prolly_answer.proofs.RootSteps.{taken_told}
-use Rattle.prolly_answer.proofs.ScanSteps.{took_also, until_also}
+use Rattle.prolly_answer.proofs.ScanSteps.{so_told, took_also, until_also}
 use Rattle.prolly_answer.proofs.Writing.{took_none}
 
 -- ---- lines
@@ -252,15 +252,6 @@ fits_may may also left (Ok done) so fits = fits
 fits_may may also left (Err (Root fault)) so fits = so fault fits
 fits_may may also left (Err (Output fault)) so fits = tt
 
-fits_told : {W : Type 0} (seen : W → SinkView) (may : RootFault → Type 0) (left : List (List ℕ))
-    (mid new : W) (outcome told : Outcome) → IsSettledAs seen mid new outcome told →
-    FitsKeys may left outcome → FitsKeys may left told
-fits_told seen may left mid new outcome told (inl is) fits = subst (FitsKeys may left) (sym is.1) fits
-fits_told seen may left mid new outcome told (inr is) fits = elim is.1.tells [
-  | inl s ↦ subst (FitsKeys may left) (sym s.0) fits
-  | inr s ↦ subst (FitsKeys may left) (sym s.0) tt
-]
-
 module _ {W : Type 0} (seen : W → SinkView) (version : Version) (root : List ℕ) (notation : Notation)
     (keys : List (List ℕ)) (may : RootFault → Type 0) where
   -- the root is not found
@@ -286,7 +277,8 @@ module _ {W : Type 0} (seen : W → SinkView) (version : Version) (root : List �
       AreFoundByRoot by v r notation keys (TakesFor seen old mid) outcome →
       (v ≡ version) × (r ≡ root) →
       ((seen old).is_keeping ≡ true → (seen mid).is_keeping ≡ true) →
-      IsSettledAs seen mid new outcome told → ((fault : RootFault) → by fault → may fault) →
+      IsSettledAs seen (Output outputs.Write) mid new outcome told →
+      ((fault : RootFault) → by fault → may fault) →
       AreFoundByRoot may version root notation keys (TakesAllFor seen old new) told
   keys_told by v r old mid new outcome told d is keeping settled so =
       subst (λ v. AreFoundByRoot may v root notation keys (TakesAllFor seen old new) told) is.0
@@ -297,8 +289,8 @@ module _ {W : Type 0} (seen : W → SinkView) (version : Version) (root : List �
         found = d.found;
         left = d.left;
         keys_are = d.keys_are;
-        fits = fits_told seen may d.left mid new outcome told settled
-            (fits_may by may d.left outcome so d.fits);
+        fits = so_told seen (Output outputs.Write) mid new outcome told settled
+            (FitsKeys may d.left) (fits_may by may d.left outcome so d.fits) tt;
         took = taken_told seen old mid new keeping (found_lines notation d.records) outcome told
             settled d.took;
       }))

@@ -34,8 +34,9 @@ use Rattle.prolly_tree.specs.File.{root_reference}
 use Rattle.prolly_tree.specs.Tree.{Tree}
 use Rattle.prolly_answer.specs.Counts.{AreCounts, are_some, counts_line}
 use Rattle.prolly_answer.specs.Diff.{AreStopped, AreWritten}
-use Rattle.prolly_answer.specs.Outputs.{TookAll, TookSoFar, TookUntil}
-use Rattle.prolly_answer.specs.RootDiffs.{Counts, GaveFirst, IsDoneDiff, IsStatLine, IsStoppedDiff}
+use Rattle.prolly_answer.specs.Outputs.{IsSettledAs, TookAll, TookSoFar, TookUntil}
+use Rattle.prolly_answer.specs.RootDiffs.{Counts, GaveFirst, IsDoneDiff, IsEndedDiff, IsStatLine}
+use Rattle.prolly_answer.specs.RootDiffs.{IsStoppedDiff}
 use Rattle.prolly_answer.specs.RootDiffs.{OfRoots, TellsDiffReads, TellsNumbers, before_of, fault_of}
 use Rattle.std.specs.Prelude.{IfErr, IfOk}
 use Rattle.prolly_answer.specs.declared.answers.root_diff.Told.{Told}
@@ -44,7 +45,7 @@ use Rattle.prolly_answer.specs.OutputFault.{told}
 use Rattle.prolly_answer.specs.RootDiffs.{WroteIn, record_of}
 use Rattle.prolly_answer.specs.declared.faults.output_fault.OutputFault.{OutputFault}
 use Rattle.prolly_answer.specs.declared.faults.output_fault.OutputFault.TheVariants as outputs
-use Rattle.prolly_answer.specs.RootOutcomes.{IsFlushed, RefusesNone}
+use Rattle.prolly_answer.specs.RootOutcomes.{RefusesNone}
 use Rattle.prolly_answer.specs.declared.faults.fault.Fault.{Fault}
 use Rattle.prolly_answer.specs.declared.faults.fault.Fault.TheVariants as faults
 use Rattle.prolly_answer.proofs.Counting.{line_is}
@@ -247,6 +248,24 @@ module _ (version : Version) (old new : List ℕ) where
       join bits bits' m m' (inl a) (inr z) = inr z
       join bits bits' m m' (inr z) b = inr z
 
+-- ---- faults
+
+module _ (may_old may_new : RootFault → Type 0) (version : Version)
+    (old new : List ℕ) (took took_part : List Record → Type 0) where
+  pub walk_stopped : (fault : RootDiffFault) → GaveFirst version old new took →
+      ((f : RootFault) → fault ≡ walks.Old f → may_old f) →
+      ((f : RootFault) → fault ≡ walks.New f → may_new f) →
+      IsStoppedDiff may_old may_new version old new took took_part (fault_of fault)
+  walk_stopped walks.Memory gave a b = inl (gave, tt)
+  walk_stopped walks.Stopped gave a b = inl (gave, tt)
+  walk_stopped (walks.Old f) gave a b = inl (gave, a f refl)
+  walk_stopped (walks.New f) gave a b = inl (gave, b f refl)
+
+  pub memory_stopped : (fault : Fault) → fault ≡ faults.Memory → GaveFirst version old new took →
+      IsStoppedDiff may_old may_new version old new took took_part fault
+  memory_stopped fault is gave =
+      subst (IsStoppedDiff may_old may_new version old new took took_part) (sym is) (inl (gave, tt))
+
 -- ---- the changes
 
 -- These changes were given, written and counted so far, and this is what the walk noted.
@@ -312,25 +331,20 @@ module _ {W : Type 0} (seen : W → SinkView) (version : Version) (old new : Lis
       -- so it is with what is told behind the last change, or with want of memory for it
       pub all_told : {T U : Type 0} (walk : Walk T U) → walk.version ≡ version →
           AreNoted version (at_roots old new) (lefts_of walk) walk.notes →
-          Gives version rest None (lefts_of walk) → (result : Result Told Fault) →
+          Gives version rest None (lefts_of walk) → (may_old may_new : RootFault → Type 0)
+          (took_part : List Record → Type 0) (result : Result Told Fault) →
           IfOk result (λ told. told.changed ≡ changed) →
           IfOk result (λ told. TellsNumbers stat walk counts told.line.items) →
-          IfOk result (λ told. IsDoneDiff version old new stat (WroteSoFar seen form sink mid)
-          told.changed told.line.items)
-      all_told walk same noted ends (Err fault) flag line = tt
-      all_told walk same noted ends (Ok told) flag line =
+          IfErr result (λ fault. fault ≡ faults.Memory) →
+          IsEndedDiff may_old may_new version old new stat (WroteSoFar seen form sink mid) took_part
+          result
+      all_told walk same noted ends may_old may_new took_part (Err fault) flag line is =
+          memory_stopped may_old may_new version old new (WroteSoFar seen form sink mid) took_part
+          fault is gave_so_far
+      all_told walk same noted ends may_old may_new took_part (Ok told) flag line is =
           subst (λ b. IsDoneDiff version old new stat (WroteSoFar seen form sink mid) b
           told.line.items) (sym flag)
           (all_given walk same noted ends.1 ends.2 told.line.items line ends.0)
-
-      pub untold : (may_old may_new : RootFault → Type 0) (took_part : List Record → Type 0)
-          (result : Result Told Fault) → IfErr result (λ fault. fault ≡ faults.Memory) →
-          IfErr result (IsStoppedDiff may_old may_new version old new (WroteSoFar seen form sink mid)
-          took_part)
-      untold may_old may_new took_part (Ok told) is = tt
-      untold may_old may_new took_part (Err fault) is =
-          subst (IsStoppedDiff may_old may_new version old new (WroteSoFar seen form sink mid)
-          took_part) (sym is) gave_so_far
 
       module _ (change : RootChange) (next : Lefts) (given : Gives version rest (Some change) next) where
         abbrev own : Record
@@ -359,36 +373,24 @@ module _ {W : Type 0} (seen : W → SinkView) (version : Version) (old new : Lis
             WroteIn seen form own mid after (Err fault) →
             IsStoppedDiff may_old may_new version old new (WroteSoFar seen form sink after)
             (WrotePart seen form sink after) (told fault)
-        unwritten may_old may_new outputs.Memory after wrote = record {
-          records = w.records;
-          rest = rest;
-          gives = w.gives;
-          so = left_so seen form sink mid after w.records own w.took wrote;
-        }
-        unwritten may_old may_new outputs.Write after wrote = record {
-          records = w.records ++ own ∷ [];
-          rest = next;
-          gives = gives_own;
-          so = wrote_until seen form sink mid after w.records own w.took wrote;
-        }
-
--- ---- faults
-
-module _ (may_old may_new : RootFault → Type 0) (version : Version)
-    (old new : List ℕ) (took took_part : List Record → Type 0) where
-  pub walk_stopped : (fault : RootDiffFault) → GaveFirst version old new took →
-      ((f : RootFault) → fault ≡ walks.Old f → may_old f) →
-      ((f : RootFault) → fault ≡ walks.New f → may_new f) →
-      IsStoppedDiff may_old may_new version old new took took_part (fault_of fault)
-  walk_stopped walks.Memory gave a b = gave
-  walk_stopped walks.Stopped gave a b = gave
-  walk_stopped (walks.Old f) gave a b = (gave, a f refl)
-  walk_stopped (walks.New f) gave a b = (gave, b f refl)
-
-  pub memory_stopped : (fault : Fault) → fault ≡ faults.Memory → GaveFirst version old new took →
-      IsStoppedDiff may_old may_new version old new took took_part fault
-  memory_stopped fault is gave =
-      subst (IsStoppedDiff may_old may_new version old new took took_part) (sym is) gave
+        unwritten may_old may_new outputs.Memory after wrote = inl (
+          record {
+            records = w.records;
+            rest = rest;
+            gives = w.gives;
+            so = left_so seen form sink mid after w.records own w.took wrote;
+          },
+          tt,
+        )
+        unwritten may_old may_new outputs.Write after wrote = inr (
+          record {
+            records = w.records ++ own ∷ [];
+            rest = next;
+            gives = gives_own;
+            so = wrote_until seen form sink mid after w.records own w.took wrote;
+          },
+          refl,
+        )
 
 -- ---- the flush
 
@@ -399,162 +401,74 @@ gives_first version lefts (r ∷ records) gives =
     let more = gives_first version gives.1 records gives.3 in
     (more.0, (gives.0, gives.1, gives.2, more.1))
 
--- without a form nothing is flushed
-pub done_unwritten : {W : Type 0} (seen : W → SinkView) (version : Version) (old new : List ℕ)
-    (form : Option RecordForm) (stat : Bool) (sink mid : W) (changed : Bool) (line : List ℕ) →
-    form ≡ None → IsDoneDiff version old new stat (WroteSoFar seen form sink mid) changed line →
-    IsDoneDiff version old new stat (WroteAll seen form sink mid) changed line
-done_unwritten seen version old new form stat sink mid changed line is done =
-    subst (λ f. IsDoneDiff version old new stat (WroteAll seen f sink mid) changed line) (sym is)
-    (subst (λ f. IsDoneDiff version old new stat (WroteSoFar seen f sink mid) changed line) is done)
-
-pub stopped_unwritten : {W : Type 0} (seen : W → SinkView) (version : Version) (old new : List ℕ)
-    (form : Option RecordForm) (sink mid : W) (may_old may_new : RootFault → Type 0)
-    (fault : Fault) → form ≡ None →
-    IsStoppedDiff may_old may_new version old new (WroteSoFar seen form sink mid)
-    (WrotePart seen form sink mid) fault →
-    IsStoppedDiff may_old may_new version old new (WroteAll seen form sink mid)
-    (WrotePart seen form sink mid) fault
-stopped_unwritten seen version old new form sink mid may_old may_new fault is stopped =
-    subst (λ f. IsStoppedDiff may_old may_new version old new (WroteAll seen f sink mid)
-    (WrotePart seen f sink mid) fault) (sym is)
-    (subst (λ f. IsStoppedDiff may_old may_new version old new (WroteSoFar seen f sink mid)
-    (WrotePart seen f sink mid) fault) is stopped)
-
 module _ {W : Type 0} (seen : W → SinkView) (version : Version) (old new : List ℕ)
     (form : Option RecordForm) (f : RecordForm) (is_form : form ≡ Some f) (sink mid after : W)
-    (same : (seen mid).is_keeping ≡ true → (seen after).taken ≡ (seen mid).taken) where
-  pub done_flushed : (stat changed : Bool) (line : List ℕ) →
-      IsDoneDiff version old new stat (WroteSoFar seen form sink mid) changed line →
-      (seen after).failures ≡ (seen mid).failures → IsSettled (seen after) →
-      IsDoneDiff version old new stat (WroteAll seen form sink after) changed line
-  done_flushed stat changed line d counted settled = record {
+    (may_old may_new : RootFault → Type 0) (stat : Bool) where
+  abbrev So : List Record → Type 0
+  So = WroteSoFar seen form sink mid
+
+  abbrev All : List Record → Type 0
+  All = WroteAll seen form sink after
+
+  abbrev Before : Result Told Fault → Type 0
+  Before = IsEndedDiff may_old may_new version old new stat So (WrotePart seen form sink mid)
+
+  abbrev After : Result Told Fault → Type 0
+  After = IsEndedDiff may_old may_new version old new stat All (WrotePart seen form sink after)
+
+  -- no write failed, and the sink is flushed
+  done_flushed : ((records : List Record) → So records → All records) →
+      (outcome : Result Told Fault) → outcome ≢ Err faults.Write → Before outcome → After outcome
+  done_flushed all (Ok told) other d = record {
     records = d.records;
     gives = d.gives;
-    so = (
-      all_flushed seen sink mid after same form f is_form counted settled d.records d.so.0,
-      d.so.1,
-      d.so.2,
-    );
+    so = (all d.records d.so.0, d.so.1, d.so.2);
   }
+  done_flushed all (Err fault) other (inl d) = inl (
+    record {
+      records = d.0.records;
+      rest = d.0.rest;
+      gives = d.0.gives;
+      so = all d.0.records d.0.so;
+    },
+    d.1,
+  )
+  done_flushed all (Err fault) other (inr d) = absurd (other (ap Err d.1))
 
-  pub done_unflushed : (stat changed : Bool) (line : List ℕ) →
-      IsDoneDiff version old new stat (WroteSoFar seen form sink mid) changed line →
-      (seen after).failures ≡ after_failure (seen mid).failures →
-      GaveFirst version old new (WrotePart seen form sink after)
-  done_unflushed stat changed line d counted =
+  -- no write failed: these changes were given first
+  first_given : (outcome : Result Told Fault) → outcome ≢ Err faults.Write → Before outcome →
+      GaveFirst version old new So
+  first_given (Ok told) other d =
       let first = gives_first version (at_roots old new) d.records d.gives in
+      record { records = d.records; rest = first.0; gives = first.1; so = d.so.0 }
+  first_given (Err fault) other (inl d) = d.0
+  first_given (Err fault) other (inr d) = absurd (other (ap Err d.1))
+
+  -- a write failed
+  cut_off : after ≡ mid → Before (Err faults.Write) → After (Err faults.Write)
+  cut_off is (inl d) = absurd d.1
+  cut_off is (inr d) = inr (
+    subst (λ last. GaveFirst version old new (WrotePart seen form sink last)) (sym is) d.0,
+    refl,
+  )
+
+  pub diff_told : (outcome shown : Result Told Fault) → Before outcome →
+      IsSettledAs seen faults.Write mid after outcome shown → After shown
+  diff_told outcome shown d (inl is) =
+      subst After (sym (is.1 ∙ is.0)) (cut_off is.2 (subst Before is.0 d))
+  diff_told outcome shown d (inr is) = elim is.1.tells [
+    | inl s ↦ subst After (sym s.0) (done_flushed
+        (all_flushed seen sink mid after is.1.same form f is_form s.1 s.2) outcome is.0 d)
+    | inr s ↦ let first = first_given outcome is.0 d in subst After (sym s.0) (inr (
       record {
-        records = d.records;
-        rest = first.0;
-        gives = first.1;
-        so = part_flushed seen sink mid after same form f is_form counted d.records d.so.0;
-      }
-
-  gave_flushed : GaveFirst version old new (WroteSoFar seen form sink mid) →
-      (seen after).failures ≡ (seen mid).failures → IsSettled (seen after) →
-      GaveFirst version old new (WroteAll seen form sink after)
-  gave_flushed g counted settled = record {
-    records = g.records;
-    rest = g.rest;
-    gives = g.gives;
-    so = all_flushed seen sink mid after same form f is_form counted settled g.records g.so;
-  }
-
-  gave_unflushed : GaveFirst version old new (WroteSoFar seen form sink mid) →
-      (seen after).failures ≡ after_failure (seen mid).failures →
-      GaveFirst version old new (WrotePart seen form sink after)
-  gave_unflushed g counted = record {
-    records = g.records;
-    rest = g.rest;
-    gives = g.gives;
-    so = part_flushed seen sink mid after same form f is_form counted g.records g.so;
-  }
-
-  module _ (may_old may_new : RootFault → Type 0) where
-    abbrev Before : Fault → Type 0
-    Before = IsStoppedDiff may_old may_new version old new (WroteSoFar seen form sink mid)
-        (WrotePart seen form sink mid)
-
-    abbrev After : Fault → Type 0
-    After = IsStoppedDiff may_old may_new version old new (WroteAll seen form sink after)
-        (WrotePart seen form sink after)
-
-    abbrev Tells : Fault → Fault → Type 0
-    Tells fault told = ((told ≡ fault) × ((seen after).failures ≡ (seen mid).failures) ×
-        IsSettled (seen after))
-        ⊎ ((told ≡ faults.Write) × ((seen after).failures ≡ after_failure (seen mid).failures))
-
-    gave_told : (fault told : Fault) → GaveFirst version old new (WroteSoFar seen form sink mid) →
-        (GaveFirst version old new (WroteAll seen form sink after) → After fault) →
-        Tells fault told → After told
-    gave_told fault told g is (inl t) = subst After (sym t.0) (is (gave_flushed g t.1 t.2))
-    gave_told fault told g is (inr t) = subst After (sym t.0) (gave_unflushed g t.1)
-
-    stopped_told : (fault told : Fault) → fault ≢ faults.Write → Before fault →
-        Tells fault told → After told
-    stopped_told (faults.RootOld f) told other d t =
-        gave_told (faults.RootOld f) told d.0 (λ g. (g, d.1)) t
-    stopped_told (faults.RootNew f) told other d t =
-        gave_told (faults.RootNew f) told d.0 (λ g. (g, d.1)) t
-    stopped_told faults.Memory told other d t = gave_told faults.Memory told d (λ g. g) t
-    stopped_told faults.Write told other d t = absurd (other refl)
-    stopped_told faults.Read told other d t = absurd d
-    stopped_told (faults.Run f) told other d t = absurd d
-    stopped_told (faults.Pack f) told other d t = absurd d
-    stopped_told (faults.Keys f) told other d t = absurd d
-    stopped_told (faults.Check f) told other d t = absurd d
-    stopped_told (faults.Stream f) told other d t = absurd d
-    stopped_told (faults.CheckOld f) told other d t = absurd d
-    stopped_told (faults.CheckNew f) told other d t = absurd d
-    stopped_told (faults.Proof f) told other d t = absurd d
-    stopped_told (faults.Root f) told other d t = absurd d
-    stopped_told faults.WrongBits told other d t = absurd d
-    stopped_told faults.OtherHeader told other d t = absurd d
-    stopped_told faults.NoCounts told other d t = absurd d
-    stopped_told (faults.LineTooLong line) told other d t = absurd d
-    stopped_told faults.TooManyLines told other d t = absurd d
-    stopped_told (faults.DoubledKey first second) told other d t = absurd d
-    stopped_told (faults.Store fault) told other d t = absurd d
-    stopped_told faults.InputTooLong told other d t = absurd d
-    stopped_told faults.BadKey told other d t = absurd d
-    stopped_told faults.BadTextKey told other d t = absurd d
-    stopped_told faults.BadRoot told other d t = absurd d
-    stopped_told faults.LoneRoot told other d t = absurd d
-    stopped_told faults.NotUnicode told other d t = absurd d
-    stopped_told faults.OutIsStdout told other d t = absurd d
-
--- where writing failed nothing is flushed
-stopped_written : {W : Type 0} (seen : W → SinkView) (version : Version) (old new : List ℕ)
-    (form : Option RecordForm) (sink mid after : W) (may_old may_new : RootFault → Type 0)
-    (fault told : Fault) → fault ≡ faults.Write → told ≡ fault → after ≡ mid →
-    IsStoppedDiff may_old may_new version old new (WroteSoFar seen form sink mid)
-    (WrotePart seen form sink mid) fault →
-    IsStoppedDiff may_old may_new version old new (WroteAll seen form sink after)
-    (WrotePart seen form sink after) told
-stopped_written seen version old new form sink mid after may_old may_new fault told is same left d =
-    subst (λ w. IsStoppedDiff may_old may_new version old new (WroteAll seen form sink w)
-    (WrotePart seen form sink w) told) (sym left)
-    (subst (IsStoppedDiff may_old may_new version old new (WroteAll seen form sink mid)
-    (WrotePart seen form sink mid)) (sym (same ∙ is))
-    (subst (IsStoppedDiff may_old may_new version old new (WroteSoFar seen form sink mid)
-    (WrotePart seen form sink mid)) is d))
-
--- where a fault stopped the walk, the sink was flushed, or writing had failed
-pub stopped_flushed : {W : Type 0} (seen : W → SinkView) (version : Version) (old new : List ℕ)
-    (form : Option RecordForm) (f : RecordForm) → form ≡ Some f → (sink mid after : W)
-    (may_old may_new : RootFault → Type 0) (fault told : Fault) →
-    IsStoppedDiff may_old may_new version old new (WroteSoFar seen form sink mid)
-    (WrotePart seen form sink mid) fault →
-    ((fault ≡ faults.Write) × (told ≡ fault) × (after ≡ mid))
-    ⊎ ((fault ≢ faults.Write) × IsFlushed seen mid after fault told) →
-    IsStoppedDiff may_old may_new version old new (WroteAll seen form sink after)
-    (WrotePart seen form sink after) told
-stopped_flushed seen version old new form f is sink mid after may_old may_new fault told d (inl w) =
-    stopped_written seen version old new form sink mid after may_old may_new fault told w.0 w.1 w.2 d
-stopped_flushed seen version old new form f is sink mid after may_old may_new fault told d (inr o) =
-    stopped_told seen version old new form f is sink mid after o.1.same may_old may_new fault told o.0
-    d o.1.tells
+        records = first.records;
+        rest = first.rest;
+        gives = first.gives;
+        so = part_flushed seen sink mid after is.1.same form f is_form s.1 first.records first.so;
+      },
+      refl,
+    ))
+  ]
 
 -- ---- what is told of the sources
 
@@ -565,14 +479,6 @@ TellsBeside own old new fault = (((fault ≡ own roots.Read) ⊎ (fault ≡ faul
 
 module _ (own : RootFault → Fault) (other : (f : RootFault) → own f ≡ faults.Write → ⊥)
     (old new : ℕ) where
-  pub write_tells : new ≡ old → TellsBeside own old new faults.Write
-  write_tells same = inr (λ e. other roots.Read (sym e), same)
-
-  later_tells : (fault : Fault) → TellsBeside own old new fault →
-      TellsBeside own old new faults.Write
-  later_tells fault (inl failed) = inl (inr refl, failed.1)
-  later_tells fault (inr none) = inr (λ e. other roots.Read (sym e), none.1)
-
   pub memory_tells : (fault : Fault) → fault ≡ faults.Memory →
       ((f : RootFault) → own f ≡ faults.Memory → ⊥) → new ≡ old → TellsBeside own old new fault
   memory_tells fault is none same = inr (λ e. none roots.Read (sym e ∙ is), same)
@@ -582,12 +488,6 @@ module _ (own : RootFault → Fault) (other : (f : RootFault) → own f ≡ faul
       TellsDiffReads own old new result
   told_reads none same (Ok told) is = same
   told_reads none same (Err fault) is = memory_tells fault is none same
-
-  pub told_tells : (fault told : Fault) → TellsBeside own old new fault →
-      (told ≡ fault) ⊎ (told ≡ faults.Write) → TellsBeside own old new told
-  told_tells fault told tells (inl same) = subst (TellsBeside own old new) (sym same) tells
-  told_tells fault told tells (inr write) =
-      subst (TellsBeside own old new) (sym write) (later_tells fault tells)
 
 abbrev is_read : RootFault → Bool
 is_read roots.Read = true

@@ -24,9 +24,9 @@ use Rattle.prolly_text.specs.declared.lines.form.RecordForm.TheVariants.{Records
 use Rattle.prolly_tree.specs.Difference.{puts}
 use Rattle.prolly_tree.specs.RecordFile.{record_file}
 use Rattle.prolly_tree.specs.Tree.{last_key}
-use Rattle.prolly_answer.specs.Outputs.{TookAll, TookBytes, TookPart, TookUntil}
+use Rattle.prolly_answer.specs.Outputs.{IsSettledAs, TookAll, TookBytes, TookPart, TookUntil}
 use Rattle.prolly_answer.specs.RootDumps.{written_pairs}
-use Rattle.prolly_answer.specs.RootOutcomes.{FitsOutcome, IsSettledAs, IsWrittenByRoot, Outcome}
+use Rattle.prolly_answer.specs.RootOutcomes.{FitsOutcome, IsWrittenByRoot, Outcome}
 use Rattle.prolly_answer.specs.RootOutcomes.{Scanned, TakesAllFor, TakesFor}
 use Rattle.prolly_answer.specs.declared.faults.output_fault.OutputFault.{OutputFault}
 use Rattle.prolly_answer.specs.declared.faults.output_fault.OutputFault.TheVariants.{Memory, Write}
@@ -36,7 +36,7 @@ use Rattle.prolly_answer.proofs.DumpSteps.{put_of, record_files_are_dumped}
 use Rattle.prolly_answer.proofs.KeyRanks.{AreBytes, less_room_above, room_above}
 use Rattle.prolly_answer.proofs.ScanSteps.{all_flushed, all_unflushed, behind, behind_more, ends_empty}
 use Rattle.prolly_answer.proofs.ScanSteps.{ends_full, joined_more, prefix_flushed}
-use Rattle.prolly_answer.proofs.ScanSteps.{prefix_unflushed, scanned_more, took_also, until_also}
+use Rattle.prolly_answer.proofs.ScanSteps.{prefix_unflushed, scanned_more, so_told, took_also, until_also}
 use Rattle.prolly_answer.proofs.Writing.{TookSoFar, took_front, took_none, wrote_part}
 
 -- ---- the pairs of a leaf from a key on
@@ -279,17 +279,6 @@ fits_may enough may also lists (Ok done) so fits = fits
 fits_may enough may also lists (Err (Root fault)) so fits = (fits.0, so fault fits.1)
 fits_may enough may also lists (Err (Output fault)) so fits = tt
 
-fits_told : {W : Type 0} (seen : W → SinkView) (enough : List (List Pair) → Type 0)
-    (may : RootFault → Type 0) (lists : List (List Pair)) (mid new : W) (outcome told : Outcome) →
-    IsSettledAs seen mid new outcome told → FitsOutcome enough may lists outcome →
-    FitsOutcome enough may lists told
-fits_told seen enough may lists mid new outcome told (inl is) fits =
-    subst (FitsOutcome enough may lists) (sym is.1) fits
-fits_told seen enough may lists mid new outcome told (inr is) fits = elim is.1.tells [
-  | inl s ↦ subst (FitsOutcome enough may lists) (sym s.0) fits
-  | inr s ↦ subst (FitsOutcome enough may lists) (sym s.0) tt
-]
-
 module _ {W : Type 0} (seen : W → SinkView) (old mid new : W)
     (keeping : (seen old).is_keeping ≡ true → (seen mid).is_keeping ≡ true) (bytes : List ℕ) where
   same_taken : (outcome : Outcome) → outcome ≢ Err (Output Write) →
@@ -316,7 +305,7 @@ module _ {W : Type 0} (seen : W → SinkView) (old mid new : W)
       prefix_unflushed seen old mid new keeping same counted bytes t
   part_taken (Err (Output Write)) other same counted t = absurd (other refl)
 
-  pub taken_told : (outcome told : Outcome) → IsSettledAs seen mid new outcome told →
+  pub taken_told : (outcome told : Outcome) → IsSettledAs seen (Output Write) mid new outcome told →
       TakesFor seen old mid bytes outcome → TakesAllFor seen old new bytes told
   taken_told outcome told (inl is) t =
       subst (TakesAllFor seen old new bytes) (sym (is.1 ∙ is.0))
@@ -365,14 +354,16 @@ module _ {W : Type 0} (seen : W → SinkView) (version : Version) (root from : L
       IsWrittenByRoot by v r from enough bytes (TakesFor seen old mid) outcome →
       (v ≡ version) × (r ≡ root) →
       ((seen old).is_keeping ≡ true → (seen mid).is_keeping ≡ true) →
-      IsSettledAs seen mid new outcome told → ((fault : RootFault) → by fault → may fault) →
+      IsSettledAs seen (Output Write) mid new outcome told →
+      ((fault : RootFault) → by fault → may fault) →
       IsWrittenByRoot may version root from enough bytes (TakesAllFor seen old new) told
   flushed_told by v r old mid new outcome told d is keeping settled so =
       subst (λ v. IsWrittenByRoot may v root from enough bytes (TakesAllFor seen old new) told) is.0
       (subst (λ r. IsWrittenByRoot may v r from enough bytes (TakesAllFor seen old new) told) is.1
       (record {
         found = d.found;
-        fits = fits_told seen enough may d.found.lists mid new outcome told settled
-            (fits_may enough by may d.found.lists outcome so d.fits);
+        fits = so_told seen (Output Write) mid new outcome told settled
+            (FitsOutcome enough may d.found.lists)
+            (fits_may enough by may d.found.lists outcome so d.fits) tt;
         took = taken_told seen old mid new keeping (bytes d.found.lists) outcome told settled d.took;
       }))

@@ -1,7 +1,7 @@
 -- Scans by a root, leaf by leaf.
 use Rattle.std.proofs.Common.{◌≡◌, ◌≢◌, ℕ, suc, zero, ◌-◌, ◌<◌, inl, inr, ◌⊎◌, true, List, [], ◌∷◌}
 use Rattle.std.proofs.Common.{◌++◌, length, take, refl, sym, ap, ◌∙◌, ◌+◌, subst, arith, append_assoc}
-use Rattle.std.proofs.Common.{append-nil}
+use Rattle.std.proofs.Common.{Err, Result, append-nil}
 use Rattle.std.proofs.Math.Seq.{take-append-add}
 use Rattle.std.proofs.lemmas.List.{length-append, take_all}
 use Rattle.std.proofs.lemmas.List.Concat.{flat_map-append}
@@ -13,7 +13,7 @@ use Rattle.prolly_file.specs.Sink.{IsSettled, SinkView}
 use Rattle.prolly_range.specs.lemmas.Unfailed.{other_failures}
 use Rattle.prolly_text.specs.declared.notation.Notation.{Notation}
 use Rattle.prolly_answer.specs.LookUps.{pair_lines, pair_text}
-use Rattle.prolly_answer.specs.Outputs.{TookAll, TookBytes, TookPart, TookPrefix, TookUntil}
+use Rattle.prolly_answer.specs.Outputs.{IsSettledAs, TookAll, TookBytes, TookPart, TookPrefix, TookUntil}
 use Rattle.prolly_answer.specs.RootScans.{AreEnough, limited_lines}
 use Rattle.prolly_answer.specs.declared.faults.output_fault.OutputFault.{OutputFault}
 use Rattle.prolly_answer.specs.declared.faults.output_fault.OutputFault.TheVariants as outputs
@@ -172,6 +172,16 @@ module _ {W : Type 0} (seen : W → SinkView) where
             subst (λ f. TookUntil seen f (done ++ own) old new) (sym w.0) (part_also w.1)
 
 -- ---- the flush, which takes no more bytes
+
+-- What holds of the outcome, and of a failed write, holds of what is told.
+pub so_told : {W T F : Type 0} (seen : W → SinkView) (write : F) (mid new : W)
+    (outcome shown : Result T F) → IsSettledAs seen write mid new outcome shown →
+    (holds : Result T F → Type 0) → holds outcome → holds (Err write) → holds shown
+so_told seen write mid new outcome shown (inl is) holds of other = subst holds (sym is.1) of
+so_told seen write mid new outcome shown (inr is) holds of other = elim is.1.tells [
+  | inl s ↦ subst holds (sym s.0) of
+  | inr s ↦ subst holds (sym s.0) other
+]
 
 module _ {W : Type 0} (seen : W → SinkView) (old mid new : W)
     (keeping : (seen old).is_keeping ≡ true → (seen mid).is_keeping ≡ true)

@@ -1,8 +1,8 @@
 -- Verifying the proof of a set of keys, chunk by chunk.
-use Rattle.std.proofs.Common.{◌≡◌, ◌≢◌, ◌⊎◌, inl, inr, ℕ, min, Bool, true, false, List, [], ◌∷◌, ◌++◌}
+use Rattle.std.proofs.Common.{◌≡◌, ◌≢◌, inl, inr, ℕ, min, Bool, true, false, List, [], ◌∷◌, ◌++◌}
 use Rattle.std.proofs.Common.{length, Option, Some, None, Result, Ok, Err, refl, sym, ap, ◌∙◌}
 use Rattle.std.proofs.Common.{subst, arith, append_assoc, append-nil}
-use Rattle.std.specs.Prelude.{◌↔◌, IsErrOf, IfErr, OnOk}
+use Rattle.std.specs.Prelude.{◌↔◌, IsErrOf}
 use Rattle.std.specs.List.{AllByRecursion, flat_map}
 use Rattle.std.proofs.lemmas.Bool.{cases_eq}
 use Rattle.std.proofs.lemmas.List.{length-append}
@@ -10,7 +10,7 @@ use Rattle.std.proofs.lemmas.List.Concat.{flat_map-append}
 use Rattle.prolly_entry.specs.Pair.{Pair}
 use Rattle.prolly_entry.specs.declared.version.Version.{Version}
 use Rattle.prolly_entry.specs.lemmas.Lists.{all_append}
-use Rattle.prolly_file.specs.Failures.{CountsFailure, after_failure}
+use Rattle.prolly_file.specs.Failures.{after_failure}
 use Rattle.prolly_file.specs.Frame.{framed, IsSmall}
 use Rattle.prolly_file.specs.Sink.{IsSettled, SinkView}
 use Rattle.prolly_file.specs.Writer.{next_count}
@@ -26,22 +26,20 @@ use Rattle.prolly_range.specs.lemmas.Taken.{taken_more}
 use Rattle.prolly_text.specs.declared.notation.Notation.{Notation}
 use Rattle.prolly_tree.specs.Events.{greatest_count}
 use Rattle.prolly_answer.specs.OutputFault.{told}
-use Rattle.prolly_answer.specs.Outputs.{TookAll, TookBytes, TookPart, TookUntil}
-use Rattle.prolly_answer.specs.RootOutcomes.{IsFlushed}
+use Rattle.prolly_answer.specs.Outputs.{IsSettledAs, TookAll, TookPart, WroteOwn}
 use Rattle.prolly_answer.specs.SetLines.{FitsLeft, RisesIn, alone_lines, left_at_first, left_behind}
 use Rattle.prolly_answer.specs.SetLines.{lines_at_end, lines_so_far, more_lines}
-use Rattle.prolly_answer.specs.SetProofs.{IsNoSetProof, IsStoppedSet, IsVerifiedSet, StoppedSet}
-use Rattle.prolly_answer.specs.SetProofs.{TellsProofReads, told_set}
+use Rattle.prolly_answer.specs.SetProofs.{IsEndedSet, IsNoSetProof, IsStoppedSet, IsVerifiedSet}
+use Rattle.prolly_answer.specs.SetProofs.{StoppedSet, TellsProofReads, told_set}
 use Rattle.prolly_answer.specs.declared.faults.fault.Fault.{Fault}
-use Rattle.prolly_answer.specs.declared.faults.fault.Fault.TheVariants.{Read, Write}
+use Rattle.prolly_answer.specs.declared.faults.fault.Fault.TheVariants.{Memory, Read, Write}
 use Rattle.prolly_answer.specs.declared.faults.output_fault.OutputFault.{OutputFault}
 use Rattle.prolly_answer.specs.declared.faults.output_fault.OutputFault.TheVariants as outputs
-use Rattle.prolly_answer.proofs.ScanSteps.{all_flushed, all_unflushed, prefix_flushed}
-use Rattle.prolly_answer.proofs.ScanSteps.{prefix_unflushed, took_also, until_also}
 use Rattle.prolly_range.specs.lemmas.Rests.{not_begun, rest_behind, rest_begins}
 use Rattle.prolly_answer.proofs.ShownKeys.{IsLeft, SomeOfSet, left_begins, left_fits, left_goes_on}
 use Rattle.prolly_answer.proofs.ShownKeys.{lines_ended, lines_more, lines_of_none, some_of_set}
-use Rattle.prolly_answer.proofs.Writing.{TookSoFar, took_none}
+use Rattle.prolly_answer.proofs.Writing.{TookSoFar, flushed, took_more, took_none, took_until}
+use Rattle.prolly_answer.proofs.Writing.{unflushed}
 
 -- ---- what a call came to
 
@@ -114,11 +112,11 @@ module _ {W : Type 0} (seen : W → SinkView) (notation : Notation) (version : V
 
   abbrev Verified : W → W → Type 0
   Verified old new = IsVerifiedSet notation version root set honest bytes
-      (λ lines. TookBytes seen lines old new)
+      (λ lines. TookSoFar seen lines old new)
 
   abbrev Stopped : W → W → Fault → Type 0
   Stopped old new = IsStoppedSet notation version root set honest bytes
-      (λ lines. TookBytes seen lines old new) (λ fault lines. TookUntil seen fault lines old new)
+      (λ lines. TookSoFar seen lines old new) (λ lines. TookPart seen lines old new)
 
   abbrev Refused : SetFault → Type 0
   Refused fault = honest ≡ true → IsNoSetProof version root set bytes fault
@@ -156,7 +154,7 @@ module _ {W : Type 0} (seen : W → SinkView) (notation : Notation) (version : V
     lines = lines_so_far notation set [];
     taken = (refl, refl);
     told_are = inl refl;
-    stopped = inl (fault, refl, λ h. refused fault (start h), (told_none old).all);
+    stopped = inl (fault, refl, λ h. refused fault (start h), told_none old);
   }
     where
       refused : (fault : SetFault) → IsStartFault version bytes fault →
@@ -168,6 +166,27 @@ module _ {W : Type 0} (seen : W → SinkView) (notation : Notation) (version : V
 
   module _ (due : List Due) (count : ℕ) (left : List ℕ) (keys : List (List ℕ)) (old mid : W)
       (r : IsReading due count left keys old mid) where
+    stopped_by : (fault : SetFault) → Refused fault → (last : W) → last ≡ mid →
+        Stopped old last (told_set fault)
+    stopped_by fault refused last same = record {
+      chunks = r.chunks;
+      pairs = r.pairs;
+      due = due;
+      lines = lines_so_far notation set r.pairs;
+      taken = r.taken;
+      told_are = inl refl;
+      stopped = inl (
+        fault,
+        refl,
+        refused,
+        subst (λ w. TookSoFar seen
+            (lines_so_far notation set r.pairs) old w) (sym same) r.took,
+      );
+    }
+
+    wants : (last : W) → last ≡ mid → Stopped old last Memory
+    wants = stopped_by sets.Memory (λ h. tt)
+
     -- Nothing is due any more, and the lines of the keys that are left are told.
     module _ (next : List Due) (end : IsAtEnd due next honest left) (last : W) where
       all : lines_at_end notation set r.pairs ≡
@@ -176,8 +195,10 @@ module _ {W : Type 0} (seen : W → SinkView) (notation : Notation) (version : V
           (some_of_set r.order version root set r.chunks r.pairs due r.rises r.taken) r.keys_are
 
       pub range_unwritten : (fault : OutputFault) →
-          TookUntil seen fault (alone_lines notation keys) mid last → Stopped old last (told fault)
-      range_unwritten fault u = record {
+          WroteOwn {T = Unit {0}} seen (alone_lines notation keys) mid last (Err fault) →
+          Stopped old last (told fault)
+      range_unwritten outputs.Memory same = wants last same
+      range_unwritten outputs.Write w = record {
         chunks = r.chunks;
         pairs = r.pairs;
         due = due;
@@ -185,17 +206,17 @@ module _ {W : Type 0} (seen : W → SinkView) (notation : Notation) (version : V
         taken = r.taken;
         told_are = inr (end.none, refl);
         stopped = inr (
-          fault,
           refl,
-          subst (λ lines. TookUntil seen fault lines old last) (sym all)
-              (until_also seen (lines_so_far notation set r.pairs) (alone_lines notation keys) old
-              mid last r.took fault u),
+          took_until seen (lines_so_far notation set r.pairs) old mid r.took
+              outputs.Write (lines_at_end notation set r.pairs) (alone_lines notation keys) [] last
+              (all ∙ ap (λ own. lines_so_far notation set r.pairs ++ own)
+              (sym (append-nil (alone_lines notation keys)))) w,
         );
       }
 
-      pub range_ends : TookBytes seen (alone_lines notation keys) mid last →
-          ((seen mid).is_keeping ≡ true → (seen last).is_keeping ≡ true) → Verified old last
-      range_ends w keeping = record {
+      pub range_ends : (x : Unit {0}) →
+          WroteOwn seen (alone_lines notation keys) mid last (Ok x) → Verified old last
+      range_ends x w = record {
         proof = set_file version r.chunks;
         pairs = r.pairs;
         proves = record {
@@ -207,9 +228,9 @@ module _ {W : Type 0} (seen : W → SinkView) (notation : Notation) (version : V
         };
         read = λ h. r.read h ∙ ap (λ x. set_file version r.chunks ++ x) (end.over h) ∙
             append-nil (set_file version r.chunks);
-        took = subst (λ lines. TookBytes seen lines old last) (sym all)
-            (took_also seen (lines_so_far notation set r.pairs) (alone_lines notation keys) old mid
-            last r.took w keeping).all;
+        took = subst (λ lines. TookSoFar seen lines old last) (sym all)
+            (took_more seen (lines_so_far notation set r.pairs) old mid r.took x
+            (alone_lines notation keys) last w);
       }
 
     -- What is next is at fault.
@@ -217,15 +238,7 @@ module _ {W : Type 0} (seen : W → SinkView) (notation : Notation) (version : V
         (honest ≡ true → IsNextFault version due count left fault) →
         (honest ≡ true → IsRestOf version due left → MayFail fault) →
         Stopped old mid (told_set fault)
-    range_fails fault next accepts = record {
-      chunks = r.chunks;
-      pairs = r.pairs;
-      due = due;
-      lines = lines_so_far notation set r.pairs;
-      taken = r.taken;
-      told_are = inl refl;
-      stopped = inl (fault, refl, refused fault next accepts, r.took.all);
-    }
+    range_fails fault next accepts = stopped_by fault (refused fault next accepts) mid refl
       where
         other : (fault : SetFault) → MayFail fault → fault ≢ sets.Memory → fault ≢ sets.Read → ⊥
         other fault (inl e) m n = m e
@@ -273,10 +286,11 @@ module _ {W : Type 0} (seen : W → SinkView) (notation : Notation) (version : V
 
       module _ (new : W) where
         -- The lines of one more chunk are not all written.
-        pub chunk_unwritten : (fault : OutputFault) →
-            TookUntil seen fault (more_lines notation set keys shown) mid new →
+        pub chunk_unwritten : (T : Type 0) (fault : OutputFault) →
+            WroteOwn {T = T} seen (more_lines notation set keys shown) mid new (Err fault) →
             Stopped old new (told fault)
-        chunk_unwritten fault u = record {
+        chunk_unwritten T outputs.Memory same = wants new same
+        chunk_unwritten T outputs.Write w = record {
           chunks = r.chunks ++ t.chunk ∷ [];
           pairs = r.pairs ++ shown;
           due = next;
@@ -284,20 +298,20 @@ module _ {W : Type 0} (seen : W → SinkView) (notation : Notation) (version : V
           taken = taken;
           told_are = inl refl;
           stopped = inr (
-            fault,
             refl,
-            subst (λ lines. TookUntil seen fault lines old new) (sym text)
-                (until_also seen (lines_so_far notation set r.pairs) own old mid new r.took fault u),
+            took_until seen (lines_so_far notation set r.pairs) old mid r.took
+                outputs.Write (lines_so_far notation set (r.pairs ++ shown)) own [] new
+                (text ∙ ap (λ own. lines_so_far notation set r.pairs ++ own)
+                (sym (append-nil own))) w,
           );
         }
 
         -- They are written.
-        pub range_goes_on : (more : ℕ) (rest : List (List ℕ)) → more ≡ next_count count →
-            rest ≡ left_behind set keys shown →
-            TookBytes seen (more_lines notation set keys shown) mid new →
-            ((seen mid).is_keeping ≡ true → (seen new).is_keeping ≡ true) →
+        pub range_goes_on : {T : Type 0} (x : T) (more : ℕ) (rest : List (List ℕ)) →
+            more ≡ next_count count → rest ≡ left_behind set keys shown →
+            WroteOwn seen (more_lines notation set keys shown) mid new (Ok x) →
             IsReading next more after rest old new
-        range_goes_on more rest one behind w keeping = record {
+        range_goes_on x more rest one behind w = record {
           order = r.order;
           rises = r.rises;
           chunks = r.chunks ++ t.chunk ∷ [];
@@ -313,7 +327,7 @@ module _ {W : Type 0} (seen : W → SinkView) (notation : Notation) (version : V
           rest = λ h ps p. rest_behind version due t.chunk shown next left after t.takes t.small
               (t.read h) (r.rest h ps p);
           took = subst (λ lines. TookSoFar seen lines old new) (sym text)
-              (took_also seen (lines_so_far notation set r.pairs) own old mid new r.took w keeping);
+              (took_more seen (lines_so_far notation set r.pairs) old mid r.took x own new w);
         }
           where
             file_more : (after : List ℕ) → (set_file version r.chunks ++ framed t.chunk) ++ after ≡
@@ -327,40 +341,63 @@ module _ {W : Type 0} (seen : W → SinkView) (notation : Notation) (version : V
 -- ---- the end
 
 module _ {W : Type 0} (seen : W → SinkView) (notation : Notation) (version : Version)
-    (root : List ℕ) (set : KeySet) (honest : Bool) (bytes : List ℕ) (old mid new : W)
-    (keeping : (seen old).is_keeping ≡ true → (seen mid).is_keeping ≡ true) where
-  abbrev All : List ℕ → Type 0
-  All lines = TookAll seen lines old new
+    (root : List ℕ) (set : KeySet) (honest : Bool) (bytes : List ℕ) (old mid new : W) where
+  abbrev Before : Result (Unit {0}) Fault → Type 0
+  Before = IsEndedSet notation version root set honest bytes (λ lines. TookSoFar seen lines old mid)
+      (λ lines. TookPart seen lines old mid)
 
-  abbrev Until : OutputFault → List ℕ → Type 0
-  Until fault lines = TookUntil seen fault lines old new
+  abbrev After : Result (Unit {0}) Fault → Type 0
+  After = IsEndedSet notation version root set honest bytes (λ lines. TookAll seen lines old new)
+      (λ lines. TookPart seen lines old new)
 
-  abbrev Done : Type 0
-  Done = IsVerifiedSet notation version root set honest bytes (λ lines. TookBytes seen lines old mid)
+  ended_by : (fault shown : Fault) (s : Before (Err fault)) → StoppedSet
+      (λ of_proof. honest ≡ true → IsNoSetProof version root set bytes of_proof)
+      (λ lines. TookAll seen lines old new) (λ lines. TookPart seen lines old new) s.lines shown →
+      After (Err shown)
+  ended_by fault shown s stopped = record {
+    chunks = s.chunks;
+    pairs = s.pairs;
+    due = s.due;
+    lines = s.lines;
+    taken = s.taken;
+    told_are = s.told_are;
+    stopped = stopped;
+  }
 
-  abbrev Ended : Fault → Type 0
-  Ended = IsStoppedSet notation version root set honest bytes All Until
+  -- a write failed
+  cut_off : new ≡ mid → Before (Err Write) → After (Err Write)
+  cut_off is s = ended_by Write Write s (elim s.stopped [
+    | inl d ↦ absurd (other d.0 d.1)
+    | inr d ↦ inr (refl, subst (λ last. TookPart seen s.lines old last) (sym is) d.1)
+  ])
+    where
+      other : (of_proof : SetFault) → Write ≡ told_set of_proof → ⊥
+      other sets.Memory e = cc
+      other sets.Read e = cc
+      other (sets.Proof f) e = cc
+      other sets.Stopped e = cc
 
   module _ (same : (seen mid).is_keeping ≡ true → (seen new).taken ≡ (seen mid).taken) where
-    pub range_ended : (d : Done) (result : Result (Unit {0}) Fault) →
-        CountsFailure (seen mid).failures (seen new).failures result →
-        OnOk result (IsSettled (seen new)) →
-        OnOk result (IsVerifiedSet notation version root set honest bytes All)
-    range_ended d (Ok x) counted settled = record {
+    -- the sink is flushed
+    ended_flushed : (seen new).failures ≡ (seen mid).failures → IsSettled (seen new) →
+        (outcome : Result (Unit {0}) Fault) → outcome ≢ Err Write → Before outcome → After outcome
+    ended_flushed counted settled (Ok done) other d = record {
       proof = d.proof;
       pairs = d.pairs;
       proves = d.proves;
       read = d.read;
-      took = all_flushed seen old mid new keeping same counted settled
-          (lines_at_end notation set d.pairs) d.took;
+      took = flushed seen (lines_at_end notation set d.pairs) old mid d.took new same counted settled;
     }
-    range_ended d (Err fault) counted settled = tt
+    ended_flushed counted settled (Err fault) other s = ended_by fault fault s (elim s.stopped [
+      | inl d ↦ inl (d.0, d.1, d.2, flushed seen s.lines old mid d.3 new same counted settled)
+      | inr d ↦ absurd (other (ap Err d.0))
+    ])
 
-    pub range_unflushed : (d : Done) (result : Result (Unit {0}) Fault) →
-        CountsFailure (seen mid).failures (seen new).failures result →
-        IfErr result (λ fault. fault ≡ Write) → IfErr result Ended
-    range_unflushed d (Ok x) counted is = tt
-    range_unflushed d (Err fault) counted is = record {
+    -- that fails
+    ended_unflushed : (seen new).failures ≡ after_failure (seen mid).failures →
+        (outcome : Result (Unit {0}) Fault) → outcome ≢ Err Write → Before outcome →
+        After (Err Write)
+    ended_unflushed counted (Ok done) other d = record {
       chunks = d.proves.chunks;
       pairs = d.pairs;
       due = [];
@@ -368,108 +405,23 @@ module _ {W : Type 0} (seen : W → SinkView) (notation : Notation) (version : V
       taken = d.proves.taken;
       told_are = inr (refl, refl);
       stopped = inr (
-        outputs.Write,
-        is,
-        all_unflushed seen old mid new keeping same counted
-            (lines_at_end notation set d.pairs) d.took,
+        refl,
+        unflushed seen (lines_at_end notation set d.pairs) old mid d.took new same counted,
       );
     }
+    ended_unflushed counted (Err fault) other s = ended_by fault Write s (elim s.stopped [
+      | inl d ↦ inr (refl, unflushed seen s.lines old mid d.3 new same counted)
+      | inr d ↦ absurd (other (ap Err d.0))
+    ])
 
-  -- The sink is flushed before the fault is told.
-  module _ (fault : Fault) (s : IsStoppedSet notation version root set honest bytes
-      (λ lines. TookBytes seen lines old mid) (λ fault lines. TookUntil seen fault lines old mid)
-      fault) where
-    abbrev Refuses : SetFault → Type 0
-    Refuses of_proof = honest ≡ true → IsNoSetProof version root set bytes of_proof
-
-    abbrev StoppedBy : Fault → Type 0
-    StoppedBy = StoppedSet Refuses All Until s.lines
-
-    told_write : (of_proof : SetFault) → told_set of_proof ≢ Write
-    told_write sets.Memory e = cc
-    told_write sets.Read e = cc
-    told_write (sets.Proof f) e = cc
-    told_write sets.Stopped e = cc
-
-    -- A write failed.
-    failed : new ≡ mid → fault ≡ Write → StoppedBy fault
-    failed is write = go s.stopped
-      where
-        go : StoppedSet Refuses (λ lines. TookBytes seen lines old mid)
-            (λ fault lines. TookUntil seen fault lines old mid) s.lines fault →
-            StoppedBy fault
-        go (inl p) = absurd (told_write p.0 (sym p.1 ∙ write))
-        go (inr w) = inr (
-          w.0,
-          w.1,
-          subst (λ last. TookUntil seen w.0 s.lines
-              old last) (sym is) w.2,
-        )
-
-    module _ (same : (seen mid).is_keeping ≡ true → (seen new).taken ≡ (seen mid).taken)
-        (other : fault ≢ Write) where
-      -- It is flushed.
-      told_flushed : (seen new).failures ≡ (seen mid).failures → IsSettled (seen new) →
-          StoppedBy fault
-      told_flushed counted settled = go s.stopped
-        where
-          until : (of_lines : OutputFault) → fault ≡ told of_lines →
-              TookUntil seen of_lines s.lines old mid →
-              Until of_lines s.lines
-          until outputs.Memory e t = prefix_flushed seen old mid new keeping same counted settled
-              s.lines t
-          until outputs.Write e t = absurd (other e)
-
-          go : StoppedSet Refuses (λ lines. TookBytes seen lines old mid)
-              (λ fault lines. TookUntil seen fault lines old mid) s.lines
-              fault → StoppedBy fault
-          go (inl p) = inl (
-            p.0,
-            p.1,
-            p.2,
-            all_flushed seen old mid new keeping same counted settled
-                s.lines p.3,
-          )
-          go (inr w) = inr (w.0, w.1, until w.0 w.1 w.2)
-
-      -- That fails.
-      told_unflushed : (seen new).failures ≡ after_failure (seen mid).failures → StoppedBy Write
-      told_unflushed counted = inr (outputs.Write, refl, go s.stopped)
-        where
-          until : (of_lines : OutputFault) → fault ≡ told of_lines →
-              TookUntil seen of_lines s.lines old mid →
-              TookPart seen s.lines old new
-          until outputs.Memory e t = prefix_unflushed seen old mid new keeping same counted
-              s.lines t
-          until outputs.Write e t = absurd (other e)
-
-          go : StoppedSet Refuses (λ lines. TookBytes seen lines old mid)
-              (λ fault lines. TookUntil seen fault lines old mid) s.lines
-              fault → TookPart seen s.lines old new
-          go (inl p) = all_unflushed seen old mid new keeping same counted
-              s.lines p.3
-          go (inr w) = until w.0 w.1 w.2
-
-    ended_by : (told_as : Fault) → StoppedBy told_as → Ended told_as
-    ended_by told_as stopped = record {
-      chunks = s.chunks;
-      pairs = s.pairs;
-      due = s.due;
-      lines = s.lines;
-      taken = s.taken;
-      told_are = s.told_are;
-      stopped = stopped;
-    }
-
-    pub range_stopped : (told_as : Fault) → ((fault ≡ Write) × (told_as ≡ fault) × (new ≡ mid))
-        ⊎ ((fault ≢ Write) × IsFlushed seen mid new fault told_as) → Ended told_as
-    range_stopped told_as (inl is) =
-        subst Ended (sym is.1) (ended_by fault (failed is.2 is.0))
-    range_stopped told_as (inr is) = elim is.1.tells [
-      | inl f ↦ subst Ended (sym f.0)
-          (ended_by fault (told_flushed is.1.same is.0 f.1 f.2))
-      | inr f ↦ subst Ended (sym f.0) (ended_by Write (told_unflushed is.1.same is.0 f.1))
-    ]
+  pub set_told : (outcome shown : Result (Unit {0}) Fault) → Before outcome →
+      IsSettledAs seen Write mid new outcome shown → After shown
+  set_told outcome shown d (inl is) =
+      subst After (sym (is.1 ∙ is.0)) (cut_off is.2 (subst Before is.0 d))
+  set_told outcome shown d (inr is) = elim is.1.tells [
+    | inl s ↦ subst After (sym s.0) (ended_flushed is.1.same s.1 s.2 outcome is.0 d)
+    | inr s ↦ subst After (sym s.0) (ended_unflushed is.1.same s.1 outcome is.0 d)
+  ]
 
 -- ---- what is told of the reads
 
@@ -487,23 +439,6 @@ unfailed x old new read = none_failed old new (λ other. not_err x (read.1 other
     not_err : {T : Type 0} (x : T) → ◌≡◌ {A = Result T SetFault} (Ok x) (Err sets.Read) → ⊥
     not_err x e = cc
 
-pub proof_tells : (before mid after : ℕ) (fault : SetFault) → mid ≡ before →
-    (IsErrOf {T = Unit {0}} (Err fault) sets.Read ↔ (after ≢ mid)) →
-    TellsProofReads (after ≢ before) (Err (told_set fault))
-proof_tells before mid after fault same read = (
-  λ e. subst (λ n. after ≢ n) same (read.0 (ap Err (is_read fault e))),
-  λ failed. inl (ap told_set (err_is (read.1 (subst (λ n. after ≢ n) (sym same) failed)))),
-)
-  where
-    is_read : (fault : SetFault) → told_set fault ≡ Read → fault ≡ sets.Read
-    is_read sets.Memory e = cc
-    is_read sets.Read e = refl
-    is_read (sets.Proof f) e = cc
-    is_read sets.Stopped e = cc
-
-    err_is : ◌≡◌ {A = Result (Unit {0}) SetFault} (Err fault) (Err sets.Read) → fault ≡ sets.Read
-    err_is e = cc
-
 pub lines_tell : (before after : ℕ) (fault : OutputFault) → after ≡ before →
     TellsProofReads (after ≢ before) (Err (told fault))
 lines_tell before after fault same = (
@@ -514,27 +449,3 @@ lines_tell before after fault same = (
     not_read : (fault : OutputFault) → told fault ≡ Read → ⊥
     not_read outputs.Memory e = cc
     not_read outputs.Write e = cc
-
--- The flush at the end is done, or fails.
-pub end_tells : (failed : Type 0) (result : Result (Unit {0}) Fault) → ¬ failed →
-    IfErr result (λ fault. fault ≡ Write) → TellsProofReads failed result
-end_tells failed (Ok done) none is = none
-end_tells failed (Err fault) none is = (λ e. absurd (other e), λ f. absurd (none f))
-  where
-    other : fault ≡ Read → ⊥
-    other e = let bad : Write ≡ Read = sym is ∙ e in cc
-
--- The fault is told, once the sink is flushed, or that this failed.
-pub flush_tells : {W : Type 0} (seen : W → SinkView) (mid new : W) (failed : Type 0)
-    (fault told_as : Fault) → TellsProofReads failed (Err fault) →
-    ((fault ≡ Write) × (told_as ≡ fault) × (new ≡ mid))
-    ⊎ ((fault ≢ Write) × IsFlushed seen mid new fault told_as) → TellsProofReads failed (Err told_as)
-flush_tells seen mid new failed fault told_as tells (inl is) =
-    subst (λ f. TellsProofReads failed (Err f)) (sym is.1) tells
-flush_tells seen mid new failed fault told_as tells (inr is) = elim is.1.tells [
-  | inl f ↦ subst (λ f. TellsProofReads failed (Err f)) (sym f.0) tells
-  | inr f ↦ subst (λ f. TellsProofReads failed (Err f)) (sym f.0) (λ e. absurd (other e), λ f. inr refl)
-]
-  where
-    other : Write ≡ Read → ⊥
-    other e = cc

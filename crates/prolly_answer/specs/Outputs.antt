@@ -1,7 +1,9 @@
 -- What a command that makes a file does to the sink that it is lent, and what it answers.
-use Rattle.std.specs.Prelude.{◌≡◌, ◌≢◌, ℕ, ◌⊎◌, true, List, ◌++◌, Option, Some, None}
+use Rattle.std.specs.Prelude.{◌≡◌, ◌≢◌, ℕ, ◌⊎◌, true, List, ◌++◌, Option, Some, None, Result, Ok, Err}
 use Rattle.prolly_entry.specs.Record.{Record}
+use Rattle.prolly_file.specs.Failures.{after_failure}
 use Rattle.prolly_file.specs.Sink.{IsSettled, SinkView, TakesPrefix}
+use Rattle.prolly_file.specs.Writes.{Writes}
 use Rattle.prolly_answer.specs.declared.answers.answer.Answer.{Answer}
 use Rattle.prolly_answer.specs.declared.faults.fault.Fault.{Fault}
 use Rattle.prolly_answer.specs.declared.faults.fault.Fault.TheVariants as faults
@@ -46,6 +48,32 @@ pub record TookPrefix {W : Type 0} (seen : W → SinkView) (bytes : List ℕ) (o
 abbrev pub TookUntil : {W : Type 0} → (W → SinkView) → OutputFault → List ℕ → W → W → Type 0
 TookUntil seen Write bytes old new = TookPart seen bytes old new
 TookUntil seen Memory bytes old new = TookPrefix seen bytes old new
+
+-- These bytes were written to the sink, or it took a part of them and failed; or memory for them was
+-- refused, and it is as it was.
+abbrev pub WroteOwn : {W T : Type 0} → (W → SinkView) → List ℕ → W → W → Result T OutputFault →
+    Type 0
+WroteOwn {T = T} seen own old new (Ok x) =
+    Writes {T = T} {E = OutputFault} own (seen old) (seen new) (Ok x)
+WroteOwn seen own old new (Err Memory) = new ≡ old
+WroteOwn {T = T} seen own old new (Err Write) =
+    Writes {T = T} {E = OutputFault} own (seen old) (seen new) (Err Write)
+
+-- The sink was flushed, which takes no more bytes, and the outcome is answered, or else a
+-- failed write.
+pub record IsFlushedAs {W T F : Type 0} (seen : W → SinkView) (write : F) (old new : W)
+    (outcome answered : Result T F) : Type 0 where
+  pub same : (seen old).is_keeping ≡ true → (seen new).taken ≡ (seen old).taken
+  pub tells : ((answered ≡ outcome) × ((seen new).failures ≡ (seen old).failures) ×
+      IsSettled (seen new))
+      ⊎ ((answered ≡ Err write) × ((seen new).failures ≡ after_failure (seen old).failures))
+
+-- So it was, where no write had failed before.
+abbrev pub IsSettledAs : {W T F : Type 0} → (W → SinkView) → F → W → W → Result T F → Result T F →
+    Type 0
+IsSettledAs seen write old new outcome answered =
+    ((outcome ≡ Err write) × (answered ≡ outcome) × (new ≡ old))
+    ⊎ ((outcome ≢ Err write) × IsFlushedAs seen write old new outcome answered)
 
 -- This happened to the sink, if there is one.
 abbrev pub IfSink : {W : Type 0} → (W → W → Type 0) → Option W → Option W → Type 0

@@ -10,9 +10,7 @@ use Rattle.prolly_entry.specs.Record.{Record}
 use Rattle.prolly_entry.specs.declared.version.Version.{Version}
 use Rattle.prolly_file.specs.Failures.{after_failure}
 use Rattle.prolly_file.specs.Sink.{SinkView}
-use Rattle.prolly_file.specs.Writes.{Writes}
 use Rattle.prolly_answer.specs.declared.faults.output_fault.OutputFault.{OutputFault}
-use Rattle.prolly_answer.specs.declared.faults.output_fault.OutputFault.TheVariants as outputs
 use Rattle.prolly_root.specs.declared.root_fault.RootFault.{RootFault}
 use Rattle.prolly_root.specs.declared.root_fault.RootFault.TheVariants.{Read}
 use Rattle.prolly_check.specs.declared.numbers.Missing.{Missing}
@@ -28,11 +26,13 @@ use Rattle.prolly_text.specs.declared.lines.form.RecordForm.{RecordForm}
 use Rattle.prolly_answer.specs.Answers.{Shows, ShowsFault}
 use Rattle.prolly_answer.specs.Counts.{AreCounts, are_some, counts_line, stat_text}
 use Rattle.prolly_answer.specs.Diff.{status_of}
+use Rattle.prolly_answer.specs.Outputs.{WroteOwn}
 use Rattle.prolly_tree.specs.Difference.{IsMap}
 use Rattle.prolly_tree.specs.File.{root_reference}
 use Rattle.prolly_tree.specs.LookUp.{find}
 use Rattle.prolly_answer.specs.declared.answers.answer.Answer.{Answer}
 use Rattle.prolly_answer.specs.declared.answers.diff.ChangeCounts.{ChangeCounts}
+use Rattle.prolly_answer.specs.declared.answers.root_diff.Told.{Told}
 use Rattle.prolly_answer.specs.declared.faults.fault.Fault.{Fault}
 use Rattle.prolly_answer.specs.declared.faults.fault.Fault.TheVariants.{Memory, RootNew, RootOld, Write}
 
@@ -65,17 +65,7 @@ pub record GaveFirst (version : Version) (old new : List ℕ) (holds : List Reco
     pub gives : GivesFirst version (at_roots old new) records rest
     pub so : holds records
 
--- These bytes were written to the sink, or it took a part of them and failed; or memory for them was
--- refused, and it is as it was.
-abbrev pub WroteOwn : {W : Type 0} → (W → SinkView) → List ℕ → W → W →
-    Result (Unit {0}) OutputFault → Type 0
-WroteOwn seen own old new (Ok done) =
-    Writes {T = Unit {0}} {E = OutputFault} own (seen old) (seen new) (Ok done)
-WroteOwn seen own old new (Err outputs.Memory) = new ≡ old
-WroteOwn seen own old new (Err outputs.Write) =
-    Writes {T = Unit {0}} {E = OutputFault} own (seen old) (seen new) (Err outputs.Write)
-
--- So it is in the form that is given; where none is, nothing is written.
+-- The record was written in the form that is given; where none is, nothing is written.
 abbrev pub WroteIn : {W : Type 0} → (W → SinkView) → Option RecordForm → Record → W → W →
     Result (Unit {0}) OutputFault → Type 0
 WroteIn seen None r old new (Ok done) = new ≡ old
@@ -131,19 +121,29 @@ abbrev pub IsDoneDiff : Version → List ℕ → List ℕ → Bool → (List Rec
 IsDoneDiff version old new stat took changed line = GaveAll version old new (λ records.
     took records × (changed ≡ are_some records) × IsStatLine stat version old new records line)
 
--- This fault stopped the walk. Where it is one of the trees, or want of memory, what was given
--- before was written; where writing failed, a part of it was. `may_old` and `may_new` say which
--- faults of the trees there may be.
+-- The faults that may stop a walk: want of memory, and those of the trees that `may_old` and
+-- `may_new` say.
+abbrev pub MayStop : (RootFault → Type 0) → (RootFault → Type 0) → Fault → Type 0
+MayStop may_old may_new (RootOld fault) = may_old fault
+MayStop may_old may_new (RootNew fault) = may_new fault
+MayStop may_old may_new Memory = Unit {0}
+MayStop may_old may_new fault = ⊥
+
+-- This fault stopped the walk, and what was given before was written; or writing failed, and a part
+-- of it was.
 abbrev pub IsStoppedDiff : (RootFault → Type 0) → (RootFault → Type 0) → Version → List ℕ →
     List ℕ → (List Record → Type 0) → (List Record → Type 0) → Fault → Type 0
-IsStoppedDiff may_old may_new version old new took took_part (RootOld fault) =
-    GaveFirst version old new took × may_old fault
-IsStoppedDiff may_old may_new version old new took took_part (RootNew fault) =
-    GaveFirst version old new took × may_new fault
-IsStoppedDiff may_old may_new version old new took took_part Memory = GaveFirst version old new took
-IsStoppedDiff may_old may_new version old new took took_part Write =
-    GaveFirst version old new took_part
-IsStoppedDiff may_old may_new version old new took took_part fault = ⊥
+IsStoppedDiff may_old may_new version old new took took_part fault =
+    (GaveFirst version old new took × MayStop may_old may_new fault)
+    ⊎ (GaveFirst version old new took_part × (fault ≡ Write))
+
+-- So it ends: all changes were given, or this fault stopped the walk.
+abbrev pub IsEndedDiff : (RootFault → Type 0) → (RootFault → Type 0) → Version → List ℕ → List ℕ →
+    Bool → (List Record → Type 0) → (List Record → Type 0) → Result Told Fault → Type 0
+IsEndedDiff may_old may_new version old new stat took took_part (Ok told) =
+    IsDoneDiff version old new stat took told.changed told.line.items
+IsEndedDiff may_old may_new version old new stat took took_part (Err fault) =
+    IsStoppedDiff may_old may_new version old new took took_part fault
 
 -- What is told of the calls of one of the sources, whose failures were so many before and after:
 -- where none failed, no failed read of it is told, and where one did, that is told, or that writing

@@ -1,13 +1,13 @@
 -- What comes of a command that goes over the pairs of a tree of which only the root is known: how it
 -- ends, what it wrote until then, and what is told of its source.
-use Rattle.std.specs.Prelude.{◌≡◌, ◌≢◌, ◌⊎◌, ℕ, true, List, Result, Ok, Err}
+use Rattle.std.specs.Prelude.{◌≡◌, ◌⊎◌, ℕ, List, Result, Ok, Err}
 use Rattle.prolly_check.specs.Content.{Content}
 use Rattle.prolly_check.specs.ScanWay.{AreScanned}
 use Rattle.prolly_entry.specs.Cut.{sha512_cut}
 use Rattle.prolly_entry.specs.Pair.{Pair}
 use Rattle.prolly_entry.specs.declared.version.Version.{Version}
 use Rattle.prolly_file.specs.Failures.{after_failure}
-use Rattle.prolly_file.specs.Sink.{IsSettled, SinkView}
+use Rattle.prolly_file.specs.Sink.{SinkView}
 use Rattle.prolly_root.specs.Reader.{IsReaderOf, ReaderView}
 use Rattle.prolly_root.specs.RootFault.{MayFail, TellsFailure}
 use Rattle.prolly_root.specs.declared.root_fault.RootFault.{RootFault}
@@ -17,8 +17,6 @@ use Rattle.prolly_answer.specs.Answers.{ShowsDone, ShowsFault}
 use Rattle.prolly_answer.specs.OutputFault.{told_stop}
 use Rattle.prolly_answer.specs.Outputs.{TookAll, TookBytes, TookUntil}
 use Rattle.prolly_answer.specs.declared.answers.answer.Answer.{Answer}
-use Rattle.prolly_answer.specs.declared.faults.fault.Fault.{Fault}
-use Rattle.prolly_answer.specs.declared.faults.fault.Fault.TheVariants as faults
 use Rattle.prolly_answer.specs.declared.faults.output_fault.OutputFault.TheVariants.{Write}
 use Rattle.prolly_answer.specs.declared.faults.root_output_fault.RootOutputFault.{RootOutputFault}
 use Rattle.prolly_answer.specs.declared.faults.root_output_fault.RootOutputFault.TheVariants.{Output}
@@ -92,30 +90,6 @@ TellsReadsOf old new (Ok done) = new ≡ old
 TellsReadsOf old new (Err (Root fault)) = TellsFailure old new fault
 TellsReadsOf old new (Err (Output fault)) =
     (new ≡ old) ⊎ ((fault ≡ Write) × (new ≡ after_failure old))
-
--- ---- the flush behind it
-
--- The sink was flushed, which takes no more bytes, and the outcome is told, or that the flush failed.
-pub record IsFlushedAs {W : Type 0} (seen : W → SinkView) (old new : W) (outcome told : Outcome)
-    : Type 0 where
-  pub same : (seen old).is_keeping ≡ true → (seen new).taken ≡ (seen old).taken
-  pub tells : ((told ≡ outcome) × ((seen new).failures ≡ (seen old).failures) ×
-      IsSettled (seen new))
-      ⊎ ((told ≡ Err (Output Write)) × ((seen new).failures ≡ after_failure (seen old).failures))
-
--- So it was, where no write had failed before.
-abbrev pub IsSettledAs : {W : Type 0} → (W → SinkView) → W → W → Outcome → Outcome → Type 0
-IsSettledAs seen old new outcome told =
-    ((outcome ≡ Err (Output Write)) × (told ≡ outcome) × (new ≡ old))
-    ⊎ ((outcome ≢ Err (Output Write)) × IsFlushedAs seen old new outcome told)
-
--- The sink was flushed before the fault is told, and that is told, or that the flush failed.
-pub record IsFlushed {W : Type 0} (seen : W → SinkView) (old new : W) (fault told : Fault)
-    : Type 0 where
-  pub same : (seen old).is_keeping ≡ true → (seen new).taken ≡ (seen old).taken
-  pub tells : ((told ≡ fault) × ((seen new).failures ≡ (seen old).failures) ×
-      IsSettled (seen new))
-      ⊎ ((told ≡ faults.Write) × ((seen new).failures ≡ after_failure (seen old).failures))
 
 -- ---- what is answered
 

@@ -31,12 +31,10 @@ use Rattle.prolly_tree.specs.LookUp.{scan}
 use Rattle.prolly_answer.specs.Answers.{ShowsDone, ShowsFault}
 use Rattle.prolly_answer.specs.KeyLookUps.{found_at}
 use Rattle.prolly_answer.specs.LookUps.{IsLookedUp, IsNoFile}
-use Rattle.prolly_answer.specs.OutputFault.{told}
 use Rattle.prolly_answer.specs.SetLines.{keys_past, lines_at_end, lines_so_far}
 use Rattle.prolly_answer.specs.declared.answers.answer.Answer.{Answer}
 use Rattle.prolly_answer.specs.declared.faults.fault.Fault.{Fault}
 use Rattle.prolly_answer.specs.declared.faults.fault.Fault.TheVariants.{Memory, Proof, Read, Root, Write}
-use Rattle.prolly_answer.specs.declared.faults.output_fault.OutputFault.{OutputFault}
 
 -- ---- what is told
 
@@ -163,19 +161,19 @@ abbrev pub AreTold : Notation → KeySet → List Pair → List Due → List ℕ
 AreTold notation set pairs due lines = (lines ≡ lines_so_far notation set pairs)
     ⊎ ((due ≡ []) × (lines ≡ lines_at_end notation set pairs))
 
--- This fault stopped it, when these lines were to be written: it is one of the proof, and they were
--- all written; or one of writing them, of which the sink took a part until then.
-abbrev pub StoppedSet : (SetFault → Type 0) → (List ℕ → Type 0) → (OutputFault → List ℕ → Type 0) →
-    List ℕ → Fault → Type 0
-StoppedSet refused took_all took_until lines fault =
+-- This fault stopped it, when these lines were to be written: it is one of the proof, or want of
+-- memory, and they were all written; or writing them failed, and the sink took a part.
+abbrev pub StoppedSet : (SetFault → Type 0) → (List ℕ → Type 0) → (List ℕ → Type 0) → List ℕ →
+    Fault → Type 0
+StoppedSet refused took_all took_part lines fault =
     ((of_proof : SetFault) × (fault ≡ told_set of_proof) × refused of_proof × took_all lines)
-    ⊎ ((of_lines : OutputFault) × (fault ≡ told of_lines) × took_until of_lines lines)
+    ⊎ ((fault ≡ Write) × took_part lines)
 
 -- Chunks of a proof were taken, which show pairs, and then this fault stopped it; of the lines that
 -- are told of these all were written, or a part.
 pub record IsStoppedSet (notation : Notation) (version : Version) (root : List ℕ) (set : KeySet)
-    (is_honest : Bool) (bytes : List ℕ) (took_all : List ℕ → Type 0)
-    (took_until : OutputFault → List ℕ → Type 0) (fault : Fault) : Type 0 where
+    (is_honest : Bool) (bytes : List ℕ) (took_all took_part : List ℕ → Type 0) (fault : Fault)
+    : Type 0 where
   pub chunks : List (List ℕ)
   pub pairs : List Pair
   pub due : List Due
@@ -184,7 +182,15 @@ pub record IsStoppedSet (notation : Notation) (version : Version) (root : List �
   pub told_are : AreTold notation set pairs due lines
   pub stopped : StoppedSet
       (λ of_proof. is_honest ≡ true → IsNoSetProof version root set bytes of_proof) took_all
-      took_until lines fault
+      took_part lines fault
+
+-- So it ends: it was all written, or this fault stopped it.
+abbrev pub IsEndedSet : Notation → Version → List ℕ → KeySet → Bool → List ℕ → (List ℕ → Type 0) →
+    (List ℕ → Type 0) → Result (Unit {0}) Fault → Type 0
+IsEndedSet notation version root set is_honest bytes took_all took_part (Ok done) =
+    IsVerifiedSet notation version root set is_honest bytes took_all
+IsEndedSet notation version root set is_honest bytes took_all took_part (Err fault) =
+    IsStoppedSet notation version root set is_honest bytes took_all took_part fault
 
 -- What is told of the reads: a failed one is told as such, unless writing failed behind it; and
 -- nothing else is told so.
@@ -195,11 +201,11 @@ TellsProofReads failed (Err fault) =
 
 -- The answer of `verify`: what the proof shows was written, or the fault is shown that stopped that;
 -- and of this it is said what is told of the reads.
-abbrev pub IsVerifySet : (Type 0) → (Fault → Type 0) → (Result (Unit {0}) Fault → Type 0) → Answer →
-    Type 0
-IsVerifySet is_verified is_stopped tells answer =
-    (is_verified × tells (Ok tt) × ShowsDone answer)
-    ⊎ ((fault : Fault) × is_stopped fault × tells (Err fault) × ShowsFault answer fault)
+abbrev pub IsVerifySet : (Result (Unit {0}) Fault → Type 0) → (Result (Unit {0}) Fault → Type 0) →
+    Answer → Type 0
+IsVerifySet is_ended tells answer =
+    (is_ended (Ok tt) × tells (Ok tt) × ShowsDone answer)
+    ⊎ ((fault : Fault) × is_ended (Err fault) × tells (Err fault) × ShowsFault answer fault)
 
 -- ---- what it proves
 

@@ -80,7 +80,15 @@ fn write_pairs<T: Threads + Sync, W: Write + Drop>(
         }
         OpenTree::Rooted(mut chunks, known) => {
             let KnownRoot { version, root } = known;
-            answer_dump_by_root(alloc, &mut chunks, version, &root, form, &mut sink)
+            answer_dump_by_root(
+                &host.hasher(),
+                alloc,
+                &mut chunks,
+                version,
+                &root,
+                form,
+                &mut sink,
+            )
         }
     }
 }

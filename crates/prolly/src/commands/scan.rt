@@ -48,7 +48,13 @@ pub fn answer<T: Threads + Sync>(host: &Host<'_, T>, command: Command) -> Result
                 limit,
                 notation,
             };
-            answer_scan_by_root(alloc, &mut chunks, &scan, &mut stdout_sink(rt)?)
+            answer_scan_by_root(
+                &host.hasher(),
+                alloc,
+                &mut chunks,
+                &scan,
+                &mut stdout_sink(rt)?,
+            )
         }
     };
     Ok(answer?)

@@ -4,9 +4,9 @@ ghost use Rattle.prolly_root_diff.specs.Notes.{AreNoted};
 ghost use Rattle.prolly_root_diff.specs.Walks.{IsBegun, lefts_of};
 ghost use Rattle.prolly_text.specs.RecordForms.{spelled};
 ghost use Rattle.prolly_answer.specs.Diff.{AreStopped, AreWritten};
-ghost use Rattle.prolly_answer.specs.Outputs.{TookAll, TookSoFar, TookUntil};
-ghost use Rattle.prolly_answer.specs.RootDiffs.{Counts, IsDoneDiff, IsRootDiff, IsStoppedDiff};
-ghost use Rattle.prolly_answer.specs.RootDiffs.{TellsDiffReads, TellsNumbers, WroteIn, WroteOwn};
+ghost use Rattle.prolly_answer.specs.Outputs.{TookAll, TookSoFar, TookUntil, WroteOwn};
+ghost use Rattle.prolly_answer.specs.RootDiffs.{Counts, IsEndedDiff, IsRootDiff, IsStoppedDiff};
+ghost use Rattle.prolly_answer.specs.RootDiffs.{TellsDiffReads, TellsNumbers, WroteIn};
 ghost use Rattle.prolly_answer.specs.RootDiffs.{fault_of, record_of};
 ghost use Rattle.prolly_answer.specs.RootOutcomes.{RefusesNone};
 ghost use Rattle.prolly_answer.specs.declared.faults.fault.Fault.{Fault as FaultValue};
@@ -15,7 +15,7 @@ ghost use Rattle.prolly_answer.specs.declared.faults.output_fault.OutputFault.Th
 
 use crate::answers::answer::Answer;
 use crate::answers::diff::{ChangeCounts, stat_line, status_of};
-use crate::answers::flushed::{fault_flushed, flush};
+use crate::answers::flushed::settled;
 use crate::faults::{Fault, OutputFault};
 use prolly_entry::{Ref, Version};
 use prolly_file::{Sink, write_all};
@@ -107,31 +107,21 @@ fn write_diff<S: ChunkSource, R: ChunkSource, W: Sink>(
     diff: &RootDiff<'_>,
     sink: &mut W,
 ) -> Result<Told, Fault>
-    ensures ok { IfOk result (λ told. IsDoneDiff diff.now.version diff.now.old.now.0
-        diff.now.new.now.0 diff.now.stat
-        (AreWritten diff.now.form (λ bytes. TookAll W.seen bytes sink.old sink.new)
-        (sink.new ≡ sink.old)) told.changed told.line.items) }
-    ensures err { IfErr result (IsStoppedDiff
+    ensures ended { IsEndedDiff
         (RefusesNone (S.has old.old) diff.now.version diff.now.old.now.0)
         (RefusesNone (R.has new.old) diff.now.version diff.now.new.now.0)
-        diff.now.version diff.now.old.now.0 diff.now.new.now.0
+        diff.now.version diff.now.old.now.0 diff.now.new.now.0 diff.now.stat
         (AreWritten diff.now.form (λ bytes. TookAll W.seen bytes sink.old sink.new)
         (sink.new ≡ sink.old))
         (AreStopped diff.now.form (λ fault bytes. TookUntil W.seen fault bytes sink.old sink.new)
-        Write)) }
+        Write) result }
     ensures reads_old { TellsDiffReads RootOld (S.failures old.old) (S.failures old.new) result }
     ensures reads_new { TellsDiffReads RootNew (R.failures new.old) (R.failures new.new) result }
 {
-    let result = write_changes(alloc, old, new, diff, sink);
-    let Some(_) = diff.form else {
-        return result;
-    };
-    match result {
-        Ok(told) => match flush(sink) {
-            Ok(()) => Ok(told),
-            Err(fault) => Err(fault),
-        },
-        Err(fault) => Err(fault_flushed(sink, fault)),
+    let outcome = write_changes(alloc, old, new, diff, sink);
+    match diff.form {
+        None => outcome,
+        Some(_) => settled(sink, outcome),
     }
 }
 
@@ -143,18 +133,14 @@ fn write_changes<S: ChunkSource, R: ChunkSource, W: Sink>(
     diff: &RootDiff<'_>,
     sink: &mut W,
 ) -> Result<Told, Fault>
-    ensures ok { IfOk result (λ told. IsDoneDiff diff.now.version diff.now.old.now.0
-        diff.now.new.now.0 diff.now.stat
-        (AreWritten diff.now.form (λ bytes. TookSoFar W.seen bytes sink.old sink.new)
-        (sink.new ≡ sink.old)) told.changed told.line.items) }
-    ensures err { IfErr result (IsStoppedDiff
+    ensures ended { IsEndedDiff
         (RefusesNone (S.has old.old) diff.now.version diff.now.old.now.0)
         (RefusesNone (R.has new.old) diff.now.version diff.now.new.now.0)
-        diff.now.version diff.now.old.now.0 diff.now.new.now.0
+        diff.now.version diff.now.old.now.0 diff.now.new.now.0 diff.now.stat
         (AreWritten diff.now.form (λ bytes. TookSoFar W.seen bytes sink.old sink.new)
         (sink.new ≡ sink.old))
         (AreStopped diff.now.form (λ fault bytes. TookUntil W.seen fault bytes sink.old sink.new)
-        Write)) }
+        Write) result }
     ensures reads_old { TellsDiffReads RootOld (S.failures old.old) (S.failures old.new) result }
     ensures reads_new { TellsDiffReads RootNew (R.failures new.old) (R.failures new.new) result }
 {

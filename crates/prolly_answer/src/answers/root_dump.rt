@@ -13,12 +13,13 @@ use crate::answers::flushed::settled;
 use crate::answers::root_scan::key_behind;
 use crate::faults::{Fault, OutputFault, RootOutputFault};
 use crate::lines::append_lines;
-use prolly_check::Pairs;
+use prolly_check::{ManyThreads, Pairs};
 use prolly_entry::{Ref, Version};
 use prolly_file::{Sink, write_all};
-use prolly_root::{ChunkSource, Reader};
+use prolly_root::{ReadAhead, Reader};
 use prolly_text::RecordForm;
 use std::alloc::{AllocError, Global};
+use std::thread::Threads;
 
 /// What `dump` answers to who names the root: it writes the pairs of the tree with this root to the
 /// sink, as records that put them, and shows nothing; or it shows the line of the fault that
@@ -30,7 +31,8 @@ use std::alloc::{AllocError, Global};
 /// one look-up, and for lines those of one leaf; a record file is written from where the pairs lie.
 /// The sink is called once for each leaf, or more often where it takes only a part, and flushed at
 /// the end.
-pub fn answer_dump_by_root<S: ChunkSource, W: Sink>(
+pub fn answer_dump_by_root<R: Threads + Sync, S: ReadAhead, W: Sink>(
+    hasher: &ManyThreads<'_, R>,
     alloc: Global,
     source: &mut S,
     version: Version,
@@ -47,14 +49,15 @@ pub fn answer_dump_by_root<S: ChunkSource, W: Sink>(
         (TakesAllFor W.seen sink.old sink.new) (Err stop) ×
         TellsReadsOf (S.failures source.old) (S.failures source.new) (Err stop)) }
 {
-    match write_dump(alloc, source, version, root, form, sink) {
+    match write_dump(hasher, alloc, source, version, root, form, sink) {
         Ok(()) => Ok(Answer::of_done(alloc)),
         Err(stop) => Answer::of_fault(alloc, Fault::from(stop)),
     }
 }
 
 /// Writes the pairs of a tree, and flushes the sink, also where a fault stops that.
-fn write_dump<S: ChunkSource, W: Sink>(
+fn write_dump<R: Threads + Sync, S: ReadAhead, W: Sink>(
+    hasher: &ManyThreads<'_, R>,
     alloc: Global,
     source: &mut S,
     version: Version,
@@ -67,12 +70,13 @@ fn write_dump<S: ChunkSource, W: Sink>(
     ensures reads { TellsReadsOf (S.failures source.old) (S.failures source.new) result }
 {
     let reader = Reader::open(alloc, source, version, root)?;
-    let outcome = write_leaves(alloc, source, reader, form, sink);
+    let outcome = write_leaves(hasher, alloc, source, reader, form, sink);
     settled(sink, outcome)
 }
 
 /// Writes the pairs of a tree, leaf by leaf, as the reader finds them.
-fn write_leaves<S: ChunkSource, W: Sink>(
+fn write_leaves<R: Threads + Sync, S: ReadAhead, W: Sink>(
+    hasher: &ManyThreads<'_, R>,
     alloc: Global,
     source: &mut S,
     mut reader: Reader<S::Place>,
@@ -87,7 +91,7 @@ fn write_leaves<S: ChunkSource, W: Sink>(
     let mut lines = Vec::new(alloc);
     let mut next = Vec::new(alloc);
     loop {
-        reader.seek(alloc, source, &next)?;
+        reader.seek_on(hasher, alloc, source, &next)?;
         let leaf = reader.leaf_from(&next);
         let Some(last) = leaf.last_key() else {
             return Ok(());

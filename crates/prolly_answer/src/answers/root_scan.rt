@@ -14,12 +14,13 @@ use crate::answers::answer::Answer;
 use crate::answers::flushed::settled;
 use crate::answers::scan::append_first;
 use crate::faults::{Fault, OutputFault, RootOutputFault};
-use prolly_check::Pairs;
+use prolly_check::{ManyThreads, Pairs};
 use prolly_entry::{Ref, Version};
 use prolly_file::{Sink, write_all};
-use prolly_root::{ChunkSource, Reader};
+use prolly_root::{ReadAhead, Reader};
 use prolly_text::Notation;
 use std::alloc::{AllocError, Global};
+use std::thread::Threads;
 
 /// What a scan by the root asks for.
 #[derive(Clone, Copy)]
@@ -48,7 +49,8 @@ pub struct RootScan<'a> {
 /// [`ways_are_right`](prolly_check::laws::ways_are_right). The sink is called once for each leaf, or
 /// more often where it takes only a part, and flushed at the end. Where the limit is 0, nothing is
 /// read.
-pub fn answer_scan_by_root<S: ChunkSource, W: Sink>(
+pub fn answer_scan_by_root<R: Threads + Sync, S: ReadAhead, W: Sink>(
+    hasher: &ManyThreads<'_, R>,
     alloc: Global,
     source: &mut S,
     scan: &RootScan<'_>,
@@ -65,14 +67,15 @@ pub fn answer_scan_by_root<S: ChunkSource, W: Sink>(
         (TakesAllFor W.seen sink.old sink.new) (Err stop) ×
         TellsReadsOf (S.failures source.old) (S.failures source.new) (Err stop)) }
 {
-    match write_scan(alloc, source, scan, sink) {
+    match write_scan(hasher, alloc, source, scan, sink) {
         Ok(()) => Ok(Answer::of_done(alloc)),
         Err(stop) => Answer::of_fault(alloc, Fault::from(stop)),
     }
 }
 
 /// Writes the lines of a scan, and flushes the sink, also where a fault stops that.
-fn write_scan<S: ChunkSource, W: Sink>(
+fn write_scan<R: Threads + Sync, S: ReadAhead, W: Sink>(
+    hasher: &ManyThreads<'_, R>,
     alloc: Global,
     source: &mut S,
     scan: &RootScan<'_>,
@@ -88,12 +91,13 @@ fn write_scan<S: ChunkSource, W: Sink>(
         return Ok(());
     }
     let reader = Reader::open(alloc, source, scan.version, scan.root)?;
-    let outcome = write_leaves(alloc, source, reader, scan, sink);
+    let outcome = write_leaves(hasher, alloc, source, reader, scan, sink);
     settled(sink, outcome)
 }
 
 /// Writes the lines of a scan, leaf by leaf, as the reader finds them.
-fn write_leaves<S: ChunkSource, W: Sink>(
+fn write_leaves<R: Threads + Sync, S: ReadAhead, W: Sink>(
+    hasher: &ManyThreads<'_, R>,
     alloc: Global,
     source: &mut S,
     mut reader: Reader<S::Place>,
@@ -111,7 +115,7 @@ fn write_leaves<S: ChunkSource, W: Sink>(
     let mut next = Vec::from_slice(alloc, scan.from)?;
     let mut left = scan.limit;
     loop {
-        reader.seek(alloc, source, &next)?;
+        reader.seek_on(hasher, alloc, source, &next)?;
         let leaf = reader.leaf_from(&next);
         let Some(last) = leaf.last_key() else {
             return Ok(());

@@ -1,15 +1,14 @@
 //! What `verify` answers of a set of keys.
-ghost use Rattle.std.specs.Prelude.{◌≡◌, ◌≢◌, true, map, Err, IfErr, IfOk, OnErr, OnOk};
+ghost use Rattle.std.specs.Prelude.{◌≡◌, ◌≢◌, map, Err, IfOk, OnErr};
 ghost use Rattle.prolly_range.specs.KeySet.{set_of};
-ghost use Rattle.prolly_answer.specs.Outputs.{TookAll, TookBytes, TookUntil};
+ghost use Rattle.prolly_answer.specs.Outputs.{TookAll, TookPart, TookSoFar, WroteOwn};
 ghost use Rattle.prolly_answer.specs.SetLines.{FitsLeft, RisesIn, alone_lines, left_at_first};
 ghost use Rattle.prolly_answer.specs.SetLines.{left_behind, more_lines};
-ghost use Rattle.prolly_answer.specs.SetProofs.{IsStoppedSet, IsVerifiedSet, IsVerifySet};
-ghost use Rattle.prolly_answer.specs.SetProofs.{TellsProofReads};
+ghost use Rattle.prolly_answer.specs.SetProofs.{IsEndedSet, IsVerifySet, TellsProofReads};
 ghost use Rattle.prolly_answer.specs.declared.faults.fault.Fault.{Fault as FaultValue};
 
 use crate::answers::answer::Answer;
-use crate::answers::flushed::{fault_flushed, flush};
+use crate::answers::flushed::settled;
 use crate::answers::shown_lines::{append_alone, append_shown};
 use crate::faults::{Fault, OutputFault};
 use prolly_entry::{Ref, Version};
@@ -42,20 +41,16 @@ pub fn answer_verify_set<S: Source, W: Sink>(
     set: KeySet<'_>,
     sink: &mut W,
 ) -> Result<Answer, AllocError>
-    ensures ok { IfOk result (IsVerifySet
-        (IsVerifiedSet notation version root.now.0 (set_of set.entry)
-        (S.seen source.old).is_honest (S.seen source.old).left
-        (λ bytes. TookAll W.seen bytes sink.old sink.new))
-        (IsStoppedSet notation version root.now.0 (set_of set.entry)
+    ensures ok { IfOk result (IsVerifySet (IsEndedSet notation version root.now.0 (set_of set.entry)
         (S.seen source.old).is_honest (S.seen source.old).left
         (λ bytes. TookAll W.seen bytes sink.old sink.new)
-        (λ fault bytes. TookUntil W.seen fault bytes sink.old sink.new))
+        (λ bytes. TookPart W.seen bytes sink.old sink.new))
         (TellsProofReads ((S.seen source.new).failures ≢ (S.seen source.old).failures))) }
     ensures err { OnErr result ((fault : FaultValue) ×
-        IsStoppedSet notation version root.now.0 (set_of set.entry)
+        IsEndedSet notation version root.now.0 (set_of set.entry)
         (S.seen source.old).is_honest (S.seen source.old).left
         (λ bytes. TookAll W.seen bytes sink.old sink.new)
-        (λ fault bytes. TookUntil W.seen fault bytes sink.old sink.new) fault ×
+        (λ bytes. TookPart W.seen bytes sink.old sink.new) (Err fault) ×
         TellsProofReads ((S.seen source.new).failures ≢ (S.seen source.old).failures)
         (Err fault)) }
 {
@@ -75,20 +70,15 @@ fn write_set<S: Source, W: Sink>(
     set: KeySet<'_>,
     sink: &mut W,
 ) -> Result<(), Fault>
-    ensures ok { OnOk result (IsVerifiedSet notation version root.now.0 (set_of set.entry)
-        (S.seen source.old).is_honest (S.seen source.old).left
-        (λ bytes. TookAll W.seen bytes sink.old sink.new)) }
-    ensures err { IfErr result (IsStoppedSet notation version root.now.0 (set_of set.entry)
+    ensures ended { IsEndedSet notation version root.now.0 (set_of set.entry)
         (S.seen source.old).is_honest (S.seen source.old).left
         (λ bytes. TookAll W.seen bytes sink.old sink.new)
-        (λ fault bytes. TookUntil W.seen fault bytes sink.old sink.new)) }
+        (λ bytes. TookPart W.seen bytes sink.old sink.new) result }
     ensures reads { TellsProofReads ((S.seen source.new).failures ≢ (S.seen source.old).failures)
         result }
 {
-    match write_chunks(alloc, source, notation, version, root, set, sink) {
-        Ok(()) => flush(sink),
-        Err(fault) => Err(fault_flushed(sink, fault)),
-    }
+    let outcome = write_chunks(alloc, source, notation, version, root, set, sink);
+    settled(sink, outcome)
 }
 
 /// Writes the lines of a set of keys, leaf by leaf, as its proof shows them, and at the end those of
@@ -102,14 +92,10 @@ fn write_chunks<S: Source, W: Sink>(
     set: KeySet<'_>,
     sink: &mut W,
 ) -> Result<(), Fault>
-    ensures ok { OnOk result (IsVerifiedSet notation version root.now.0 (set_of set.entry)
+    ensures ended { IsEndedSet notation version root.now.0 (set_of set.entry)
         (S.seen source.old).is_honest (S.seen source.old).left
-        (λ bytes. TookBytes W.seen bytes sink.old sink.new)) }
-    ensures err { IfErr result (IsStoppedSet notation version root.now.0 (set_of set.entry)
-        (S.seen source.old).is_honest (S.seen source.old).left
-        (λ bytes. TookBytes W.seen bytes sink.old sink.new)
-        (λ fault bytes. TookUntil W.seen fault bytes sink.old sink.new)) }
-    ensures keeping { (W.seen sink.old).is_keeping ≡ true → (W.seen sink.new).is_keeping ≡ true }
+        (λ bytes. TookSoFar W.seen bytes sink.old sink.new)
+        (λ bytes. TookPart W.seen bytes sink.old sink.new) result }
     ensures reads { TellsProofReads ((S.seen source.new).failures ≢ (S.seen source.old).failures)
         result }
 {
@@ -149,11 +135,8 @@ fn write_chunk<'k, W: Sink>(
     requires { FitsLeft (set_of set) (map (λ k. k.items) left.now) chunk.now }
     ensures left { IfOk result (λ rest. map (λ k. k.items) rest.now ≡
         left_behind (set_of set.entry) (map (λ k. k.items) left.now) chunk.now) }
-    ensures ok { OnOk result (TookBytes W.seen (more_lines notation (set_of set.entry)
-        (map (λ k. k.items) left.now) chunk.now) sink.old sink.new) }
-    ensures err { IfErr result (λ fault. TookUntil W.seen fault (more_lines notation
-        (set_of set.entry) (map (λ k. k.items) left.now) chunk.now) sink.old sink.new) }
-    ensures keeping { (W.seen sink.old).is_keeping ≡ true → (W.seen sink.new).is_keeping ≡ true }
+    ensures wrote { WroteOwn W.seen (more_lines notation (set_of set.entry)
+        (map (λ k. k.items) left.now) chunk.now) sink.old sink.new result }
 {
     lines.clear();
     let rest = append_shown(lines, notation, set, left, chunk.pairs())?;
@@ -168,11 +151,8 @@ fn write_alone<W: Sink>(
     keys: &[Vec<u8>],
     sink: &mut W,
 ) -> Result<(), OutputFault>
-    ensures ok { OnOk result (TookBytes W.seen
-        (alone_lines notation (map (λ k. k.items) keys.now)) sink.old sink.new) }
-    ensures err { IfErr result (λ fault. TookUntil W.seen fault
-        (alone_lines notation (map (λ k. k.items) keys.now)) sink.old sink.new) }
-    ensures keeping { (W.seen sink.old).is_keeping ≡ true → (W.seen sink.new).is_keeping ≡ true }
+    ensures { WroteOwn W.seen (alone_lines notation (map (λ k. k.items) keys.now)) sink.old
+        sink.new result }
 {
     lines.clear();
     append_alone(lines, notation, keys)?;

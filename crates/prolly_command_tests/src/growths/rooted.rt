@@ -8,12 +8,14 @@ use prolly_answer::{
     answer_dump_by_root, answer_found, answer_found_pair, answer_found_raw, answer_prove_by_root,
     answer_root, answer_scan_by_root,
 };
-use prolly_check::OneThread;
+use prolly_check::{ManyThreads, OneThread};
 use prolly_entry::{Pair, Ref, Version};
 use prolly_file::{FromRead, ScriptDevice, ScriptSink};
 use prolly_root::{FileChunks, Reader, RootFault};
 use std::alloc::{AllocError, Global};
+use std::num::NonZeroUsize;
 use std::test::Fail;
+use std::thread::Threads;
 
 /// The root of the tree of a=1.
 pub(super) fn root_of_one() -> Ref {
@@ -30,6 +32,11 @@ type Chunks = FileChunks<ScriptDevice>;
 /// The chunks of a file.
 fn chunks_of(file: Vec<u8>) -> Chunks {
     FileChunks::new(ScriptDevice::new(file, None))
+}
+
+/// One thread that takes the hashes of leaves that are read ahead.
+fn one_thread<T: Threads + Sync>(threads: &T) -> ManyThreads<'_, T> {
+    ManyThreads::new(threads, NonZeroUsize::MIN)
 }
 
 /// The value of the key a.
@@ -82,7 +89,7 @@ fn a_scan_by_the_root_is_written_or_wants_memory(rt: HostRuntime) -> Result<(), 
         limit: 5,
         notation: Notation::Hex,
     };
-    let answer = answer_scan_by_root(alloc, &mut chunks, &scan, &mut sink);
+    let answer = answer_scan_by_root(&one_thread(&rt), alloc, &mut chunks, &scan, &mut sink);
     expect_begun(&rt, answer, 0, sink.taken(), b"61 31\n");
     Ok(())
 }
@@ -127,7 +134,15 @@ fn a_dump_by_the_root_is_written_or_wants_memory(rt: HostRuntime) -> Result<(), 
     ] {
         let mut chunks = chunks_of_one(alloc)?;
         let mut sink = ScriptSink::new(alloc, 4_096, None);
-        let answer = answer_dump_by_root(alloc, &mut chunks, version, &root, form, &mut sink);
+        let answer = answer_dump_by_root(
+            &one_thread(&rt),
+            alloc,
+            &mut chunks,
+            version,
+            &root,
+            form,
+            &mut sink,
+        );
         expect_begun(&rt, answer, 0, sink.taken(), whole);
     }
     Ok(())

@@ -2,7 +2,7 @@
 use prolly_entry::Ref;
 use prolly_file::{Header, Sink, Source};
 use prolly_link::RunFault;
-use prolly_root::{ChunkSource, RootFault};
+use prolly_root::{ReadAhead, RootFault};
 use prolly_stage::Gate;
 use prolly_tool::{
     Answer, AppliedChanges, ApplyFault, CHANGES_LIMIT, Config, FILES_LIMIT, Fault, Permit, Report,
@@ -14,7 +14,7 @@ use std::thread::Threads;
 
 fn applied<
     R: Wait + Threads + Sync,
-    D: ChunkSource + Send + Drop,
+    D: ReadAhead + Send + Drop,
     S: Source + Send + Drop,
     W: Sink,
     G: Gate,
@@ -36,7 +36,7 @@ where
 
 fn applied_with<
     R: Wait + Threads + Sync,
-    D: ChunkSource + Send + Drop,
+    D: ReadAhead + Send + Drop,
     S: Source + Send + Drop,
     W: Sink,
     G: Gate,

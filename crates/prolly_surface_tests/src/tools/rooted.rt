@@ -1,9 +1,9 @@
 //! What `prolly_tool` answers to who names the root.
-use prolly_check::OneThread;
+use prolly_check::{ManyThreads, OneThread};
 use prolly_entry::{Pair, Ref, Version};
 use prolly_file::{Device, Sink, Source};
 use prolly_range::KeySet;
-use prolly_root::{ChunkSource, RootFault};
+use prolly_root::{ChunkSource, ReadAhead, RootFault};
 use prolly_tool::{
     Answer, Notation, RecordForm, RootDiff, RootPair, RootScan, answer_check_by_root,
     answer_diff_by_root, answer_dump_by_root, answer_found, answer_found_pair, answer_found_raw,
@@ -11,12 +11,14 @@ use prolly_tool::{
     answer_scan_by_root, answer_verify, answer_verify_set,
 };
 use std::alloc::{AllocError, Global};
+use std::thread::Threads;
 
 const VERSION: Version = Version::One;
 
 const HEX: Notation = Notation::Hex;
 
-fn written<S: ChunkSource, W: Sink>(
+fn written<R: Threads + Sync, S: ReadAhead, W: Sink>(
+    hasher: &ManyThreads<'_, R>,
     alloc: Global,
     chunks: &mut S,
     root: &Ref,
@@ -30,9 +32,17 @@ fn written<S: ChunkSource, W: Sink>(
         limit: 1,
         notation: HEX,
     };
-    answer_scan_by_root(alloc, chunks, &scan, sink)?;
+    answer_scan_by_root(hasher, alloc, chunks, &scan, sink)?;
     answer_get_keys_by_root(alloc, chunks, VERSION, root, keys, HEX, sink)?;
-    answer_dump_by_root(alloc, chunks, VERSION, root, RecordForm::Records, sink)
+    answer_dump_by_root(
+        hasher,
+        alloc,
+        chunks,
+        VERSION,
+        root,
+        RecordForm::Records,
+        sink,
+    )
 }
 
 fn proved<S: ChunkSource, W: Sink>(

@@ -7,7 +7,7 @@ use Rattle.prolly_answer.proofs.RootDiffSteps.{WrotePart, WroteSoFar, all_told, 
 use Rattle.prolly_answer.proofs.RootDiffSteps.{goes_on, keeps_first, keeps_on, may_new, may_old}
 use Rattle.prolly_answer.proofs.RootDiffSteps.{memory_stopped, memory_tells, new_memory, new_write}
 use Rattle.prolly_answer.proofs.RootDiffSteps.{old_memory, old_write, output_new, output_old, told_reads}
-use Rattle.prolly_answer.proofs.RootDiffSteps.{untold, unwritten, walk_stopped, walk_tells_new}
+use Rattle.prolly_answer.proofs.RootDiffSteps.{unwritten, walk_stopped, walk_tells_new}
 use Rattle.prolly_answer.proofs.RootDiffSteps.{walk_tells_old}
 use Rattle.prolly_answer.proofs.answers.root_diff.write_changes.Goals as goal
 
@@ -26,8 +26,8 @@ walk-init g c = record {
       c.in-Ok.walk.after c.in-Ok.ensures.begun.after;
 }
 
-pub returns-in-Ok-None-clause-ok : goal.returns-in-Ok-None-clause-ok
-returns-in-Ok-None-clause-ok g c = all_told g.W.Sink.seen c.args.diff.now.version c.args.diff.now.old.now.0
+pub returns-in-Ok-None-clause-ended : goal.returns-in-Ok-None-clause-ended
+returns-in-Ok-None-clause-ended g c = all_told g.W.Sink.seen c.args.diff.now.version c.args.diff.now.old.now.0
     c.args.diff.now.new.now.0 c.args.diff.now.form c.args.diff.now.stat
     (lefts_of c.walk.walk) c.walk.walk.notes c.walk.changed c.walk.counts c.args.sink.now
     c.walk.sink c.walk.invariant.gave c.next.new.self
@@ -40,18 +40,11 @@ returns-in-Ok-None-clause-ok g c = all_told g.W.Sink.seen c.args.diff.now.versio
     c.walk.invariant.gave.noted)))
     (subst (λ v. Gives v (lefts_of c.walk.walk) None (lefts_of c.next.new.self))
     c.walk.invariant.version (rw c.in-Ok-None.field-0-is at c.in-Ok-None.ensures.gives))
-    c.told_of.result c.told_of.ensures.changed c.told_of.ensures.line
-
-pub returns-in-Ok-None-clause-err : goal.returns-in-Ok-None-clause-err
-returns-in-Ok-None-clause-err g c = untold g.W.Sink.seen c.args.diff.now.version c.args.diff.now.old.now.0
-    c.args.diff.now.new.now.0 c.args.diff.now.form c.args.diff.now.stat
-    (lefts_of c.walk.walk) c.walk.walk.notes c.walk.changed c.walk.counts c.args.sink.now
-    c.walk.sink c.walk.invariant.gave
     (RefusesNone (g.S.ChunkSource.has c.args.old.now) c.args.diff.now.version
     c.args.diff.now.old.now.0) (RefusesNone (g.R.ChunkSource.has c.args.new.now) c.args.diff.now.version
     c.args.diff.now.new.now.0)
     (WrotePart g.W.Sink.seen c.args.diff.now.form c.args.sink.now c.walk.sink) c.told_of.result
-    c.told_of.ensures.err
+    c.told_of.ensures.changed c.told_of.ensures.line c.told_of.ensures.err
 
 pub returns-in-Ok-None-clause-reads_old : goal.returns-in-Ok-None-clause-reads_old
 returns-in-Ok-None-clause-reads_old g c = told_reads RootOld old_write _ _ old_memory
@@ -63,8 +56,8 @@ returns-in-Ok-None-clause-reads_new g c = told_reads RootNew new_write _ _ new_m
     (c.in-Ok-None.ensures.new.still.failures_are ∙ c.walk.invariant.new.still.failures_are)
     c.told_of.result c.told_of.ensures.err
 
-pub returns-in-Err-count-clause-err : goal.returns-in-Err-count-clause-err
-returns-in-Err-count-clause-err g c = memory_stopped
+pub returns-in-Err-count-clause-ended : goal.returns-in-Err-count-clause-ended
+returns-in-Err-count-clause-ended g c = memory_stopped
     (RefusesNone (g.S.ChunkSource.has c.args.old.now) c.args.diff.now.version
     c.args.diff.now.old.now.0) (RefusesNone (g.R.ChunkSource.has c.args.new.now) c.args.diff.now.version
     c.args.diff.now.new.now.0)
@@ -86,8 +79,8 @@ returns-in-Err-count-clause-reads_new g c = memory_tells RootNew new_write _ _ c
     c.in-Err-count.ensures.err new_memory
     (c.in-Ok-Some.ensures.new.still.failures_are ∙ c.walk.invariant.new.still.failures_are)
 
-pub returns-in-Err-clause-err : goal.returns-in-Err-clause-err
-returns-in-Err-clause-err g c = rw c.fault_of.ensures (walk_stopped
+pub returns-in-Err-clause-ended : goal.returns-in-Err-clause-ended
+returns-in-Err-clause-ended g c = rw c.fault_of.ensures (walk_stopped
     (RefusesNone (g.S.ChunkSource.has c.args.old.now) c.args.diff.now.version
     c.args.diff.now.old.now.0) (RefusesNone (g.R.ChunkSource.has c.args.new.now) c.args.diff.now.version
     c.args.diff.now.new.now.0)
@@ -119,8 +112,8 @@ returns-in-Err-clause-reads_new g c = rw c.fault_of.ensures (walk_tells_new g.R.
     c.next.new.self.after c.walk.invariant.new.still.failures_are c.in-Err.fault
     c.in-Err.ensures.new)
 
-pub returns-in-Err-write_change-clause-err : goal.returns-in-Err-write_change-clause-err
-returns-in-Err-write_change-clause-err g c = rw c.from.ensures (unwritten g.W.Sink.seen c.args.diff.now.version c.args.diff.now.old.now.0
+pub returns-in-Err-write_change-clause-ended : goal.returns-in-Err-write_change-clause-ended
+returns-in-Err-write_change-clause-ended g c = rw c.from.ensures (unwritten g.W.Sink.seen c.args.diff.now.version c.args.diff.now.old.now.0
     c.args.diff.now.new.now.0 c.args.diff.now.form c.args.diff.now.stat
     (lefts_of c.walk.walk) c.walk.walk.notes c.walk.changed c.walk.counts c.args.sink.now
     c.walk.sink c.walk.invariant.gave

@@ -25,14 +25,14 @@ loop-next-init g c = record {
   opened = λ content has opened. opened;
 }
 
-pub returns-in_err-seek-clause-dumped : goal.returns-in_err-seek-clause-dumped
-returns-in_err-seek-clause-dumped g c =
+pub returns-in_err-seek_on-clause-dumped : goal.returns-in_err-seek_on-clause-dumped
+returns-in_err-seek_on-clause-dumped g c =
     let p = err_from_is_err_and c.from_residual.result c.from_residual.ensures.1 in
     rw (p.1, p.2) (seek_fails g.W.Sink.seen c.args.reader.version c.args.reader.root []
     EndsEmpty (written_pairs c.args.form) c.loop-next.next.items c.args.sink.now c.loop-next.sink c.loop-next.invariant.dump
     (RefusesNoneOf g.S.ChunkSource.is_place (g.S.ChunkSource.has c.args.source.now) c.args.reader)
-    c.in_err-seek.field-0.0
-    (λ content has opened. c.in_err-seek.ensures.looked.lawful content
+    c.in_err-seek_on.field-0.0
+    (λ content has opened. c.in_err-seek_on.ensures.looked.lawful content
     (c.loop-next.invariant.keeps content has) (c.loop-next.invariant.opened content has opened)))
 
 pub returns-in_default-clause-dumped : goal.returns-in_default-clause-dumped
@@ -40,10 +40,10 @@ returns-in_default-clause-dumped g c =
     let inv = c.loop-next.invariant in
     let next = c.loop-next.next.items in
     let leaf = c.leaf_from-leaf.result in
-    let way = way_of c.seek.new.self in
+    let way = way_of c.seek_on.new.self in
     let is = leaf_found c.args.reader c.loop-next.reader next c.deref.result.now
     c.deref-in-loop-next.result.now way leaf inv.version inv.root c.deref.ensures.value
-    c.deref-in-loop-next.ensures.value c.in_ok-seek.ensures.found c.leaf_from-leaf.ensures in
+    c.deref-in-loop-next.ensures.value c.in_ok-seek_on.ensures.found c.leaf_from-leaf.ensures in
     seek_ends g.W.Sink.seen c.args.reader.version c.args.reader.root [] EndsEmpty
     (written_pairs c.args.form) next c.args.sink.now c.loop-next.sink inv.dump
     (RefusesNoneOf g.S.ChunkSource.is_place (g.S.ChunkSource.has c.args.source.now) c.args.reader)
@@ -57,10 +57,10 @@ returns-in_err-write_leaf-clause-dumped g c =
     let inv = c.loop-next.invariant in
     let next = c.loop-next.next.items in
     let leaf = c.leaf_from-leaf.result in
-    let way = way_of c.seek.new.self in
+    let way = way_of c.seek_on.new.self in
     let is = leaf_found c.args.reader c.loop-next.reader next c.deref.result.now
     c.deref-in-loop-next.result.now way leaf inv.version inv.root c.deref.ensures.value
-    c.deref-in-loop-next.ensures.value c.in_ok-seek.ensures.found c.leaf_from-leaf.ensures in
+    c.deref-in-loop-next.ensures.value c.in_ok-seek_on.ensures.found c.leaf_from-leaf.ensures in
     let p = err_from_is_err_and c.from_residual-in_err-write_leaf.result
     c.from_residual-in_err-write_leaf.ensures.1 in
     rw (p.1, p.2) (leaf_unwritten g.W.Sink.seen c.args.reader.version c.args.reader.root []
@@ -74,10 +74,10 @@ returns-in_err-next-clause-dumped g c =
     let inv = c.loop-next.invariant in
     let next = c.loop-next.next.items in
     let leaf = c.leaf_from-leaf.result in
-    let way = way_of c.seek.new.self in
+    let way = way_of c.seek_on.new.self in
     let is = leaf_found c.args.reader c.loop-next.reader next c.deref.result.now
     c.deref-in-loop-next.result.now way leaf inv.version inv.root c.deref.ensures.value
-    c.deref-in-loop-next.ensures.value c.in_ok-seek.ensures.found c.leaf_from-leaf.ensures in
+    c.deref-in-loop-next.ensures.value c.in_ok-seek_on.ensures.found c.leaf_from-leaf.ensures in
     let p = err_from_is_err_and c.from_residual-in_err-next.result
     c.from_residual-in_err-next.ensures.1 in
     rw (p.1, p.2) (leaf_wants g.W.Sink.seen c.args.reader.version c.args.reader.root []
@@ -91,10 +91,10 @@ loop-next-smaller g c =
     let inv = c.loop-next.invariant in
     let next = c.loop-next.next.items in
     let leaf = c.leaf_from-leaf.result in
-    let way = way_of c.seek.new.self in
+    let way = way_of c.seek_on.new.self in
     let is = leaf_found c.args.reader c.loop-next.reader next c.deref.result.now
     c.deref-in-loop-next.result.now way leaf inv.version inv.root c.deref.ensures.value
-    c.deref-in-loop-next.ensures.value c.in_ok-seek.ensures.found c.leaf_from-leaf.ensures in
+    c.deref-in-loop-next.ensures.value c.in_ok-seek_on.ensures.found c.leaf_from-leaf.ensures in
     less_room_behind next c.in-Some.last.now c.in_ok-next.next.items way leaf is
     c.in-Some.ensures.key.0 c.in-Some.ensures.key.1 c.in-Some.ensures.short inv.bytes
     (all_bytes c.in-Some.last.now c.key_behind.ensures.bytes) c.in_ok-next.ensures.behind
@@ -104,13 +104,13 @@ loop-next-preserved g c =
     let inv = c.loop-next.invariant in
     let next = c.loop-next.next.items in
     let leaf = c.leaf_from-leaf.result in
-    let way = way_of c.seek.new.self in
+    let way = way_of c.seek_on.new.self in
     let is = leaf_found c.args.reader c.loop-next.reader next c.deref.result.now
     c.deref-in-loop-next.result.now way leaf inv.version inv.root c.deref.ensures.value
-    c.deref-in-loop-next.ensures.value c.in_ok-seek.ensures.found c.leaf_from-leaf.ensures in
+    c.deref-in-loop-next.ensures.value c.in_ok-seek_on.ensures.found c.leaf_from-leaf.ensures in
     record {
-      version = c.in_ok-seek.ensures.looked.of.0 ∙ inv.version;
-      root = c.in_ok-seek.ensures.looked.of.1 ∙ inv.root;
+      version = c.in_ok-seek_on.ensures.looked.of.0 ∙ inv.version;
+      root = c.in_ok-seek_on.ensures.looked.of.1 ∙ inv.root;
       dump = goes_on g.W.Sink.seen c.args.reader.version c.args.reader.root [] EndsEmpty
           (written_pairs c.args.form) next c.args.sink.now c.loop-next.sink inv.dump
           (RefusesNoneOf g.S.ChunkSource.is_place (g.S.ChunkSource.has c.args.source.now) c.args.reader)
@@ -121,8 +121,8 @@ loop-next-preserved g c =
           (c.in_ok-next.ensures.behind ∙ ap next_key c.in-Some.ensures.key.1);
       bytes = subst AreBytes (sym c.in_ok-next.ensures.behind)
           (next_bytes c.in-Some.last.now (all_bytes c.in-Some.last.now c.key_behind.ensures.bytes));
-      reads = c.in_ok-seek.ensures.looked.reads ∙ inv.reads;
-      keeps = λ content has. c.in_ok-seek.ensures.looked.keeps content (inv.keeps content has);
-      opened = λ content has opened. c.in_ok-seek.ensures.looked.kept content (inv.keeps content has)
+      reads = c.in_ok-seek_on.ensures.looked.reads ∙ inv.reads;
+      keeps = λ content has. c.in_ok-seek_on.ensures.looked.keeps content (inv.keeps content has);
+      opened = λ content has opened. c.in_ok-seek_on.ensures.looked.kept content (inv.keeps content has)
           (inv.opened content has opened);
     }

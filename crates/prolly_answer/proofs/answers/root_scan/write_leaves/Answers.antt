@@ -39,18 +39,18 @@ loop-next-init g c = record {
   opened = λ content has opened. opened;
 }
 
-pub returns-in_err-seek-clause-scanned : goal.returns-in_err-seek-clause-scanned
-returns-in_err-seek-clause-scanned g c =
+pub returns-in_err-seek_on-clause-scanned : goal.returns-in_err-seek_on-clause-scanned
+returns-in_err-seek_on-clause-scanned g c =
     let inv = c.loop-next.invariant in
-    let p = err_from_is_err_and c.from_residual-in_err-seek.result
-    c.from_residual-in_err-seek.ensures.1 in
+    let p = err_from_is_err_and c.from_residual-in_err-seek_on.result
+    c.from_residual-in_err-seek_on.ensures.1 in
     rw (p.1, p.2) (seek_fails g.W.Sink.seen c.args.reader.version c.args.reader.root
     c.args.scan.now.from.now (AreEnough c.args.scan.now.limit)
     (limited_lines c.args.scan.now.notation c.args.scan.now.limit) c.loop-next.next.items
     c.args.sink.now c.loop-next.sink inv.scan.0
     (RefusesNoneOf g.S.ChunkSource.is_place (g.S.ChunkSource.has c.args.source.now) c.args.reader)
-    c.in_err-seek.field-0.0
-    (λ content has opened. c.in_err-seek.ensures.looked.lawful content (inv.keeps content has)
+    c.in_err-seek_on.field-0.0
+    (λ content has opened. c.in_err-seek_on.ensures.looked.lawful content (inv.keeps content has)
     (inv.opened content has opened)))
 
 pub returns-in_default-clause-scanned : goal.returns-in_default-clause-scanned
@@ -61,10 +61,10 @@ returns-in_default-clause-scanned g c =
     let limit = c.args.scan.now.limit in
     let notation = c.args.scan.now.notation in
     let leaf = c.leaf_from-leaf.result in
-    let way = way_of c.seek.new.self in
+    let way = way_of c.seek_on.new.self in
     let is = leaf_found c.args.reader c.loop-next.reader next c.deref.result.now
     c.deref-in-loop-next.result.now way leaf inv.version inv.root c.deref.ensures.value
-    c.deref-in-loop-next.ensures.value c.in_ok-seek.ensures.found c.leaf_from-leaf.ensures in
+    c.deref-in-loop-next.ensures.value c.in_ok-seek_on.ensures.found c.leaf_from-leaf.ensures in
     seek_ends g.W.Sink.seen c.args.reader.version c.args.reader.root c.args.scan.now.from.now
     (AreEnough limit) (limited_lines notation limit) next c.args.sink.now c.loop-next.sink
     inv.scan.0
@@ -83,10 +83,10 @@ returns-in_err-left-clause-scanned g c =
     let limit = c.args.scan.now.limit in
     let notation = c.args.scan.now.notation in
     let leaf = c.leaf_from-leaf.result in
-    let way = way_of c.seek.new.self in
+    let way = way_of c.seek_on.new.self in
     let is = leaf_found c.args.reader c.loop-next.reader next c.deref.result.now
     c.deref-in-loop-next.result.now way leaf inv.version inv.root c.deref.ensures.value
-    c.deref-in-loop-next.ensures.value c.in_ok-seek.ensures.found c.leaf_from-leaf.ensures in
+    c.deref-in-loop-next.ensures.value c.in_ok-seek_on.ensures.found c.leaf_from-leaf.ensures in
     let p = err_from_is_err_and c.from_residual-in_err-left.result
     c.from_residual-in_err-left.ensures.1 in
     rw (p.1, p.2) (leaf_unwritten g.W.Sink.seen c.args.reader.version c.args.reader.root c.args.scan.now.from.now
@@ -105,10 +105,10 @@ returns-then-left-eq0-clause-scanned g c =
     let limit = c.args.scan.now.limit in
     let notation = c.args.scan.now.notation in
     let leaf = c.leaf_from-leaf.result in
-    let way = way_of c.seek.new.self in
+    let way = way_of c.seek_on.new.self in
     let is = leaf_found c.args.reader c.loop-next.reader next c.deref.result.now
     c.deref-in-loop-next.result.now way leaf inv.version inv.root c.deref.ensures.value
-    c.deref-in-loop-next.ensures.value c.in_ok-seek.ensures.found c.leaf_from-leaf.ensures in
+    c.deref-in-loop-next.ensures.value c.in_ok-seek_on.ensures.found c.leaf_from-leaf.ensures in
     leaf_fills g.W.Sink.seen c.args.reader.version c.args.reader.root c.args.scan.now.from.now
     (AreEnough limit) (limited_lines notation limit) next c.args.sink.now c.loop-next.sink
     inv.scan.0
@@ -127,10 +127,10 @@ returns-in_err-next-2-clause-scanned g c =
     let limit = c.args.scan.now.limit in
     let notation = c.args.scan.now.notation in
     let leaf = c.leaf_from-leaf.result in
-    let way = way_of c.seek.new.self in
+    let way = way_of c.seek_on.new.self in
     let is = leaf_found c.args.reader c.loop-next.reader next c.deref.result.now
     c.deref-in-loop-next.result.now way leaf inv.version inv.root c.deref.ensures.value
-    c.deref-in-loop-next.ensures.value c.in_ok-seek.ensures.found c.leaf_from-leaf.ensures in
+    c.deref-in-loop-next.ensures.value c.in_ok-seek_on.ensures.found c.leaf_from-leaf.ensures in
     let p = err_from_is_err_and c.from_residual-in_err-next-2.result
     c.from_residual-in_err-next-2.ensures.1 in
     rw (p.1, p.2) (leaf_wants g.W.Sink.seen c.args.reader.version c.args.reader.root c.args.scan.now.from.now
@@ -157,14 +157,14 @@ loop-next-preserved g c =
     let limit = c.args.scan.now.limit in
     let notation = c.args.scan.now.notation in
     let leaf = c.leaf_from-leaf.result in
-    let way = way_of c.seek.new.self in
+    let way = way_of c.seek_on.new.self in
     let is = leaf_found c.args.reader c.loop-next.reader next c.deref.result.now
     c.deref-in-loop-next.result.now way leaf inv.version inv.root c.deref.ensures.value
-    c.deref-in-loop-next.ensures.value c.in_ok-seek.ensures.found c.leaf_from-leaf.ensures in
+    c.deref-in-loop-next.ensures.value c.in_ok-seek_on.ensures.found c.leaf_from-leaf.ensures in
     let lists = inv.scan.0.lists in
     record {
-      version = c.in_ok-seek.ensures.looked.of.0 ∙ inv.version;
-      root = c.in_ok-seek.ensures.looked.of.1 ∙ inv.root;
+      version = c.in_ok-seek_on.ensures.looked.of.0 ∙ inv.version;
+      root = c.in_ok-seek_on.ensures.looked.of.1 ∙ inv.root;
       scan = (
         goes_on g.W.Sink.seen c.args.reader.version c.args.reader.root c.args.scan.now.from.now
             (AreEnough limit) (limited_lines notation limit) next c.args.sink.now c.loop-next.sink
@@ -181,8 +181,8 @@ loop-next-preserved g c =
         c.in_ok-left.ensures.left ∙ are_left limit left lists leaf inv.scan.1,
         omega (arith, c.if-left-eq0.false),
       );
-      reads = c.in_ok-seek.ensures.looked.reads ∙ inv.reads;
-      keeps = λ content has. c.in_ok-seek.ensures.looked.keeps content (inv.keeps content has);
-      opened = λ content has opened. c.in_ok-seek.ensures.looked.kept content (inv.keeps content has)
+      reads = c.in_ok-seek_on.ensures.looked.reads ∙ inv.reads;
+      keeps = λ content has. c.in_ok-seek_on.ensures.looked.keeps content (inv.keeps content has);
+      opened = λ content has opened. c.in_ok-seek_on.ensures.looked.kept content (inv.keeps content has)
           (inv.opened content has opened);
     }

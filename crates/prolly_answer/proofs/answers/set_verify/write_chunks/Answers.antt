@@ -10,8 +10,8 @@ use Rattle.prolly_answer.proofs.SetSteps.{lines_tell, range_begins, range_ends, 
 use Rattle.prolly_answer.proofs.SetSteps.{range_goes_on, range_refused, range_unwritten, unfailed}
 use Rattle.prolly_answer.proofs.answers.set_verify.write_chunks.Goals as goal
 
-pub returns-in_err-verifier-clause-err : goal.returns-in_err-verifier-clause-err
-returns-in_err-verifier-clause-err g c =
+pub returns-in_err-verifier-clause-ended : goal.returns-in_err-verifier-clause-ended
+returns-in_err-verifier-clause-ended g c =
     let p = err_from_is_err_and c.from_residual.result c.from_residual.ensures.1 in
     rw (p.1, p.2) (range_refused g.W.Sink.seen c.args.notation c.args.version c.args.root.now.0
     (set_of c.args.set) (g.S.Source.seen c.args.source.now).is_honest
@@ -37,8 +37,8 @@ loop-lines-init g c =
           (g.S.Source.seen c.open.new.source).failures c.in_ok-verifier.ensures.read;
     }
 
-pub returns-in_err-chunk-clause-err : goal.returns-in_err-chunk-clause-err
-returns-in_err-chunk-clause-err g c =
+pub returns-in_err-chunk-clause-ended : goal.returns-in_err-chunk-clause-ended
+returns-in_err-chunk-clause-ended g c =
     let p = err_from_is_err_and c.from_residual-in_err-chunk.result
     c.from_residual-in_err-chunk.ensures.1 in
     let inv = c.loop-lines.invariant in
@@ -54,8 +54,8 @@ returns-in_err-chunk-clause-err g c =
     (λ honest rest. c.in_err-chunk.ensures.accepts (inv.honest honest) inv.going
     (subst (λ v. IsRestOf v verifier.due left) (sym inv.version) rest)))
 
-pub returns-in_err-left-clause-err : goal.returns-in_err-left-clause-err
-returns-in_err-left-clause-err g c =
+pub returns-in_err-left-clause-ended : goal.returns-in_err-left-clause-ended
+returns-in_err-left-clause-ended g c =
     let p = err_from_is_err_and c.from_residual-in_err-left.result
     c.from_residual-in_err-left.ensures.1 in
     let inv = c.loop-lines.invariant in
@@ -71,7 +71,7 @@ returns-in_err-left-clause-err g c =
     (chunk_came c.args.version verifier.due next left after first
     (g.S.Source.seen c.loop-lines.source).is_honest inv.honest c.in-Some.chunk
     c.in_ok-chunk.field-0 c.in-Some.is verifier.version inv.version c.in_ok-chunk.ensures.comes)
-    c.write_chunk.new.sink c.in_err-left.field-0.0 c.in_err-left.ensures.err)
+    c.write_chunk.new.sink _ c.in_err-left.field-0.0 c.in_err-left.ensures.wrote)
 
 pub returns-in_err-left-clause-reads : goal.returns-in_err-left-clause-reads
 returns-in_err-left-clause-reads g c =
@@ -101,11 +101,11 @@ loop-lines-preserved g c =
           after (chunk_came c.args.version verifier.due next left after first
           (g.S.Source.seen c.loop-lines.source).is_honest inv.honest c.in-Some.chunk
           c.in_ok-chunk.field-0 c.in-Some.is verifier.version inv.version
-          c.in_ok-chunk.ensures.comes) c.write_chunk.new.sink c.next.new.self.count
-          (map (λ k. k.items) c.in_ok-left.left.now)
+          c.in_ok-chunk.ensures.comes) c.write_chunk.new.sink c.in_ok-left.left
+          c.next.new.self.count (map (λ k. k.items) c.in_ok-left.left.now)
           (subst (λ chunk. MatchOption chunk (c.next.new.self.count ≡ verifier.count)
           (λ _. c.next.new.self.count ≡ next_count verifier.count)) c.in-Some.is
-          c.in_ok-chunk.ensures.count) c.in_ok-left.ensures.left c.in_ok-left.ensures.ok c.write_chunk.ensures.keeping;
+          c.in_ok-chunk.ensures.count) c.in_ok-left.ensures.left c.in_ok-left.ensures.wrote;
       honest = λ honest. c.in_ok-chunk.ensures.honest (inv.honest honest);
       failures = unfailed c.in_ok-chunk.field-0 (g.S.Source.seen c.loop-lines.source).failures
           (g.S.Source.seen c.next.new.source).failures c.in_ok-chunk.ensures.read ∙ inv.failures;
@@ -127,8 +127,8 @@ write_chunk-requires g c =
     (g.S.Source.seen c.loop-lines.source).is_honest inv.honest c.in-Some.chunk
     c.in_ok-chunk.field-0 c.in-Some.is verifier.version inv.version c.in_ok-chunk.ensures.comes)
 
-pub returns-in_err-write_alone-clause-err : goal.returns-in_err-write_alone-clause-err
-returns-in_err-write_alone-clause-err g c =
+pub returns-in_err-write_alone-clause-ended : goal.returns-in_err-write_alone-clause-ended
+returns-in_err-write_alone-clause-ended g c =
     let p = err_from_is_err_and c.from_residual-in_err-write_alone.result
     c.from_residual-in_err-write_alone.ensures.1 in
     let inv = c.loop-lines.invariant in
@@ -144,7 +144,7 @@ returns-in_err-write_alone-clause-err g c =
     (end_came c.args.version verifier.due next left (g.S.Source.seen c.next.new.source).left first
     (g.S.Source.seen c.loop-lines.source).is_honest inv.honest c.in_ok-chunk.field-0 none
     verifier.version c.in_ok-chunk.ensures.comes) c.write_alone.new.sink
-    c.in_err-write_alone.field-0.0 c.in_err-write_alone.ensures.err)
+    c.in_err-write_alone.field-0.0 c.in_err-write_alone.ensures)
 
 pub returns-in_err-write_alone-clause-reads : goal.returns-in_err-write_alone-clause-reads
 returns-in_err-write_alone-clause-reads g c =
@@ -156,8 +156,8 @@ returns-in_err-write_alone-clause-reads g c =
     (unfailed c.in_ok-chunk.field-0 (g.S.Source.seen c.loop-lines.source).failures now
     c.in_ok-chunk.ensures.read ∙ c.loop-lines.invariant.failures))
 
-pub returns-clause-ok : goal.returns-clause-ok
-returns-clause-ok g c =
+pub returns-clause-ended : goal.returns-clause-ended
+returns-clause-ended g c =
     let inv = c.loop-lines.invariant in
     let verifier = c.loop-lines.verifier in
     let first = (g.S.Source.seen c.args.source.now).is_honest in
@@ -171,4 +171,4 @@ returns-clause-ok g c =
     (end_came c.args.version verifier.due next left (g.S.Source.seen c.next.new.source).left first
     (g.S.Source.seen c.loop-lines.source).is_honest inv.honest c.in_ok-chunk.field-0 none
     verifier.version c.in_ok-chunk.ensures.comes) c.write_alone.new.sink
-    c.in_ok-write_alone.ensures.ok c.write_alone.ensures.keeping
+    c.in_ok-write_alone.field-0 c.in_ok-write_alone.ensures
