@@ -2,9 +2,9 @@
 """Proves and builds the program with the libraries that it stands on, and says a line a crate: `tools/prove.py [JOBS]`.
 
 JOBS crates are proved side by side, each by one job of the prover, since every further job of one crate loads all that it
-stands on once more. Without JOBS there are as many as processors, and fewer where memory is short. A crate beside which
-nothing can run, as the first one and the last ones, is proved by up to four jobs. What the prover notes goes to a log, which is
-named where a proof fails.
+stands on once more. Without JOBS there are as many as processors, and fewer where memory is short. The first crate, beside
+which nothing can run, and the last ones, of which two could at most, are proved one by one by up to four jobs. What the prover
+notes goes to a log, which is named where a proof fails.
 """
 
 import os
@@ -12,19 +12,20 @@ import signal
 import subprocess
 import sys
 import time
-from itertools import combinations
+from itertools import combinations, starmap
 from pathlib import Path
 
 TOP = Path(__file__).resolve().parents[1]
 CRATES = TOP / "crates"
 PROGRAM = "prolly"
+LIBRARIES = "prolly_tool"
 LOG = CRATES / PROGRAM / "out" / "proofs.log"
 
 JOB_BYTES = 2_500_000_000
 """What a job takes of memory at most, but for the last ones, which run alone."""
 
 JOBS_ALONE = 4
-"""By how many jobs a crate is proved at most beside which no other one can be."""
+"""By how many jobs a crate is proved at most while no other one is."""
 
 
 def main():
@@ -33,7 +34,7 @@ def main():
     LOG.parent.mkdir(parents=True, exist_ok=True)
     with open(LOG, "w", encoding="utf-8") as log:
         proving = Proving(jobs, log)
-        root = proving.alone() and proving.side_by_side() and proving.alone() and proving.built()
+        root = proving.first() and proving.side_by_side() and proving.last() and proving.built()
     if not root:
         sys.exit(f"what the prover says stands in {LOG.relative_to(TOP)}")
     print(f"crates/{PROGRAM}/out/{PROGRAM} is built; the root of the empty map is {root}")
@@ -52,13 +53,21 @@ class Proving:
     def __init__(self, jobs, log):
         self.jobs, self.log, self.start = jobs, log, time.monotonic()
         self.below = {crate: crates_below(crate) for crate in [PROGRAM, *crates_below(PROGRAM)]}
+        self.beside = crates_below(LIBRARIES)
         self.left = set(self.below)
 
+    def first(self):
+        """Proves the crate on which all others stand. Gives whether it is proved."""
+        return self.proved(next(crate for crate, below in self.below.items() if not below))
+
     def side_by_side(self):
-        """Proves crates beside one another, until none that is left can be. Gives whether none has failed."""
+        """Proves crates beside one another, as long as three of those that are left could be. Gives whether none has failed.
+
+        They are those below a crate that stands on all libraries, which is small: the prover reads it through before it begins.
+        """
         words = ["rt", "all", "check", "--jobs", str(self.jobs)]
         how = {"stdout": subprocess.PIPE, "stderr": subprocess.STDOUT, "text": True, "start_new_session": True}
-        with subprocess.Popen(words, cwd=CRATES / PROGRAM, **how) as proving:
+        with subprocess.Popen(words, cwd=CRATES / LIBRARIES, **how) as proving:
             crate = ""
             for line in proving.stdout:
                 self.log.write(line)
@@ -66,31 +75,32 @@ class Proving:
                 if line.startswith("== ") and line != "== summary\n":
                     crate = line[3:].strip()
                     self.note(crate)
-                if is_bad or self.is_chain():
+                if is_bad or not self.has_three():
                     os.killpg(proving.pid, signal.SIGTERM)
                     if is_bad:
                         print(f"{crate} is not proved")
                     return not is_bad
         return proving.returncode == 0
 
-    def is_chain(self):
-        """Whether of any two crates that are left one stands on the other."""
-        return all(self.are_in_line(one, other) for one, other in combinations(self.left, 2))
+    def has_three(self):
+        """Whether of some three crates that are left to be proved beside others none stands on another."""
+        threes = combinations(self.left & self.beside, 3)
+        return any(not any(starmap(self.are_in_line, combinations(three, 2))) for three in threes)
 
     def are_in_line(self, one, other):
-        """Whether one of the crates stands on the other, or they are the same."""
-        return one == other or one in self.below[other] or other in self.below[one]
+        """Whether one of the crates stands on the other."""
+        return one in self.below[other] or other in self.below[one]
 
-    def alone(self):
-        """Proves libraries one by one, from the lowest up, as long as nothing can run beside the next one. Gives whether all of
-        these are proved."""
-        for crate in sorted(self.left - {PROGRAM}, key=lambda crate: len(self.below[crate])):
-            if not all(self.are_in_line(crate, other) for other in self.left):
-                break
-            if self.run(crate, "lib") is None:
-                return False
+    def last(self):
+        """Proves the libraries that are left, from the lowest up. Gives whether all are proved."""
+        return all(map(self.proved, sorted(self.left - {PROGRAM}, key=lambda crate: len(self.below[crate]))))
+
+    def proved(self, crate):
+        """Proves a library, beside which nothing runs. Gives whether it is proved."""
+        is_proved = self.run(crate, "lib") is not None
+        if is_proved:
             self.note(crate)
-        return True
+        return is_proved
 
     def built(self):
         """Proves and builds the program, and runs it. Gives the last word that it prints, or None."""
