@@ -28,9 +28,9 @@ use std::thread::Threads;
 ///
 /// It goes on leaf by leaf, as a scan by the root does, and what is written of the map with the root
 /// is said by [`dumps_by_root_are_right`](crate::laws::dumps_by_root_are_right). It takes memory for
-/// one look-up, and for lines those of one leaf; a record file is written from where the pairs lie.
-/// The sink is called once for each leaf, or more often where it takes only a part, and flushed at
-/// the end.
+/// one look-up and for what the source reads ahead, and for lines those of one leaf; a record file
+/// is written from where the pairs lie. The sink is called once for each leaf, or more often where it
+/// takes only a part, and flushed at the end.
 pub fn answer_dump_by_root<R: Threads + Sync, S: ReadAhead, W: Sink>(
     hasher: &ManyThreads<'_, R>,
     alloc: Global,

@@ -43,12 +43,12 @@ pub struct RootScan<'a> {
 /// line; the sink then has what was found before.
 ///
 /// It goes on leaf by leaf, and looks each up from the root with one [`Reader`], which goes over
-/// the frames below a chunk once and reads no chunk twice. It takes memory for one look-up, and for
-/// the lines of one leaf, or of as many of its pairs as are still wanted: they are made from where
-/// the pairs lie. What the pairs of such look-ups are of the map with the root is said by
-/// [`ways_are_right`](prolly_check::laws::ways_are_right). The sink is called once for each leaf, or
-/// more often where it takes only a part, and flushed at the end. Where the limit is 0, nothing is
-/// read.
+/// the frames below a chunk once and reads no chunk twice. It takes memory for one look-up, for what
+/// the source reads ahead, and for the lines of one leaf, or of as many of its pairs as are still
+/// wanted: they are made from where the pairs lie. What the pairs of such look-ups are of the map
+/// with the root is said by [`ways_are_right`](prolly_check::laws::ways_are_right). The sink is
+/// called once for each leaf, or more often where it takes only a part, and flushed at the end. Where
+/// the limit is 0, nothing is read.
 pub fn answer_scan_by_root<R: Threads + Sync, S: ReadAhead, W: Sink>(
     hasher: &ManyThreads<'_, R>,
     alloc: Global,
