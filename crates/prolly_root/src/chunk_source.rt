@@ -16,8 +16,8 @@ use std::alloc::Global;
 ///
 /// Nothing that a source gives is believed. Who asks compares each chunk with the reference in the
 /// one above it, and the first with the root; a [`GivenChunk`] tells its reference only where it was
-/// hashed. So whatever a source gives, what is answered is right. What the contracts say here is for one thing alone: that the tree of a source that has it
-/// is never refused.
+/// hashed. So whatever a source gives, what is answered is right. What the contracts say here is
+/// for one thing alone: that the tree of a source that has it is never refused.
 pub trait ChunkSource {
     /// Where a chunk stands, and what was found below it so far.
     type Place: Copy + Drop;

@@ -1,5 +1,6 @@
 //! The leaves of a tree, for who knows its root.
-ghost use Rattle.std.specs.Prelude.{◌≡◌, ◌<◌, [], true, None, Some, Err, IfOk, IfErr, IfSome, OnOk};
+ghost use Rattle.std.specs.Prelude.{◌≡◌, ◌<◌, [], true, false, length, None, Some, Err, IfOk};
+ghost use Rattle.std.specs.Prelude.{IfErr, IfSome, OnOk};
 ghost use Rattle.prolly_check.specs.Content.{Content};
 ghost use Rattle.prolly_root.specs.ChunkSource.{HasAsked};
 ghost use Rattle.prolly_root.specs.RootFault.{IsOrFails, MayFail};
@@ -69,7 +70,8 @@ impl<T: Copy + Drop> RootLeaves<T> {
 
     /// Whether no subtree is due any more, so that no leaf is left.
     pub fn is_exhausted(&self) -> bool
-        ensures { result ≡ true → due_of_walk self.now ≡ [] }
+        ensures none { result ≡ true → due_of_walk self.now ≡ [] }
+        ensures some { result ≡ false → 0 < length (due_of_walk self.now) }
     {
         self.due.is_empty()
     }
