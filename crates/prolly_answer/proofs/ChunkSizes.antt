@@ -13,15 +13,6 @@ pub record IsDoubled (entry wanted bits size : ℕ) : Type 0 where
   pub least : (fewer : ℕ) → 2 ≤ fewer → fewer < bits →
       IsEnough (chunk_size entry fewer) wanted → ⊥
 
-pub not_doubled : (entry wanted size : ℕ) → entry ≤ 1000000 → size ≡ entry * 4 →
-    IsDoubled entry wanted 2 size
-not_doubled entry wanted size small is = record {
-  some = omega arith;
-  size_is = omega arith;
-  small = omega arith;
-  least = λ fewer some below. absurd (omega arith);
-}
-
 -- The size by one bit more is twice the size.
 doubled : (entry bits : ℕ) → chunk_size entry (bits + 1) ≡ chunk_size entry bits * 2
 doubled entry bits = ap (λ n. 2 ^ n * entry) (sym (suc-eq-add-one bits)) ∙
@@ -42,13 +33,3 @@ one_doubled entry wanted bits size within h few = record {
     at fewer some (inl same) enough = few (subst (λ n. IsEnough n wanted)
         (ap (chunk_size entry) same ∙ sym h.size_is) enough)
     at fewer some (inr below) enough = h.least fewer some below enough
-
--- The bits are the least ones where the size is enough, or all are tried.
-pub least_at : (entry wanted bits size : ℕ) → bits ≤ 24 → IsDoubled entry wanted bits size
-    → (bits < 24 → IsEnough size wanted) → AreLeast entry wanted bits
-least_at entry wanted bits size within h enough = record {
-  some = h.some;
-  within = within;
-  enough = λ more. subst (λ n. IsEnough n wanted) h.size_is (enough more);
-  least = h.least;
-}

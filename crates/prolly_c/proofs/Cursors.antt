@@ -49,13 +49,6 @@ part_end bytes start end front rest order within is =
     ap (λ n. drop (length front) (take n (drop start bytes))) (sym whole) ∙
     ap (drop (length front)) is ∙ drop_front front rest
 
-pub end_within : (bytes : List ℕ) (start end : ℕ) (front rest : List ℕ) → start ≤ end →
-    end ≤ length bytes → part bytes start end ≡ front ++ rest → length rest ≤ end
-end_within bytes start end front rest order within is =
-    let size = part_length bytes start end order within in
-    let same = ap length is in
-    let long = length-append front rest in omega arith
-
 -- So what was not read of a part that holds pairs holds those that are left.
 pub rest_is : (bytes : List ℕ) (start end at : ℕ) (entries front rest : List ℕ) (here : List Pair) →
     start ≤ end → end ≤ length bytes → entries ≡ part bytes start end → entries ≡ front ++ rest →

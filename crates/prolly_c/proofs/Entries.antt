@@ -36,13 +36,6 @@ reads_first entries rest p (q ∷ qs) b leaf =
     (sym b.is ∙ leaf.is) in
     (qs, ap (λ x. x ∷ qs) (sym r.0), record { is = r.1; lawful = leaf.lawful.1 })
 
--- Where no pair begins the entries, there is none.
-pub reads_none : (entries : List ℕ) (pairs : List Pair) → NoPairAt entries → IsLeaf entries pairs →
-    pairs ≡ []
-reads_none entries [] none leaf = refl
-reads_none entries (q ∷ qs) none leaf = absurd
-    (none q (flat_map pair_spelling qs) leaf.lawful.0 leaf.is)
-
 -- Where there are no bytes, there is no pair.
 pub no_bytes : (entries : List ℕ) (pairs : List Pair) → length entries ≡ 0 → IsLeaf entries pairs →
     pairs ≡ []
@@ -72,9 +65,6 @@ goes_on entries (q ∷ qs) some none leaf = none q (flat_map pair_spelling qs) l
 abbrev pub FindsIn : List ℕ → List ℕ → List ℕ → Type 0
 FindsIn key whole left = (pairs : List Pair) → IsLeaf whole pairs →
     (rest : List Pair) × IsLeaf left rest × (find pairs key ≡ find rest key)
-
-pub finds_first : (key whole : List ℕ) → FindsIn key whole whole
-finds_first key whole pairs leaf = (pairs, leaf, refl)
 
 pub finds_more : (key whole left rest : List ℕ) (p : Pair) →
     BeginsWith pair_spelling IsPair left p rest → is_eq (key_order p.key key) ≡ false →
@@ -114,9 +104,6 @@ abbrev pub CountsIn : ℕ → ℕ → List ℕ → List ℕ → Type 0
 CountsIn number ahead whole left = (pairs : List Pair) → IsLeaf whole pairs →
     (rest : List Pair) × IsLeaf left rest × (nth pairs number ≡ nth rest ahead)
 
-pub counts_first : (number : ℕ) (whole : List ℕ) → CountsIn number number whole whole
-counts_first number whole pairs leaf = (pairs, leaf, refl)
-
 pub counts_more : (number ahead : ℕ) (whole left rest : List ℕ) (p : Pair) →
     BeginsWith pair_spelling IsPair left p rest → 0 < ahead →
     CountsIn number ahead whole left → CountsIn number (ahead - 1) whole rest
@@ -152,9 +139,6 @@ abbrev pub SeeksIn : List ℕ → List ℕ → List ℕ → Type 0
 SeeksIn from whole left = (pairs : List Pair) → IsLeaf whole pairs → Rises pairs →
     (rest : List Pair) × IsLeaf left rest × Rises rest ×
     (pairs_from from pairs ≡ pairs_from from rest)
-
-pub seeks_first : (from whole : List ℕ) → SeeksIn from whole whole
-seeks_first from whole pairs leaf rise = (pairs, leaf, rise, refl)
 
 pub seeks_more : (from whole left rest : List ℕ) (p : Pair) →
     BeginsWith pair_spelling IsPair left p rest → is_lt (key_order p.key from) ≡ true →
@@ -196,9 +180,6 @@ seeks_on from whole left some none seeks pairs leaf rise =
     let f = seeks pairs leaf rise in goes_on left f.0 some none f.1
 
 -- ---- the last of the bytes
-
-pub end_whole : (bytes : List ℕ) → IsEnd bytes bytes
-end_whole bytes = record { front = []; is = refl }
 
 -- What is left behind some of them is the last of the bytes, too.
 pub end_behind : (bytes left rest spelled : List ℕ) → IsEnd bytes left → left ≡ spelled ++ rest →

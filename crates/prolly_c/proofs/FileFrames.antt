@@ -251,10 +251,3 @@ leaf_begins version rest (zero ∷ entries) behind pairs is holds some leaf = re
 }
 leaf_begins version rest (suc level ∷ entries) behind pairs is holds some leaf =
     absurd (omega arith)
-
--- A node holds no pairs.
-pub node_none : (version : Version) (chunk : List ℕ) (pairs : List Pair) →
-    Holds version chunk pairs → (get_or chunk 0 0 ≡ 0 → ⊥) → pairs ≡ []
-node_none version [] pairs holds node = absurd holds
-node_none version (zero ∷ entries) pairs holds node = absurd (node refl)
-node_none version (suc level ∷ entries) pairs holds node = holds.none

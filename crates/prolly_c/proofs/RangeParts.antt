@@ -131,19 +131,6 @@ wanted_begins rest (level ∷ more) behind entries wanted is some inside end =
         ap (λ x. start ++ level ∷ x) (append_assoc front wanted behind) ∙
         sym (append_assoc start (level ∷ front) (wanted ++ behind))
 
--- They are no longer than the bytes from the frame on.
-pub wanted_within : (rest chunk behind entries wanted : List ℕ) →
-    rest ≡ framed chunk ++ behind → 0 < length chunk → entries ≡ drop 1 chunk →
-    IsEnd entries wanted → length wanted + length behind ≤ length rest
-wanted_within rest [] behind entries wanted is some inside end = absurd (omega arith)
-wanted_within rest (level ∷ more) behind entries wanted is some inside end =
-    let whole = ap length is in
-    let size = length-append (framed (level ∷ more)) behind in
-    let frame = length-append (frame_start (length (level ∷ more))) (level ∷ more) in
-    let same = ap length (sym inside ∙ end.is) in
-    let part = length-append end.front wanted in
-    omega arith
-
 -- There they are spelled, before the pairs behind the end of the range, and what is behind the frame.
 pub wanted_spelled : (from : List ℕ) (to : Option (List ℕ)) (ps : List Pair)
     (wanted beyond behind : List ℕ) → Rises ps → IsLeaf wanted (pairs_from from ps) →

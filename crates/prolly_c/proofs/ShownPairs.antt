@@ -223,10 +223,3 @@ leaf_shows version from to (zero ∷ entries) pairs s some leaf =
       are = s.are ∙ ap (pairs_wanted (Range from to)) same;
     }
 leaf_shows version from to (suc level ∷ entries) pairs s some leaf = absurd (omega arith)
-
--- A node shows none.
-pub node_shows : (version : Version) (set : KeySet) (chunk : List ℕ) (pairs : List Pair) →
-    Shows version set chunk pairs → (0 < length chunk → get_or chunk 0 0 ≡ 0 → ⊥) → pairs ≡ []
-node_shows version set [] pairs s node = absurd s.ordered.whole.holds
-node_shows version set (zero ∷ entries) pairs s node = absurd (node (omega arith) refl)
-node_shows version set (suc level ∷ entries) pairs s node = s.are

@@ -20,19 +20,6 @@ use Rattle.prolly_c.specs.declared.run.Run.{Run}
 
 -- ---- the pairs of a run
 
--- None of them is passed at first.
-pub passes_none : (bytes : List ℕ) (pairs : List Pair) (tail : List ℕ) → Spells bytes pairs tail →
-    Passes bytes pairs tail 0 bytes
-passes_none bytes pairs tail s = record {
-  here = [];
-  behind = pairs;
-  are = refl;
-  many = refl;
-  lawful = tt;
-  passed = refl;
-  left = s;
-}
-
 -- Where bytes are left before the tail, one more pair is.
 pub passes_more : (bytes : List ℕ) (pairs : List Pair) (tail : List ℕ) (count : ℕ)
     (rest next : List ℕ) (p : Pair) → length tail < length rest →
@@ -270,12 +257,3 @@ adds_all bytes out written pairs tail done left begun few a = go a.rest a.are a.
     )
     go (q ∷ qs) are spells runs = absurd
         (let none = none_left left (q ∷ qs) tail spells few in omega arith)
-
--- A chunk without pairs has no run.
-pub adds_nothing : (bytes : List ℕ) (out : List Run) (written : Written) (done pairs : List Pair) →
-    pairs ≡ [] → Wrote bytes out written done → WroteChunk bytes out written written done pairs
-adds_nothing bytes out written done pairs none wrote = record {
-  wrote = subst (λ x. Wrote bytes out written (done ++ x)) (sym none)
-      (subst (Wrote bytes out written) (sym (append-nil done)) wrote);
-  runs = let size = ap length none in omega arith;
-}

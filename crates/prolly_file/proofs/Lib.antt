@@ -1,5 +1,3 @@
--- Known bytes that were kept first, and then read or written.
-mod Kept
 -- What a script hands out of its bytes, from a place on.
 pub mod ScriptReads
 -- Bytes that are written one part after another.

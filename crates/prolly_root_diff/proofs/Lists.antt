@@ -27,20 +27,6 @@ pub same_bytes : (xs ys : List ℕ) (equal : Bool) → equal ≡ pointwise nat_e
 same_bytes xs ys equal is e =
     (slice_eq-Decides Decides-eqb xs ys (pointwise nat_eq xs ys) refl).0 (sym is ∙ e)
 
-pub begin_alike : (before after : Left) (first second : DueValue) → before.pairs ≡ [] →
-    after.pairs ≡ [] → (due : List DueValue) → before.due ≡ first ∷ due →
-    (due' : List DueValue) → after.due ≡ second ∷ due' → first.reference ≡ second.reference →
-    BeginAlike before after
-begin_alike before after first second e f due g due' h same = record {
-  first = first;
-  second = second;
-  due = due;
-  due' = due';
-  before_is = left_is before (first ∷ due) e g;
-  after_is = left_is after (second ∷ due') f h;
-  same = same;
-}
-
 pub some_due : {T : Type 0} (due : List (Siblings T)) → 0 < length due → 0 < length (flat_map dues due)
 some_due [] some = some
 some_due (s ∷ due) some = omega arith

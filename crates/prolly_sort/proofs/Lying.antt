@@ -141,16 +141,6 @@ written_more : (records : List Record) (r : Record) →
 written_more records r = flat_map-append record_spelling records (r ∷ []) ∙
     ap (λ xs. written records ++ xs) (append-nil (record_spelling r))
 
--- One record more takes its spelling and 48 bytes more.
-pub cost_more : (records : List Record) (r : Record) →
-    cost_of (records ++ r ∷ []) ≡ cost_of records + (48 + length (record_spelling r))
-cost_more records r = omega (
-  arith,
-  ap length (written_more records r),
-  length-append (written records) (record_spelling r),
-  length-append records (r ∷ []),
-)
-
 -- The records with one more are those that lie there.
 pub records_with : (bytes : List ℕ) (places : List Place) (number : ℕ) (r : Record) →
     All (StandsIn bytes) places →
@@ -193,16 +183,6 @@ held_more bytes places is_rising rises budget r h lawful room rising =
       );
       limit = h.limit;
     }
-
--- How much of the budget the records take.
-pub cost_is : (bytes : List ℕ) (places : List Place) (is_rising : Bool) (budget : ℕ) →
-    IsHeld bytes places is_rising budget →
-    cost_of (records_in bytes places) ≡ length bytes + 48 * length places
-cost_is bytes places is_rising budget h = omega (
-  arith,
-  ap length h.spelled,
-  length-map places (record_in bytes),
-)
 
 -- ---- a record that was pushed
 

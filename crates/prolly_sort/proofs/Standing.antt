@@ -142,10 +142,3 @@ stable_in_order bytes xs ys numbered same sorted = λ x.
     (All-filter f Named xs named) (All-filter f Named ys (All-permutation Named xs ys same named))
     (λ number. count_kept f number ys ∙ sum_by-IsPermutation (counted f number) xs ys same ∙
     sym (count_kept f number xs))
-
--- Their keys are in order.
-pub keys_in_order : (bytes : List ℕ) (places : List Place) → AreInOrder bytes places →
-    IsSortedBy (is_below bytes) places
-keys_in_order bytes places all = λ k d low high. before_below (key_order
-    (key_in bytes (get_or places (k + 1) d)) (key_in bytes (get_or places k d))) _
-    (all k (k + 1) d (omega arith) high).order

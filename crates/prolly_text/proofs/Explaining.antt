@@ -280,22 +280,3 @@ faulty_read form limit text rest rest' place old out out' faulty end h k =
         wrong = wrong;
       });
     }
-
--- So many are explained.
-pub are_explained : (form : LineForm) (limit : ℕ) (text rest : List ℕ) (place : LinePlace)
-    (old out : List ℕ) (counts : LineCounts) →
-    IsUnderWay form limit text rest place old out counts.faulty → counts.lines ≡ place.number →
-    counts.faulty ≤ limit → (counts.faulty < limit → rest ≡ []) →
-    AreExplained form limit text old out counts
-are_explained form limit text rest place old out counts h lines few over = record {
-  read = h.read;
-  unread = lines_of rest;
-  whole = h.whole;
-  shown = h.shown;
-  explains = h.explains;
-  appended = h.appended;
-  lines_are = lines ∙ h.number_is;
-  few = few;
-  all = λ less. ap lines_of (over less);
-  stops = h.stops;
-}

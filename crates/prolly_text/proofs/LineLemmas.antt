@@ -265,31 +265,6 @@ line_put form line key_text change_text key value c h k = record {
 
 -- ---- the record of a line
 
-pub record_stands : (form : LineForm) (line key : List ℕ) (change : Option (List ℕ))
-    (result : Result Record LineFlaw) → IsLineOf form line key change →
-    IfOk result (λ r. IsChangeOf key change r) → IfOk result (λ r. StandsFor form line r)
-record_stands form line key change (Ok r) h k = (
-  subst (λ x. IsLineOf form line x r.value) (sym k.0)
-      (subst (λ v. IsLineOf form line key v) (sym k.1) h),
-  k.2,
-)
-record_stands form line key change (Err flaw) h k = tt
-
-long_change : (form : LineForm) (line key : List ℕ) (change : Option (List ℕ)) (flaw : LineFlaw) →
-    IsLineOf form line key change → IsLongChange key change flaw → IsWrongLine form line flaw
-long_change form line key None flaw h k = subst (IsWrongLine form line) (sym k.0)
-    (record { key = key; change = None; is = h; over = k.1 })
-long_change form line key (Some value) flaw h (inl k) = subst (IsWrongLine form line) (sym k.0)
-    (record { key = key; change = Some value; is = h; over = k.1 })
-long_change form line key (Some value) flaw h (inr k) = subst (IsWrongLine form line) (sym k.0)
-    (record { key = key; value = value; is = h; within = k.1; over = k.2 })
-
-pub record_wrong : (form : LineForm) (line key : List ℕ) (change : Option (List ℕ))
-    (result : Result Record LineFlaw) → IsLineOf form line key change →
-    IfErr result (IsLongChange key change) → IfErr result (λ flaw. IsWrongLine form line flaw)
-record_wrong form line key change (Ok r) h k = tt
-record_wrong form line key change (Err flaw) h k = long_change form line key change flaw h k
-
 -- What is wrong with a part of a line is wrong with the line.
 pub part_unread : {T : Type 0} (form : LineForm) (line : List ℕ) (P : TextFault → Type 0)
     (result : Result T TextFault) → ((fault : TextFault) → P fault → IsUnreadLine form line fault) →

@@ -18,9 +18,6 @@ pub record HasSkipped (text rest : List ℕ) (passed : ℕ) : Type 0 where
   pub none : Lacks 0x0A front
   pub size : passed ≡ length front
 
-pub none_skipped : (text : List ℕ) → HasSkipped text text 0
-none_skipped text = record { front = []; whole = refl; none = tt; size = refl }
-
 -- The line ends among the unparsed bytes.
 pub end_skipped : (text unparsed left : List ℕ) (passed n : ℕ) →
     HasSkipped text (unparsed ++ left) passed → All (λ b. b ≢ 0x0A) (take n unparsed) →
@@ -85,19 +82,6 @@ all_skipped text rest passed h over some = record {
         lines_of front ≡ front ∷ []
     alone [] none some = absurd (omega arith)
     alone (x ∷ front) none some = line_alone x front none
-
--- So many bytes are no more than the text has.
-pub skipped_within : (text unparsed left : List ℕ) (passed n : ℕ) →
-    HasSkipped text (unparsed ++ left) passed → n ≤ length unparsed → 2 ^ 64 ≤ passed + n →
-    2 ^ 64 ≤ length text
-skipped_within text unparsed left passed n h within over =
-    let s = h.size in
-    omega (
-      arith,
-      ap length h.whole,
-      length-append h.front (unparsed ++ left),
-      length-append unparsed left,
-    )
 
 -- What holds of a sum holds of what is told as it.
 pub sum_told : {E : Type 0} (result : Result ℕ E) (P : ℕ → Type 0) (n : ℕ) →

@@ -68,44 +68,6 @@ no_empty byte behind piece e (inr (inr h)) =
 pub none_of_nothing : BeginsWithNone []
 none_of_nothing byte behind h = no_empty byte behind h.piece h.whole h.is
 
--- The byte is neither plain nor a backslash.
-pub none_of_bare : (first : ℕ) (after : List ℕ) → is_plain first ≡ false → (first ≡ 0x5C → ⊥) →
-    BeginsWithNone (first ∷ after)
-none_of_bare first after bare other byte behind h = go (front first after byte behind h)
-  where
-    go : IsFront first after byte behind → ⊥
-    go (inl k) =
-        let same : is_plain first ≡ true = ap is_plain k.0 ∙ k.1 in
-        let none : true ≡ false = sym same ∙ bare in cc
-    go (inr (inl k)) = other k.1
-    go (inr (inr k)) = other k.1
-
--- Nothing is behind the backslash.
-pub none_of_backslash : BeginsWithNone (0x5C ∷ [])
-none_of_backslash byte behind h = go (front 0x5C [] byte behind h)
-  where
-    go : IsFront 0x5C [] byte behind → ⊥
-    go (inl k) =
-        let none : false ≡ true = ap is_plain k.0 ∙ k.1 in cc
-    go (inr (inl k)) = let none : [] ≡ k.0 ∷ behind = k.2 in cc
-    go (inr (inr k)) = let none : [] ≡ 0x78 ∷ k.0 ++ behind = k.2 in cc
-
--- The letter behind the backslash names no byte, and begins no digits.
-pub none_of_letter : (letter : ℕ) (after : List ℕ) → named_byte letter ≡ None →
-    (letter ≡ 0x78 → ⊥) → BeginsWithNone (0x5C ∷ letter ∷ after)
-none_of_letter letter after none other byte behind h =
-    go (front 0x5C (letter ∷ after) byte behind h)
-  where
-    go : IsFront 0x5C (letter ∷ after) byte behind → ⊥
-    go (inl k) =
-        let bare : false ≡ true = ap is_plain k.0 ∙ k.1 in cc
-    go (inr (inl k)) =
-        let same : letter ∷ after ≡ k.0 ∷ behind = k.2 in
-        let first : letter ≡ k.0 = cc in
-        let two : None ≡ Some byte = sym none ∙ ap named_byte first ∙ k.3 in cc
-    go (inr (inr k)) =
-        let same : letter ∷ after ≡ 0x78 ∷ k.0 ++ behind = k.2 in other cc
-
 -- What is behind `\x` does not begin with two digits.
 pub none_of_digits : (after : List ℕ) →
     ((digits behind : List ℕ) (byte : ℕ) → after ≡ digits ++ behind → length digits ≡ 2 →

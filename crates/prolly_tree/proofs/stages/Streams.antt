@@ -156,11 +156,6 @@ pub map_flat : {X Y : Type 0} (f : X → Y) (gs : List (List X)) →
 map_flat f [] = refl
 map_flat f (g ∷ gs) = map-append f g (flat gs) ∙ ap (λ a. map f g ++ a) (map_flat f gs)
 
-pub map_as_group : {X Y : Type 0} (f : X → Y) (rest : List X) →
-    map (map f) (as_group rest) ≡ as_group (map f rest)
-map_as_group f [] = refl
-map_as_group f (x ∷ xs) = refl
-
 -- ---- a stage over blocks
 
 module _ {X : Type 0} (level : ℕ) (block : X → List Chunk) (top : X → Chunk) (ends : Chunk →
