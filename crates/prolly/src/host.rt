@@ -1,5 +1,5 @@
 //! What a command runs on.
-use prolly_check::ManyThreads;
+use prolly_look_up::ManyThreads;
 use std::num::NonZeroUsize;
 use std::thread::{Threads, available_parallelism};
 

@@ -3,7 +3,7 @@ use Rattle.std.proofs.Common.{◌≡◌, ℕ, ◌+◌, ◌*◌, ◌^◌, ◌<◌
 use Rattle.std.proofs.Common.{arith}
 use Rattle.std.proofs.Math.Nat.{eq-or-lt_of_le, mul_right_comm, pow-suc}
 use Rattle.std.proofs.Math.Numerals.{suc-eq-add-one}
-use Rattle.prolly_answer.specs.ChunkBytes.{AreLeast, IsEnough, chunk_size}
+use Rattle.prolly_answer.specs.ChunkBytes.{IsEnough, chunk_size}
 
 -- Fewer bits from 2 on are not enough, and the size is that by these.
 pub record IsDoubled (entry wanted bits size : ℕ) : Type 0 where

@@ -20,12 +20,12 @@ use Rattle.prolly_file.specs.Failures.{after_failure}
 use Rattle.prolly_file.specs.Sink.{IsSettled, SinkView}
 use Rattle.prolly_range.specs.lemmas.Unfailed.{other_failures}
 use Rattle.prolly_file.specs.Writes.{Writes}
-use Rattle.prolly_diff.specs.Differences.{Maps, AreMaps, IsFirstChange}
+use Rattle.prolly_tree.specs.Walks.{Maps, AreMaps, IsFirstChange}
 use Rattle.std.specs.Prelude.{IfOk, OnErr}
 use Rattle.prolly_check.specs.Chunks.{IsFile}
-use Rattle.prolly_check.specs.Content.{Content}
-use Rattle.prolly_check.specs.Verdict.{IsFileOf}
-use Rattle.prolly_check.proofs.CheckedFile.{few_pairs}
+use Rattle.prolly_look_up.specs.Content.{Content}
+use Rattle.prolly_look_up.specs.Content.{IsFileOf}
+use Rattle.prolly_check.specs.lemmas.Sizes.{few_pairs}
 use Rattle.prolly_answer.specs.declared.faults.output_fault.OutputFault.TheVariants.{Memory, Write}
 use Rattle.prolly_answer.specs.declared.answers.answer.Answer.{Answer}
 use Rattle.prolly_answer.specs.declared.answers.diff.ChangeCounts.{ChangeCounts}

@@ -1,11 +1,12 @@
 -- Scans by a root, leaf by leaf.
 use Rattle.std.proofs.Common.{◌≡◌, ◌≢◌, ℕ, suc, zero, ◌-◌, ◌<◌, inl, inr, ◌⊎◌, true, List, [], ◌∷◌}
-use Rattle.std.proofs.Common.{◌++◌, length, take, refl, sym, ap, ◌∙◌, ◌+◌, subst, arith, append_assoc}
+use Rattle.std.proofs.Common.{◌++◌, length, take, refl, sym, ap, ◌∙◌, ◌+◌, subst, arith}
+use Rattle.std.proofs.Common.{append_assoc}
 use Rattle.std.proofs.Common.{Err, Result, append-nil}
 use Rattle.std.proofs.Math.Seq.{take-append-add}
 use Rattle.std.proofs.lemmas.List.{length-append, take_all}
 use Rattle.std.proofs.lemmas.List.Concat.{flat_map-append}
-use Rattle.prolly_check.specs.ScanWay.{AreScanned, EndsEmpty, IsScanWay, from_behind, joined}
+use Rattle.prolly_look_up.specs.ScanWay.{AreScanned, EndsEmpty, IsScanWay, from_behind, joined}
 use Rattle.prolly_entry.specs.Pair.{Pair}
 use Rattle.prolly_entry.specs.declared.version.Version.{Version}
 use Rattle.prolly_file.specs.Failures.{after_failure}
@@ -13,7 +14,8 @@ use Rattle.prolly_file.specs.Sink.{IsSettled, SinkView}
 use Rattle.prolly_range.specs.lemmas.Unfailed.{other_failures}
 use Rattle.prolly_text.specs.declared.notation.Notation.{Notation}
 use Rattle.prolly_answer.specs.LookUps.{pair_lines, pair_text}
-use Rattle.prolly_answer.specs.Outputs.{IsSettledAs, TookAll, TookBytes, TookPart, TookPrefix, TookUntil}
+use Rattle.prolly_answer.specs.Outputs.{IsSettledAs, TookAll, TookBytes, TookPart, TookPrefix}
+use Rattle.prolly_answer.specs.Outputs.{TookUntil}
 use Rattle.prolly_answer.specs.RootScans.{AreEnough, limited_lines}
 use Rattle.prolly_answer.specs.declared.faults.output_fault.OutputFault.{OutputFault}
 use Rattle.prolly_answer.specs.declared.faults.output_fault.OutputFault.TheVariants as outputs

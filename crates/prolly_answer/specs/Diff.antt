@@ -1,6 +1,6 @@
 -- What the command `diff` answers.
 use Rattle.std.specs.Prelude.{◌⊎◌, ℕ, List, [], Option, Some, None, Bool, true, false}
-use Rattle.prolly_check.specs.Content.{Content}
+use Rattle.prolly_look_up.specs.Content.{Content}
 use Rattle.prolly_entry.specs.Pair.{Pair}
 use Rattle.prolly_entry.specs.Record.{Record}
 use Rattle.prolly_tree.specs.Difference.{IsDifference}

@@ -14,9 +14,10 @@ use Rattle.prolly_tree.specs.Chunk.{chunks}
 use Rattle.prolly_tree.specs.File.{root_reference}
 use Rattle.prolly_tree.specs.LookUp.{find, nth, scan}
 use Rattle.prolly_file.specs.Source.{SourceView}
-use Rattle.prolly_check.specs.Content.{Content}
+use Rattle.prolly_look_up.specs.Content.{Content}
 use Rattle.prolly_check.specs.FirstFlaw.{IsFileOfRoot, IsStreamFault}
-use Rattle.prolly_check.specs.Verdict.{IsRefusal, IsFileOf}
+use Rattle.prolly_check.specs.Verdict.{IsRefusal}
+use Rattle.prolly_look_up.specs.Content.{IsFileOf}
 use Rattle.prolly_check.specs.declared.stream.fault.StreamFault.{StreamFault}
 use Rattle.prolly_check.specs.declared.stream.fault.StreamFault.TheVariants as streams
 use Rattle.prolly_check.specs.declared.stream.root_checker.RootReport.{RootReport}
@@ -29,7 +30,8 @@ use Rattle.prolly_answer.specs.Answers.{Shows, ShowsLine, ShowsNothing, ShowsFau
 use Rattle.prolly_answer.specs.Input.{IsReadWhole}
 use Rattle.prolly_answer.specs.declared.answers.answer.Answer.{Answer}
 use Rattle.prolly_answer.specs.declared.faults.fault.Fault.{Fault}
-use Rattle.prolly_answer.specs.declared.faults.fault.Fault.TheVariants.{Check, Root, NoCounts, Stream}
+use Rattle.prolly_answer.specs.declared.faults.fault.Fault.TheVariants.{Check, Root, NoCounts}
+use Rattle.prolly_answer.specs.declared.faults.fault.Fault.TheVariants.{Stream}
 
 -- How many bytes a chunk file has at most that a command reads.
 abbrev pub file_limit : ℕ

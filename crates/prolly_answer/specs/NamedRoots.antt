@@ -1,24 +1,34 @@
 -- What `root` answers.
 use Rattle.std.specs.Prelude.{◌≡◌, ◌≢◌, ℕ, ◌⊎◌, List, Ok, Err}
-use Rattle.prolly_check.specs.Content.{Content}
+use Rattle.prolly_look_up.specs.Content.{Content}
 use Rattle.prolly_check.specs.declared.verdict.fault.CheckFault.{CheckFault}
-use Rattle.prolly_check.specs.declared.verdict.fault.CheckFault.TheVariants.{Read}
+use Rattle.prolly_check.specs.declared.verdict.fault.CheckFault.TheVariants.{Read, BadHeader, Truncated, BadEnd}
 use Rattle.prolly_entry.specs.Cut.{sha512_cut}
 use Rattle.prolly_entry.specs.Reference.{reference_text}
 use Rattle.prolly_entry.specs.declared.reference.Ref.{Ref}
 use Rattle.prolly_file.specs.Failures.{after_failure}
 use Rattle.prolly_root.specs.NamedRoot.{TellsEnd}
+use Rattle.prolly_root.specs.declared.file.end_record.NamedRootFault.{NamedRootFault}
+use Rattle.prolly_root.specs.declared.file.end_record.NamedRootFault.TheVariants as named
 use Rattle.prolly_tree.specs.File.{root_reference}
 use Rattle.prolly_answer.specs.Answers.{ShowsFault, ShowsLine}
 use Rattle.prolly_answer.specs.declared.answers.answer.Answer.{Answer}
 use Rattle.prolly_answer.specs.declared.faults.fault.Fault.TheVariants.{Check}
+
+-- The fault of a check that is told where a file names no root.
+abbrev pub check_fault : NamedRootFault → CheckFault
+check_fault named.Read = Read
+check_fault named.BadHeader = BadHeader
+check_fault named.Truncated = Truncated
+check_fault named.BadEnd = BadEnd
 
 -- The answer shows the root that the end of the file tells; or the fault of the header or the end, or
 -- that a read failed.
 abbrev pub IsNamedRoot : List ℕ → Answer → Type 0
 IsNamedRoot bytes answer =
     ((root : Ref) × TellsEnd bytes (Ok root) × ShowsLine answer (reference_text root.0))
-    ⊎ ((fault : CheckFault) × TellsEnd bytes (Err fault) × ShowsFault answer (Check fault))
+    ⊎ ((fault : NamedRootFault) × TellsEnd bytes (Err fault) ×
+    ShowsFault answer (Check (check_fault fault)))
 
 -- A failed read is shown where one more call failed, and a line or another fault where none did.
 abbrev pub TellsNamedRead : ℕ → ℕ → Answer → Type 0

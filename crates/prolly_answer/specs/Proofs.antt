@@ -1,6 +1,6 @@
 -- What the commands `prove` and `verify` answer.
 use Rattle.std.specs.Prelude.{◌⊎◌, ℕ, List, Option, Result, Ok, Err}
-use Rattle.prolly_check.specs.Content.{Content}
+use Rattle.prolly_look_up.specs.Content.{Content}
 use Rattle.prolly_entry.specs.declared.version.Version.{Version}
 use Rattle.prolly_root.specs.ProofFault.{IsFault}
 use Rattle.prolly_root.specs.ProofFile.{IsProof, IsProofOf, IsSomeProof}

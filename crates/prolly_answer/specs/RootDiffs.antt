@@ -1,9 +1,10 @@
 -- What `diff` answers to who names the roots.
-use Rattle.std.specs.Prelude.{◌≡◌, ◌≢◌, ℕ, ◌⊎◌, List, [], ◌∷◌, ◌++◌, Option, Some, None, Result, Ok, Err, Bool}
+use Rattle.std.specs.Prelude.{◌≡◌, ◌≢◌, ℕ, ◌⊎◌, List, [], ◌∷◌, ◌++◌, Option, Some, None, Result, Ok}
+use Rattle.std.specs.Prelude.{Err, Bool}
 use Rattle.std.specs.Prelude.{true, false}
 use Rattle.std.specs.List.{AllByRecursion}
-use Rattle.prolly_check.specs.Chunks.{chunks_of}
-use Rattle.prolly_check.specs.Content.{Content}
+use Rattle.prolly_look_up.specs.Content.{chunks_of}
+use Rattle.prolly_look_up.specs.Content.{Content}
 use Rattle.prolly_entry.specs.Cut.{sha512_cut}
 use Rattle.prolly_entry.specs.Pair.{IsPair, Pair}
 use Rattle.prolly_entry.specs.Record.{Record}
@@ -13,7 +14,7 @@ use Rattle.prolly_file.specs.Sink.{SinkView}
 use Rattle.prolly_answer.specs.declared.faults.output_fault.OutputFault.{OutputFault}
 use Rattle.prolly_root.specs.declared.root_fault.RootFault.{RootFault}
 use Rattle.prolly_root.specs.declared.root_fault.RootFault.TheVariants.{Read}
-use Rattle.prolly_check.specs.declared.numbers.Missing.{Missing}
+use Rattle.prolly_chunk.specs.declared.missing.Missing.{Missing}
 use Rattle.prolly_root_diff.specs.Notes.{TellsMissing}
 use Rattle.prolly_root_diff.specs.Walks.{FoundClash, GivesAll, GivesFirst, Lefts, Walk, at_roots}
 use Rattle.prolly_root_diff.specs.Walks.{lefts_of}
@@ -34,7 +35,8 @@ use Rattle.prolly_answer.specs.declared.answers.answer.Answer.{Answer}
 use Rattle.prolly_answer.specs.declared.answers.diff.ChangeCounts.{ChangeCounts}
 use Rattle.prolly_answer.specs.declared.answers.root_diff.Told.{Told}
 use Rattle.prolly_answer.specs.declared.faults.fault.Fault.{Fault}
-use Rattle.prolly_answer.specs.declared.faults.fault.Fault.TheVariants.{Memory, RootNew, RootOld, Write}
+use Rattle.prolly_answer.specs.declared.faults.fault.Fault.TheVariants.{Memory, RootNew, RootOld}
+use Rattle.prolly_answer.specs.declared.faults.fault.Fault.TheVariants.{Write}
 
 -- ---- what was given
 

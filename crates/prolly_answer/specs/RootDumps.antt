@@ -1,9 +1,9 @@
 -- What `dump` answers to who names the root.
 use Rattle.std.specs.Prelude.{◌≡◌, ◌⊎◌, ℕ, List, [], ◌++◌}
 use Rattle.std.specs.List.{AllByRecursion}
-use Rattle.prolly_check.specs.FirstFault.{chunk_bytes}
-use Rattle.prolly_check.specs.ScanWay.{AreScanned, EndsEmpty, joined}
-use Rattle.prolly_check.specs.Way.{Clash}
+use Rattle.prolly_look_up.specs.Content.{chunk_bytes}
+use Rattle.prolly_look_up.specs.ScanWay.{AreScanned, EndsEmpty, joined}
+use Rattle.prolly_look_up.specs.Way.{Clash}
 use Rattle.prolly_entry.specs.Cut.{sha512_cut}
 use Rattle.prolly_entry.specs.Pair.{Pair, IsPair}
 use Rattle.prolly_entry.specs.declared.version.Version.{Version}

@@ -1,8 +1,8 @@
 -- What comes of a command that goes over the pairs of a tree of which only the root is known: how it
 -- ends, what it wrote until then, and what is told of its source.
 use Rattle.std.specs.Prelude.{◌≡◌, ◌⊎◌, ℕ, List, Result, Ok, Err}
-use Rattle.prolly_check.specs.Content.{Content}
-use Rattle.prolly_check.specs.ScanWay.{AreScanned}
+use Rattle.prolly_look_up.specs.Content.{Content}
+use Rattle.prolly_look_up.specs.ScanWay.{AreScanned}
 use Rattle.prolly_entry.specs.Cut.{sha512_cut}
 use Rattle.prolly_entry.specs.Pair.{Pair}
 use Rattle.prolly_entry.specs.declared.version.Version.{Version}

@@ -1,6 +1,6 @@
 -- What `scan` answers to who names the root.
 use Rattle.std.specs.Prelude.{ℕ, ◌≤◌, ◌⊎◌, List, length, take}
-use Rattle.prolly_check.specs.ScanWay.{EndsEmpty, joined}
+use Rattle.prolly_look_up.specs.ScanWay.{EndsEmpty, joined}
 use Rattle.prolly_entry.specs.Pair.{Pair}
 use Rattle.prolly_entry.specs.declared.version.Version.{Version}
 use Rattle.prolly_root.specs.declared.root_fault.RootFault.{RootFault}

@@ -2,9 +2,9 @@
 use Rattle.std.specs.Prelude.{◌≡◌, ◌⊎◌, ℕ, min, Bool, true, List, [], ◌∷◌, ◌++◌, length}
 use Rattle.std.specs.Prelude.{Option, Result, Ok, Err}
 use Rattle.std.specs.List.{AllByRecursion, filter}
-use Rattle.prolly_check.specs.Content.{Content}
-use Rattle.prolly_check.specs.FirstFault.{chunk_bytes}
-use Rattle.prolly_check.specs.Way.{Clash}
+use Rattle.prolly_look_up.specs.Content.{Content}
+use Rattle.prolly_look_up.specs.Content.{chunk_bytes}
+use Rattle.prolly_look_up.specs.Way.{Clash}
 use Rattle.prolly_entry.specs.Cut.{sha512_cut}
 use Rattle.prolly_entry.specs.Pair.{Pair, IsPair}
 use Rattle.prolly_entry.specs.declared.version.Version.{Version}
@@ -34,7 +34,8 @@ use Rattle.prolly_answer.specs.LookUps.{IsLookedUp, IsNoFile}
 use Rattle.prolly_answer.specs.SetLines.{keys_past, lines_at_end, lines_so_far}
 use Rattle.prolly_answer.specs.declared.answers.answer.Answer.{Answer}
 use Rattle.prolly_answer.specs.declared.faults.fault.Fault.{Fault}
-use Rattle.prolly_answer.specs.declared.faults.fault.Fault.TheVariants.{Memory, Proof, Read, Root, Write}
+use Rattle.prolly_answer.specs.declared.faults.fault.Fault.TheVariants.{Memory, Proof, Read, Root}
+use Rattle.prolly_answer.specs.declared.faults.fault.Fault.TheVariants.{Write}
 
 -- ---- what is told
 

@@ -6,7 +6,7 @@ ghost use Rattle.prolly_answer.specs.KeyLookUps.{KeysByRootAreRight};
 ghost use Rattle.prolly_answer.specs.RootDumps.{DumpsAreRight};
 ghost use Rattle.prolly_answer.specs.SetProofs.{RangesAreRight, ShownKeysAreRight};
 
-use prolly_check::laws::ways_are_right;
+use prolly_look_up::laws::ways_are_right;
 use prolly_range::laws::{keys_are_found, set_proofs_are_right};
 
 /// What `dump` writes as a record file is that of the map.

@@ -2,8 +2,8 @@
 use Rattle.std.proofs.Common.{ℕ, zero, suc, ◌<◌, List, [], ◌∷◌, length, arith}
 use Rattle.prolly_entry.specs.declared.version.Version.{Version}
 use Rattle.prolly_entry.specs.declared.version.Version.TheVariants.{One}
-use Rattle.prolly_check.specs.Entries.{IsWhole}
-use Rattle.prolly_check.specs.HeldPairs.{pairs_held}
+use Rattle.prolly_look_up.specs.Entries.{IsWhole}
+use Rattle.prolly_look_up.specs.HeldPairs.{pairs_held}
 
 -- A leaf that is whole in one version is whole in the other.
 pub whole_one : (version : Version) (chunk : List ℕ) → IsWhole version chunk →

@@ -2,7 +2,7 @@
 use Rattle.std.proofs.Common.{◌≡◌, ℕ, List, [], ◌∷◌, ◌++◌, Option, Some, None, sym}
 use Rattle.std.proofs.Common.{Result, Ok, Err, IfErr}
 use Rattle.std.proofs.Common.{ap, ◌∙◌, subst, append-nil, append_assoc}
-use Rattle.prolly_check.specs.HeldPairs.{pairs_held}
+use Rattle.prolly_look_up.specs.HeldPairs.{pairs_held}
 use Rattle.prolly_entry.specs.Pair.{Pair}
 use Rattle.prolly_entry.specs.declared.version.Version.{Version}
 use Rattle.prolly_root.specs.declared.root_fault.RootFault.{RootFault}

@@ -1,7 +1,7 @@
 -- What is sent of the leaves of an old tree, and how that ends.
 use Rattle.std.specs.Prelude.{◌≡◌, ℕ, ◌⊎◌, List, ◌++◌, Option, Some, None}
 use Rattle.std.specs.List.{AllByRecursion}
-use Rattle.prolly_check.specs.FirstFault.{chunk_bytes}
+use Rattle.prolly_look_up.specs.Content.{chunk_bytes}
 use Rattle.prolly_entry.specs.Cut.{Cut, sha512_cut}
 use Rattle.prolly_entry.specs.Pair.{IsPair, Pair}
 use Rattle.prolly_entry.specs.Prefix.{IsPrefix}

@@ -5,7 +5,7 @@ ghost use Rattle.prolly_tree.specs.Tree.{pair_is_boundary};
 ghost use Rattle.prolly_apply.specs.Cutting.{Admits, NoneInside};
 
 use crate::old_leaf::OldLeaf;
-use prolly_check::Pairs;
+use prolly_look_up::Pairs;
 use prolly_entry::Cut;
 
 /// Of so many leaves each pair is tested. Where the tree has more bits than is said, a leaf of it

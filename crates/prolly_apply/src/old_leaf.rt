@@ -1,13 +1,13 @@
 //! A leaf of an old tree.
 ghost use Rattle.std.specs.Prelude.{◌≡◌, ◌<◌, IfOk, length};
-ghost use Rattle.prolly_check.specs.Entries.{IsWhole};
-ghost use Rattle.prolly_check.specs.HeldPairs.{pairs_held};
+ghost use Rattle.prolly_look_up.specs.Entries.{IsWhole};
+ghost use Rattle.prolly_look_up.specs.HeldPairs.{pairs_held};
 ghost use Rattle.prolly_entry.specs.Reference.{reference_of};
 ghost use Rattle.prolly_entry.specs.declared.version.Version.TheVariants.{One};
 ghost use Rattle.prolly_tree.specs.Chunk.{chunk_of};
 ghost use Rattle.prolly_tree.specs.Tree.{last_key};
 
-use prolly_check::{Pairs, leaf_event, pairs_of};
+use prolly_look_up::{Pairs, leaf_event, pairs_of};
 use prolly_chunk::ChunkEvent;
 use prolly_entry::{Ref, Version};
 use std::alloc::{AllocError, Global};
@@ -22,8 +22,8 @@ pub struct OldLeaf {
 
 impl Model for OldLeaf {
     ghost use Rattle.std.specs.Prelude.{◌≡◌, List};
-    ghost use Rattle.prolly_check.specs.Entries.{IsWhole};
-    ghost use Rattle.prolly_check.specs.HeldPairs.{pairs_held};
+    ghost use Rattle.prolly_look_up.specs.Entries.{IsWhole};
+    ghost use Rattle.prolly_look_up.specs.HeldPairs.{pairs_held};
     ghost use Rattle.prolly_entry.specs.Pair.{Pair as PairValue};
     ghost use Rattle.prolly_entry.specs.declared.version.Version.TheVariants.{One};
     ghost use Rattle.prolly_tree.specs.Chunk.{chunk_of};

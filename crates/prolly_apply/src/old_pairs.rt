@@ -13,7 +13,7 @@ ghost use Rattle.prolly_apply.specs.Taking.{closes_leaf};
 
 use crate::old_leaf::OldLeaf;
 use crate::stop::Stop;
-use prolly_check::Pairs;
+use prolly_look_up::Pairs;
 use prolly_chunk::{ChunkEvent, LeafLevel};
 use prolly_entry::{Cut, Pair, Record, key_order};
 use prolly_link::{End, In, Out, RunFault};

@@ -5,7 +5,7 @@ use Rattle.std.proofs.Common.{inl, inr, refl, ap, sym, subst, ◌∙◌, arith}
 use Rattle.std.specs.List.{AllByRecursion, flat_map}
 use Rattle.std.specs.Prelude.{IfSome}
 use Rattle.std.proofs.lemmas.List.{append-nil, length-append, length-map, map-append}
-use Rattle.prolly_check.specs.FirstFault.{chunk_bytes}
+use Rattle.prolly_look_up.specs.Content.{chunk_bytes}
 use Rattle.prolly_entry.specs.Cut.{Cut, sha512_cut}
 use Rattle.prolly_entry.specs.Keys.{Rising}
 use Rattle.prolly_entry.specs.Overlay as overlays
@@ -39,7 +39,8 @@ use Rattle.prolly_apply.specs.Applied.{SendsApplied}
 use Rattle.prolly_apply.specs.Cutting.{AreCut}
 use Rattle.prolly_apply.specs.OldLoaded.{AreLeavesOf, IsOldLoaded, load_end}
 use Rattle.prolly_apply.specs.Taking.{both, pairs_of}
-use Rattle.prolly_apply.specs.lemmas.OldLeaves.{first_are_cut, first_pairs, leaves_are_cut, pairs_are}
+use Rattle.prolly_apply.specs.lemmas.OldLeaves.{first_are_cut, first_pairs, leaves_are_cut}
+use Rattle.prolly_apply.specs.lemmas.OldLeaves.{pairs_are}
 use Rattle.prolly_apply.specs.lemmas.OldLeaves.{rest_are_cut}
 use Rattle.prolly_build.specs.Applied.{IsMapOf, IsOldFault}
 use Rattle.prolly_build.specs.BuiltFile.{AreRead, IsInputEnd, IsLoadFault, IsRunOf}

@@ -3,7 +3,7 @@ use Rattle.std.proofs.Common.{◌≡◌, ◌≢◌, ℕ, Bool, List, Option, Som
 use Rattle.std.proofs.Common.{Ok, Err, OnOk, inl, inr, ap, sym, subst, ◌∙◌, arith}
 use Rattle.prolly_file.specs.Failures.{after_failure}
 use Rattle.prolly_apply.specs.OldLoaded.{TellsReadsOf, load_end}
-use Rattle.prolly_check.specs.Content.{Content}
+use Rattle.prolly_look_up.specs.Content.{Content}
 use Rattle.prolly_entry.specs.Pair.{Pair}
 use Rattle.prolly_entry.specs.Record.{Record}
 use Rattle.prolly_entry.specs.declared.version.Version.{Version}

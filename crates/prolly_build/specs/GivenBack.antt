@@ -1,6 +1,6 @@
 -- What becomes of the source of an old tree, and what is told of its reads.
 use Rattle.std.specs.Prelude.{◌≡◌, ◌≢◌, ◌⊎◌, ℕ, Option, Some, None, Result, Ok, Err, IfErr, IfSome}
-use Rattle.prolly_check.specs.Content.{Content}
+use Rattle.prolly_look_up.specs.Content.{Content}
 use Rattle.prolly_link.specs.declared.fault.RunFault.TheVariants.{NoThread, Lost}
 use Rattle.prolly_report.specs.declared.apply_fault.ApplyFault.{ApplyFault}
 use Rattle.prolly_report.specs.declared.apply_fault.ApplyFault.TheVariants as answers

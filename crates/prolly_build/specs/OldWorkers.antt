@@ -1,6 +1,6 @@
 -- What the workers give back that an old tree needs.
 use Rattle.std.specs.Prelude.{◌≡◌, ℕ, Bool, true, false, List, [], Option, IfSome}
-use Rattle.prolly_check.specs.Content.{Content}
+use Rattle.prolly_look_up.specs.Content.{Content}
 use Rattle.prolly_entry.specs.Cut.{sha512_cut}
 use Rattle.prolly_entry.specs.Pair.{Pair}
 use Rattle.prolly_entry.specs.Record.{Record}

@@ -6,10 +6,10 @@ use Rattle.std.proofs.lemmas.List.{drop-drop, drop-take, length-append, length-d
 use Rattle.prolly_entry.specs.Front.{NoPairAt}
 use Rattle.prolly_entry.specs.Pair.{Pair, IsPair}
 use Rattle.prolly_entry.specs.Spelling.{BeginsWith, pair_spelling}
-use Rattle.prolly_check.specs.Entries.{IsLeaf}
-use Rattle.prolly_check.specs.Leaves.{pairs_from}
-use Rattle.prolly_check.specs.Sought.Sought.{Key}
-use Rattle.prolly_check.specs.lemmas.PairLists.{from_all}
+use Rattle.prolly_look_up.specs.Entries.{IsLeaf}
+use Rattle.prolly_look_up.specs.Leaves.{pairs_from}
+use Rattle.prolly_look_up.specs.Sought.Sought.{Key}
+use Rattle.prolly_look_up.specs.lemmas.PairLists.{from_all}
 use Rattle.prolly_tree.specs.Difference.{IsMap}
 use Rattle.std.specs.List.{flat_map}
 use Rattle.prolly_c.proofs.Entries.{goes_on, no_bytes, reads_first, some_bytes}

@@ -1,6 +1,8 @@
 -- Reading the entries of a leaf, one pair after another.
-use Rattle.std.proofs.Common.{◌≡◌, ℕ, zero, suc, ◌-◌, ◌<◌, true, false, cond, not, List, [], ◌∷◌, ◌++◌}
-use Rattle.std.proofs.Common.{length, take, drop, Some, None, refl, sym, ap, ◌∙◌, subst, arith, append_assoc}
+use Rattle.std.proofs.Common.{◌≡◌, ℕ, zero, suc, ◌-◌, ◌<◌, true, false, cond, not, List, [], ◌∷◌}
+use Rattle.std.proofs.Common.{◌++◌}
+use Rattle.std.proofs.Common.{length, take, drop, Some, None, refl, sym, ap, ◌∙◌, subst, arith}
+use Rattle.std.proofs.Common.{append_assoc}
 use Rattle.std.specs.Int.{w16, to_be_bytes}
 use Rattle.std.specs.Ordering.{is_eq, is_lt}
 use Rattle.std.proofs.lemmas.List.{length-append}
@@ -12,9 +14,9 @@ use Rattle.prolly_entry.specs.lemmas.Spellings.{pair_spellings_apart}
 use Rattle.prolly_entry.specs.Keys.{key_order}
 use Rattle.prolly_tree.specs.LookUp.{find, nth}
 use Rattle.prolly_tree.specs.lemmas.Maps.{Rises}
-use Rattle.prolly_check.specs.Entries.{IsLeaf}
-use Rattle.prolly_check.specs.Leaves.{pairs_from}
-use Rattle.prolly_check.specs.lemmas.PairLists.{from_first}
+use Rattle.prolly_look_up.specs.Entries.{IsLeaf}
+use Rattle.prolly_look_up.specs.Leaves.{pairs_from}
+use Rattle.prolly_look_up.specs.lemmas.PairLists.{from_first}
 use Rattle.prolly_c.specs.Runs.{IsEnd}
 
 -- A spelled pair has bytes.

@@ -11,7 +11,8 @@ use Rattle.prolly_range.specs.SetProof.{IsSetProof, SetProofsAreRight}
 use Rattle.prolly_tree.specs.Difference.{IsMap}
 use Rattle.prolly_tree.specs.File.{root_reference}
 use Rattle.prolly_c.proofs.Cursors.{at_start}
-use Rattle.prolly_c.specs.RangeProofs.{HasRuns, HasShown, IsSomeRangeProof, ProvesRange, ScansOrClash}
+use Rattle.prolly_c.specs.RangeProofs.{HasRuns, HasShown, IsSomeRangeProof, ProvesRange}
+use Rattle.prolly_c.specs.RangeProofs.{ScansOrClash}
 use Rattle.prolly_c.specs.RangeProofs.{ShowsRange}
 use Rattle.prolly_c.specs.Runs.{AreRuns}
 use Rattle.prolly_c.specs.declared.run.Run.{Run}

@@ -1,14 +1,15 @@
 -- The pairs of a range that the chunks of its proof show, one chunk after another.
-use Rattle.std.proofs.Common.{◌≡◌, ℕ, zero, suc, ◌+◌, ◌<◌, ◌≤◌, Bool, true, false, List, [], ◌∷◌, ◌++◌}
+use Rattle.std.proofs.Common.{◌≡◌, ℕ, zero, suc, ◌+◌, ◌<◌, ◌≤◌, Bool, true, false, List, [], ◌∷◌}
+use Rattle.std.proofs.Common.{◌++◌}
 use Rattle.std.proofs.Common.{length, drop, get_or, map, Option, Some, None, refl, sym, ap, ◌∙◌}
 use Rattle.std.proofs.Common.{subst, arith, append_assoc, append-nil, if◌then◌else◌}
 use Rattle.std.proofs.lemmas.Bool.{false≢true}
 use Rattle.std.specs.List.{flat_map, AllByRecursion}
 use Rattle.std.specs.Ordering.{is_lt}
-use Rattle.prolly_check.specs.Entries.{Child, IsLeaf, pairs_in}
-use Rattle.prolly_check.specs.Kinds.{Entries, kind_of}
-use Rattle.prolly_check.specs.Kinds.Entries.{Leaf, Node}
-use Rattle.prolly_check.specs.Way.{level_of}
+use Rattle.prolly_look_up.specs.Entries.{Child, IsLeaf, pairs_in}
+use Rattle.prolly_look_up.specs.Kinds.{Entries, kind_of}
+use Rattle.prolly_look_up.specs.Kinds.Entries.{Leaf, Node}
+use Rattle.prolly_look_up.specs.Way.{level_of}
 use Rattle.prolly_entry.specs.Keys.{key_order}
 use Rattle.prolly_entry.specs.Pair.{Pair}
 use Rattle.prolly_entry.specs.declared.version.Version.{Version}
@@ -18,11 +19,12 @@ use Rattle.prolly_file.specs.Frame.{IsSmall, framed, has_no_frame}
 use Rattle.prolly_file.specs.FrameLaws.{begins_frame, one_front}
 use Rattle.prolly_range.specs.KeySet.{KeySet, is_before, met_first, met_in, pairs_wanted}
 use Rattle.prolly_range.specs.KeySet.KeySet.{Range}
-use Rattle.prolly_range.specs.SetProof.{AreTaken, Due, IsSetProof, child_due, due_below, pairs_there}
+use Rattle.prolly_range.specs.SetProof.{AreTaken, Due, IsSetProof, child_due, due_below}
+use Rattle.prolly_range.specs.SetProof.{pairs_there}
 use Rattle.prolly_range.specs.SetProof.{root_due, set_start}
 use Rattle.prolly_tree.specs.lemmas.Maps.{Rises, rises}
 use Rattle.prolly_c.proofs.Entries.{end_behind}
-use Rattle.prolly_check.specs.lemmas.ReadEntries.{leaf_pairs}
+use Rattle.prolly_look_up.specs.lemmas.ReadEntries.{leaf_pairs}
 use Rattle.prolly_c.specs.RangeProofs.{Shows, runs_shown}
 use Rattle.prolly_c.specs.Runs.{IsEnd}
 use Rattle.prolly_c.specs.Writing.{Wrote, WroteChunk}

@@ -11,7 +11,7 @@ use Rattle.prolly_entry.specs.Pair.{Pair}
 use Rattle.prolly_entry.specs.lemmas.Orders.{order_same}
 use Rattle.prolly_tree.specs.Difference.{IsMap}
 use Rattle.prolly_tree.specs.lemmas.Maps.{Above, above_first}
-use Rattle.prolly_diff.specs.Differences.{Maps, TakesLeast}
+use Rattle.prolly_tree.specs.Walks.{Maps, TakesLeast}
 use Rattle.prolly_c.proofs.RunLists.{some_run}
 use Rattle.prolly_c.specs.Changes.{AreAt, pair_is}
 use Rattle.prolly_c.specs.Cursor.{StepsOver, run_size, weight}

@@ -3,7 +3,7 @@ use Rattle.std.specs.Borrow.{Bor}
 use Rattle.std.specs.Prelude.{◌≡◌, ℕ, ◌+◌, ◌<◌, List, [], Some, None}
 use Rattle.prolly_entry.specs.Pair.{Pair}
 use Rattle.prolly_tree.specs.Difference.{IsDifference}
-use Rattle.prolly_diff.specs.Differences.{IsFirstChange, Maps, TakesLeast}
+use Rattle.prolly_tree.specs.Walks.{IsFirstChange, Maps, TakesLeast}
 use Rattle.prolly_c.specs.Cursor.{IsAt, weight}
 use Rattle.prolly_c.specs.declared.changes.Found.{Found}
 use Rattle.prolly_c.specs.declared.changes.Found.TheVariants as found

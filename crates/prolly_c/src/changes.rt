@@ -1,6 +1,6 @@
 //! Going over two chunk files side by side. Nothing is believed of cursors, indexes and bytes.
 ghost use Rattle.std.specs.Prelude.{◌≡◌, IfOk};
-ghost use Rattle.prolly_diff.specs.Differences.{AreMaps, Maps};
+ghost use Rattle.prolly_tree.specs.Walks.{AreMaps, Maps};
 ghost use Rattle.prolly_c.specs.Changes.{AreAt, IsNearer, IsFound, TakesAs};
 ghost use Rattle.prolly_c.specs.Runs.{Answers};
 

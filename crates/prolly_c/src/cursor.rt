@@ -1,8 +1,8 @@
 //! Going over the pairs of a chunk file, one after another.
 ghost use Rattle.std.specs.Prelude.{◌≡◌, ◌≢◌, ◌⊎◌, ◌≤◌, ◌∷◌, [], List};
 ghost use Rattle.prolly_entry.specs.Pair.{Pair};
-ghost use Rattle.prolly_check.specs.Content.{Content};
-ghost use Rattle.prolly_check.specs.Leaves.{pairs_from};
+ghost use Rattle.prolly_look_up.specs.Content.{Content};
+ghost use Rattle.prolly_look_up.specs.Leaves.{pairs_from};
 ghost use Rattle.prolly_c.specs.Cursor.{IsAt};
 ghost use Rattle.prolly_c.specs.Runs.{IsIndexOf};
 

@@ -1,6 +1,6 @@
 //! What turns one chunk file into another.
 ghost use Rattle.std.specs.Prelude.{◌≡◌, ◌≢◌, ◌⊎◌, ◌≤◌, ◌<◌, [], None, Some};
-ghost use Rattle.prolly_diff.specs.Differences.{AreMaps, IsFirstChange, Maps};
+ghost use Rattle.prolly_tree.specs.Walks.{AreMaps, IsFirstChange, Maps};
 ghost use Rattle.prolly_tree.specs.Difference.{IsDifference};
 ghost use Rattle.prolly_c.specs.Changes.{AreAt};
 

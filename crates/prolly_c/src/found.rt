@@ -4,13 +4,13 @@ ghost use Rattle.std.specs.Option.{option_copied};
 ghost use Rattle.prolly_entry.specs.Pair.{Pair};
 ghost use Rattle.prolly_tree.specs.Difference.{IsMap};
 ghost use Rattle.prolly_tree.specs.LookUp.{find, nth};
-ghost use Rattle.prolly_check.specs.FoundPairs.{pair_found};
+ghost use Rattle.prolly_look_up.specs.FoundPairs.{pair_found};
 ghost use Rattle.prolly_c.specs.Runs.{Answers, AreRuns};
 
 use crate::leaf::{Entry, pair_in, value_in};
 use crate::run::{Run, bytes_between, count_up_to};
 use crate::status::WrongIndex;
-use prolly_check::Sought;
+use prolly_look_up::Sought;
 
 /// The value of the key.
 pub(crate) fn value_by<'a>(

@@ -1,7 +1,7 @@
 //! Look-ups by an index.
 ghost use Rattle.std.specs.Prelude.{◌≡◌, ◌≢◌, ◌⊎◌, ◌≤◌, Some, None};
 ghost use Rattle.prolly_tree.specs.LookUp.{find, nth};
-ghost use Rattle.prolly_check.specs.Content.{Content};
+ghost use Rattle.prolly_look_up.specs.Content.{Content};
 ghost use Rattle.prolly_c.specs.Runs.{IsIndexOf};
 
 use crate::found::{pair_by, value_by};

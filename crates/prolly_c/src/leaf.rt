@@ -4,9 +4,9 @@ ghost use Rattle.std.specs.Option.{option_copied};
 ghost use Rattle.prolly_entry.specs.Pair.{Pair};
 ghost use Rattle.prolly_tree.specs.LookUp.{find, nth};
 ghost use Rattle.prolly_tree.specs.lemmas.Maps.{Rises};
-ghost use Rattle.prolly_check.specs.Entries.{IsLeaf};
-ghost use Rattle.prolly_check.specs.FoundPairs.{pair_found};
-ghost use Rattle.prolly_check.specs.Leaves.{pairs_from};
+ghost use Rattle.prolly_look_up.specs.Entries.{IsLeaf};
+ghost use Rattle.prolly_look_up.specs.FoundPairs.{pair_found};
+ghost use Rattle.prolly_look_up.specs.Leaves.{pairs_from};
 ghost use Rattle.prolly_c.specs.Runs.{Answers, IsEnd};
 
 use crate::status::WrongIndex;

@@ -1,12 +1,12 @@
 //! A run of pairs, and which one of many leads to what is sought.
 ghost use Rattle.std.specs.Prelude.{◌≡◌, ◌≤◌, ◌-◌, length, IfOk, MatchBool};
-ghost use Rattle.prolly_check.specs.Sought.{sought_of};
-ghost use Rattle.prolly_check.specs.Sought.Sought.{Key};
+ghost use Rattle.prolly_look_up.specs.Sought.{sought_of};
+ghost use Rattle.prolly_look_up.specs.Sought.Sought.{Key};
 ghost use Rattle.prolly_c.specs.Runs.{Answers, AreUpTo, StartsBehind, StartsUpTo, part};
 
 use crate::status::WrongIndex;
-use prolly_check::Sought;
 use prolly_entry::{key_order, split_pair};
+use prolly_look_up::Sought;
 
 /// Some pairs of a leaf, one behind another: their entries are the bytes from `start` to `end` of a
 /// chunk file. The first of them has the number `first` among the pairs of the file, counted from

@@ -2,7 +2,7 @@
 ghost use Rattle.std.specs.Prelude.{◌≡◌, ◌<◌, [], ℕ, List, MatchOption, IfOk, IfSome};
 ghost use Rattle.prolly_entry.specs.Pair.{Pair};
 ghost use Rattle.prolly_tree.specs.Difference.{IsMap};
-ghost use Rattle.prolly_check.specs.Leaves.{pairs_from};
+ghost use Rattle.prolly_look_up.specs.Leaves.{pairs_from};
 ghost use Rattle.prolly_c.specs.Cursor.{IsAt, Steps, weight};
 ghost use Rattle.prolly_c.specs.Runs.{Answers, AreRuns};
 
@@ -10,8 +10,8 @@ use crate::cursor::Cursor;
 use crate::leaf::{Entry, entries_from};
 use crate::run::{Run, bytes_between, count_up_to};
 use crate::status::WrongIndex;
-use prolly_check::Sought;
 use prolly_entry::split_pair;
+use prolly_look_up::Sought;
 
 /// The cursor that stands before the first pair whose key is not less than `from`.
 pub(crate) fn cursor_at(bytes: &[u8], runs: &[Run], from: &[u8]) -> Result<Cursor, WrongIndex>

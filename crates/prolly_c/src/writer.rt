@@ -4,17 +4,17 @@ ghost use Rattle.std.specs.Prelude.{IfSome, MatchOption};
 ghost use Rattle.prolly_entry.specs.Pair.{Pair};
 ghost use Rattle.prolly_entry.specs.declared.version.Version.{Version};
 ghost use Rattle.prolly_file.specs.Frame.{framed};
-ghost use Rattle.prolly_check.specs.Content.{Content};
-ghost use Rattle.prolly_check.specs.Entries.{Holds};
-ghost use Rattle.prolly_check.specs.Verdict.{IsFileOf};
+ghost use Rattle.prolly_look_up.specs.Content.{Content};
+ghost use Rattle.prolly_look_up.specs.Entries.{Holds};
+ghost use Rattle.prolly_look_up.specs.Content.{IsFileOf};
 ghost use Rattle.prolly_c.specs.Runs.{AreRuns, IsEnd, IsRun, run_count};
 ghost use Rattle.prolly_c.specs.Writing.{Passes, Spells, Wrote, WroteChunk};
 
 use crate::run::Run;
-use prolly_check::LEAF;
 use prolly_check::laws::files_are_accepted;
 use prolly_entry::split_pair;
 use prolly_file::{FRAME_FRONT, HEADER_SIZE, front_frame};
+use prolly_look_up::LEAF;
 
 /// How many pairs a run has at most.
 const RUN_PAIRS: u64 = 16;

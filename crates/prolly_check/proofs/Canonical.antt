@@ -1,6 +1,8 @@
 -- The chunks of a file, followed from the first to the last.
-use Rattle.std.proofs.Common.{◌≡◌, ℕ, suc, ◌<◌, ◌^◌, List, [], ◌∷◌, ◌++◌, length, take, drop, Some, None}
-use Rattle.std.proofs.Common.{◌+◌, ◌≤◌, Result, Ok, Err, get_or, sym, ap, ◌∙◌, subst, arith, append-nil, inl, inr}
+use Rattle.std.proofs.Common.{◌≡◌, ℕ, suc, ◌<◌, ◌^◌, List, [], ◌∷◌, ◌++◌, length, take, drop, Some}
+use Rattle.std.proofs.Common.{None}
+use Rattle.std.proofs.Common.{◌+◌, ◌≤◌, Result, Ok, Err, get_or, sym, ap, ◌∙◌, subst, arith}
+use Rattle.std.proofs.Common.{append-nil, inl, inr}
 use Rattle.std.proofs.Math.Logic.{⊎_map}
 use Rattle.std.proofs.Math.Seq.{drop-cons}
 use Rattle.std.specs.List.{AllByRecursion}
@@ -10,11 +12,11 @@ use Rattle.std.proofs.lemmas.List.{take-append-le, take_all, take_more}
 use Rattle.std.proofs.lemmas.List.Concat.{flat_map-append}
 use Rattle.prolly_entry.specs.Pair.{IsPair}
 use Rattle.prolly_entry.specs.declared.version.Version.{Version}
-use Rattle.prolly_check.specs.Entries.{AreWhole}
+use Rattle.prolly_look_up.specs.Entries.{AreWhole}
 use Rattle.prolly_check.specs.FirstFault.{CompareAs, difference}
 use Rattle.prolly_check.specs.Follower.{EndsWith, Follows, IsOutOfPlace, PartsAt, PartsFrom, all_of}
 use Rattle.prolly_check.specs.Follower.{place_of_end}
-use Rattle.prolly_check.specs.HeldPairs.{bytes_in, pairs_held}
+use Rattle.prolly_look_up.specs.HeldPairs.{bytes_in, pairs_held}
 use Rattle.prolly_check.specs.declared.verdict.fault.CheckFault.{CheckFault}
 use Rattle.prolly_check.specs.declared.verdict.follower.Follower.{Follower}
 use Rattle.prolly_check.specs.Verdict.{UnlessMemory}

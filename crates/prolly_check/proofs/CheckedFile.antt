@@ -2,50 +2,47 @@
 use Rattle.std.proofs.Common.{rules, ◌≡◌, ℕ, zero, suc, ◌-◌, ◌^◌, ◌<◌, List, [], ◌∷◌, ◌++◌, length}
 use Rattle.std.proofs.Common.{map, get_or, Ok, Err, inl, inr, ◌⊎◌, refl, sym, ap, ◌∙◌, subst, arith}
 use Rattle.std.proofs.Common.{◌≤◌, drop, length-drop, true, Option, Some, None, Result, ◌+◌, take}
-use Rattle.std.proofs.Common.{append_assoc, append-nil, false, not}
-use Rattle.std.specs.Int.{w64, to_be_bytes}
+use Rattle.std.proofs.Common.{append_assoc, append-nil}
 use Rattle.std.specs.List.{flat_map, AllByRecursion}
 use Rattle.std.specs.Prelude.{slice_index}
-use Rattle.std.specs.Str.{bytes_eq}
 use Rattle.std.specs.declared.ops.Range.{Range}
 use Rattle.std.proofs.Math.Logic.{⊎_map}
-use Rattle.std.proofs.lemmas.Bool.{false≢true, not-false}
 use Rattle.std.proofs.lemmas.Grind.{common_steps}
 use Rattle.std.proofs.lemmas.List.{length-append, length-map, map_push, length-take-le, drop-drop}
 use Rattle.std.proofs.lemmas.List.Concat.{flat_map-append}
-use Rattle.std.proofs.lemmas.Slice.Eq.{bytes_eq-Decides}
 use Rattle.prolly_entry.specs.Cut.{sha512_cut}
 use Rattle.prolly_entry.specs.Pair.{Pair}
 use Rattle.prolly_entry.specs.Reference.{reference_of}
-use Rattle.prolly_entry.specs.Spelling.{pair_spelling}
 use Rattle.prolly_entry.specs.declared.reference.Ref.{Ref}
 use Rattle.prolly_entry.specs.declared.version.Version.{Version}
-use Rattle.prolly_entry.specs.declared.version.Version.TheVariants.{One}
 use Rattle.prolly_entry.specs.lemmas.Lists.{all_append}
 use Rattle.prolly_tree.specs.Chunk.{Chunk, chunk_of, chunks, post_order, IsIn}
 use Rattle.prolly_tree.specs.File.{header, end_record}
-use Rattle.prolly_tree.specs.Tree.{Tree, bytes_of, last_key, tree_of}
+use Rattle.prolly_tree.specs.Tree.{Tree, bytes_of, tree_of}
 use Rattle.prolly_tree.specs.lemmas.Splits.{flat}
 use Rattle.prolly_file.specs.Frame.{framed, has_no_frame, IsSmall, BeginsFrame}
-use Rattle.prolly_file.specs.FrameLaws.{frames_bytes}
 use Rattle.prolly_file.specs.Header.{header_tests, header_fault, version_of}
 use Rattle.prolly_file.specs.declared.format.header.Header.{Header}
-use Rattle.prolly_check.specs.Chunks.{chunks_of, IsChecked, content_of, IsLaidOut, HasAt, IsIndex}
+use Rattle.prolly_look_up.specs.Content.{chunks_of}
+use Rattle.prolly_check.specs.Chunks.{IsChecked, content_of, IsLaidOut, HasAt, IsIndex}
 use Rattle.prolly_check.specs.Chunks.{AreReferences}
-use Rattle.prolly_check.specs.Content.{Content, root_bytes}
-use Rattle.prolly_check.specs.Entries.{IsBad, IsRead, IsWhole, AreWhole}
+use Rattle.prolly_look_up.specs.Content.{Content, root_bytes}
+use Rattle.prolly_check.specs.ReadChunks.{IsBad, IsRead}
+use Rattle.prolly_look_up.specs.Entries.{AreWhole}
 use Rattle.prolly_check.specs.Frames.{ending_of, IsFramed, chunks_in, FramesTo, chunk_in, IsWithin}
-use Rattle.prolly_check.specs.HeldPairs.{pairs_held}
-use Rattle.prolly_check.specs.FirstFault.{Says, chunk_bytes, reuse, canonical_fault, or_content}
+use Rattle.prolly_look_up.specs.HeldPairs.{pairs_held}
+use Rattle.prolly_check.specs.FirstFault.{Says, reuse, canonical_fault, or_content}
+use Rattle.prolly_look_up.specs.Content.{chunk_bytes}
 use Rattle.prolly_check.specs.FirstFault.{judged}
 use Rattle.prolly_check.specs.FirstFault.{CompareAs, ending_of_chunks, order_fault, ending_for}
-use Rattle.prolly_check.specs.Numbers.{chunks_size}
-use Rattle.prolly_check.specs.Verdict.{UnlessMemory, IsVerdict, IsFileOf, ReadVerdict}
+use Rattle.prolly_chunk.specs.Missing.{chunks_size}
+use Rattle.prolly_check.specs.Verdict.{UnlessMemory, IsVerdict, ReadVerdict}
+use Rattle.prolly_look_up.specs.Content.{IsFileOf}
 use Rattle.prolly_check.specs.Verdict.{FramesVerdict}
 use Rattle.prolly_check.specs.declared.chunks.Index.{Index}
 use Rattle.prolly_check.specs.declared.verdict.fault.CheckFault.{CheckFault}
-use Rattle.prolly_check.proofs.EntryLists.{each_has_bytes, leaf_pairs, leaf_spelled}
-use Rattle.prolly_check.proofs.HeldPairs.{map_holds, all_hold, flat_held}
+use Rattle.prolly_check.specs.lemmas.Sizes.{few_in_frames, frames_in}
+use Rattle.prolly_check.proofs.HeldPairs.{all_hold, flat_held}
 use Rattle.prolly_check.proofs.IndexSteps.{as_many, reference_at}
 use Rattle.prolly_check.proofs.OneVerdict.{one_verdict}
 use Rattle.prolly_check.proofs.Verdicts.{file_is_accepted, header_ok, ending_ok, canonical_ok}
@@ -109,70 +106,13 @@ only_memory bytes content fault short f (inr v) =
     let one = one_verdict bytes (Ok content) (Err fault)
     (file_is_accepted bytes content short f) v in cc
 
--- ---- a file has no more pairs than bytes, and its chunks have no more bytes
-
-pub few_in_one : (version : Version) (chunk : List ℕ) → IsWhole version chunk →
-    length (pairs_held chunk) ≤ length chunk
-few_in_one version [] w = omega arith
-few_in_one version (zero ∷ entries) w = grind (arith, each_has_bytes, leaf_pairs)
-few_in_one version (suc level ∷ entries) w = omega arith
-
--- the bytes of a chunk with pairs are those of the leaf of them
-pub leaf_bytes : (version : Version) (chunk : List ℕ) → IsWhole version chunk →
-    (pairs_held chunk ≡ [] → ⊥) → chunk ≡ 0 ∷ flat_map pair_spelling (pairs_held chunk)
-leaf_bytes version [] w some = absurd w.holds
-leaf_bytes version (zero ∷ entries) w some =
-    ap (λ bytes. 0 ∷ bytes) (leaf_spelled entries (record { pairs = w.pairs; is = w.holds }))
-leaf_bytes version (suc level ∷ entries) w some = absurd (some refl)
-
--- so it is the chunk of that leaf
-pub leaf_event_is : (version : Version) (chunk : List ℕ) (pairs : List Pair) (key : List ℕ)
-    (count : ℕ) → IsWhole version chunk → 0 < length (pairs_held chunk) →
-    pairs ≡ pairs_held chunk → key ≡ last_key pairs → count ≡ length pairs →
-    record { level = 0; key = key; count = count; bytes = chunk } ≡ chunk_of One 0
-    (pairs_held chunk)
-leaf_event_is version chunk pairs key count w some are k n =
-    ap (λ key. record { level = 0; key = key; count = count; bytes = chunk })
-    (k ∙ ap last_key are) ∙
-    ap (λ count. record {
-      level = 0;
-      key = last_key (pairs_held chunk);
-      count = count;
-      bytes = chunk;
-    }) (n ∙ ap length are) ∙
-    ap (λ bytes. record {
-      level = 0;
-      key = last_key (pairs_held chunk);
-      count = length (pairs_held chunk);
-      bytes = bytes;
-    }) (leaf_bytes version chunk w (λ none. absurd (omega (arith, some, ap length none))))
-
-pub few_in_frames : (version : Version) (cs : List (List ℕ)) → AreWhole version cs →
-    length (flat_map pairs_held cs) ≤ length (flat_map framed cs)
-few_in_frames version [] w = omega arith
-few_in_frames version (c ∷ cs) w =
-    let here = few_in_one version c w.0 in
-    let more = few_in_frames version cs w.1 in
-    let pairs = length-append (pairs_held c) (flat_map pairs_held cs) in
-    let frames = length-append (framed c) (flat_map framed cs) in
-    let frame = length-append (0x43 ∷ to_be_bytes w64 (length c)) c in
-    omega arith
+-- ---- its chunks have no more pairs and no more bytes than the file has
 
 pub few_held : (version : Version) (bytes : List ℕ) (spans : List (Range ℕ)) (place : ℕ) →
     FramesTo bytes 6 spans place → AreWhole version (chunks_in bytes spans) →
     length (flat_map pairs_held (chunks_in bytes spans)) ≤ length bytes
 few_held version bytes spans place frames whole =
     search (rules, few_in_frames, length-append, length-drop)
-
-frames_in : (bytes : List ℕ) (content : Content) → IsFileOf bytes content →
-    length (flat_map framed (chunks_of content)) ≤ length bytes
-frames_in bytes content f = grind (arith, frames_bytes, length-append)
-
-pub few_pairs : (bytes : List ℕ) (content : Content) → IsFileOf bytes content →
-    length content.pairs ≤ length bytes
-few_pairs bytes content f = grind (arith, map_holds, few_in_frames, frames_in)
-
--- nor have its chunks
 
 few_framed : (cs : List (List ℕ)) → chunks_size cs ≤ length (flat_map framed cs)
 few_framed [] = omega arith
@@ -367,13 +307,6 @@ one_more bytes from spans place len f b =
     }
 
 -- ---- the tests against the file of the pairs
-
--- what `!=` of bytes says
-pub unequal : (x y : List ℕ) → true ≡ not (bytes_eq x y) → x ≡ y → ⊥
-unequal x y e f = false≢true (sym (e ∙ ap not ((bytes_eq-Decides x y).1 f)))
-
-pub equal : (x y : List ℕ) → false ≡ not (bytes_eq x y) → x ≡ y
-equal x y e = (bytes_eq-Decides x y).0 (not-false (bytes_eq x y) (sym e))
 
 own_ending : (version : Version) (bits : ℕ) (pairs : List Pair) →
     ending_of_chunks (chunk_bytes version bits pairs) ≡ ending_for version bits pairs

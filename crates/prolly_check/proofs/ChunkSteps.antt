@@ -10,7 +10,8 @@ use Rattle.std.specs.Str.{bytes_eq}
 use Rattle.std.specs.declared.ops.Range.{Range}
 use Rattle.std.proofs.Math.Seq.{drop-cons}
 use Rattle.std.proofs.lemmas.Bool.{cond-true, false_from_ne_true, le-ltb, lt-ltb, ne_eqb}
-use Rattle.std.proofs.lemmas.List.{length-append, length-drop, length-map, take_all, take-append-drop, take-append-le, take-map, take_more}
+use Rattle.std.proofs.lemmas.List.{length-append, length-drop, length-map, take_all}
+use Rattle.std.proofs.lemmas.List.{take-append-drop, take-append-le, take-map, take_more}
 use Rattle.std.proofs.lemmas.List.Concat.{flat_map-append}
 use Rattle.std.proofs.lemmas.Slice.Eq.{bytes_eq-Decides}
 use Rattle.prolly_entry.specs.Cut.{sha512_cut}
@@ -27,15 +28,16 @@ use Rattle.prolly_tree.specs.lemmas.Splits.{flat}
 use Rattle.prolly_file.specs.Frame.{framed, has_no_frame, IsSmall}
 use Rattle.prolly_check.specs.ChunksRead.{AreRead, BodyRead, EndsAs, EndsChunks, HasFlaw, IsDecided}
 use Rattle.prolly_check.specs.Digests.{IsBroken}
-use Rattle.prolly_check.specs.Entries.{AreWhole, IsWhole}
-use Rattle.prolly_check.specs.FirstFault.{chunk_bytes, difference, ending_for, last_behind}
+use Rattle.prolly_look_up.specs.Entries.{AreWhole, IsWhole}
+use Rattle.prolly_look_up.specs.Content.{chunk_bytes}
+use Rattle.prolly_check.specs.FirstFault.{difference, ending_for, last_behind}
 use Rattle.prolly_check.specs.FirstFault.{order_fault, rises_behind}
 use Rattle.prolly_check.specs.FirstFlaw.{IsBodyFault, IsBodyVerdict, IsFlawBehind, IsReadTo}
 use Rattle.prolly_check.specs.FirstFlaw.{MayBegin, end_flaw, flaw_at_end}
 use Rattle.prolly_check.specs.Follower.{all_of, Follows, FollowsIn, IsAlike, IsOutOfPlace}
 use Rattle.prolly_check.specs.Follower.{IsTooShort, sent_of_leaves}
 use Rattle.prolly_check.specs.Frames.{chunk_in, chunks_in, FramesTo}
-use Rattle.prolly_check.specs.HeldPairs.{bytes_in, pairs_held}
+use Rattle.prolly_look_up.specs.HeldPairs.{bytes_in, pairs_held}
 use Rattle.prolly_check.specs.Incoming.{IsFilled}
 use Rattle.prolly_check.specs.Verdict.{UnlessMemory}
 use Rattle.prolly_check.specs.declared.stream.chunks_read.ChunksRead.{ChunksRead}
@@ -45,9 +47,10 @@ use Rattle.prolly_check.specs.declared.verdict.fault.CheckFault.TheVariants.{Bad
 use Rattle.prolly_check.specs.declared.verdict.fault.CheckFault.TheVariants.{KeysOutOfOrder}
 use Rattle.prolly_check.specs.declared.verdict.fault.CheckFault.TheVariants.{NotCanonical, Trailing}
 use Rattle.prolly_check.specs.declared.verdict.fault.CheckFault.TheVariants.{Truncated}
-use Rattle.prolly_check.proofs.CheckedFile.{chunks_last, chunks_some, few_in_frames}
+use Rattle.prolly_check.proofs.CheckedFile.{chunks_last, chunks_some}
+use Rattle.prolly_check.specs.lemmas.Sizes.{few_in_frames}
 use Rattle.prolly_check.proofs.FollowerSteps.{held_in, held_snoc, parts_difference}
-use Rattle.prolly_check.proofs.HeldPairs.{bytes_append}
+use Rattle.prolly_look_up.specs.lemmas.HeldPairs.{bytes_append}
 use Rattle.prolly_check.proofs.NextLeaf.{sent_begins}
 use Rattle.prolly_check.proofs.OpenLevels.{all_sent}
 use Rattle.prolly_check.proofs.RisingKeys.{last_append}

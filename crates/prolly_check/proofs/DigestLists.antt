@@ -7,9 +7,11 @@ use Rattle.std.proofs.lemmas.List.{length-append, length-take-le, take-append-dr
 use Rattle.prolly_entry.specs.Reference.{reference_of}
 use Rattle.prolly_entry.specs.declared.version.Version.{Version}
 use Rattle.prolly_check.specs.Chunks.{AreReferences}
-use Rattle.prolly_check.specs.Digests.{AreDigests, AreDigestsOf, AreNamed, EachHas, IsBroken, IsDigest, Tells}
-use Rattle.prolly_check.specs.Entries.{AreWhole, IsBad}
-use Rattle.prolly_check.specs.HeldPairs.{pairs_held}
+use Rattle.prolly_check.specs.Digests.{AreDigests, AreDigestsOf, AreNamed, EachHas, IsBroken}
+use Rattle.prolly_check.specs.Digests.{IsDigest, Tells}
+use Rattle.prolly_look_up.specs.Entries.{AreWhole}
+use Rattle.prolly_check.specs.ReadChunks.{IsBad}
+use Rattle.prolly_look_up.specs.HeldPairs.{pairs_held}
 use Rattle.prolly_check.specs.declared.verdict.digests.ChunkDigest.{ChunkDigest}
 use Rattle.prolly_check.specs.declared.verdict.fault.CheckFault.TheVariants.{BadChunk}
 use Rattle.prolly_check.proofs.HeldPairs.{all_hold}

@@ -12,23 +12,24 @@ use Rattle.prolly_entry.specs.lemmas.Lists.{all_append}
 use Rattle.prolly_tree.specs.Chunk.{IsIn, chunk_of}
 use Rattle.prolly_tree.specs.Tree.{bytes_of, pairs_below}
 use Rattle.prolly_laws.specs.Trees.{top_in}
-use Rattle.prolly_check.specs.Chunks.{HasFile, HasReference, chunks_of, HasAt}
-use Rattle.prolly_check.specs.Content.{Content, root_bytes}
+use Rattle.prolly_check.specs.Chunks.{HasFile, HasReference, HasAt}
+use Rattle.prolly_look_up.specs.Content.{chunks_of}
+use Rattle.prolly_look_up.specs.Content.{Content, root_bytes}
 use Rattle.prolly_check.specs.FileWays.{CanBeSought, IsWayEnd, IsNamedAt, IsNextOnWay, IsTop}
-use Rattle.prolly_check.specs.FileWays.{nth_chunk}
-use Rattle.prolly_check.specs.HeldPairs.{pairs_held}
-use Rattle.prolly_check.specs.Kinds.{kind_of}
-use Rattle.prolly_check.specs.Sought.{Sought, EndsAt, LeadsOn, sought_of}
-use Rattle.prolly_check.specs.Sought.Sought.{Key, Number}
-use Rattle.prolly_check.specs.Way.{Clash, IsOrdered, Lead, LevelsFall, level_of}
+use Rattle.prolly_look_up.specs.Content.{nth_chunk}
+use Rattle.prolly_look_up.specs.HeldPairs.{pairs_held}
+use Rattle.prolly_look_up.specs.Kinds.{kind_of}
+use Rattle.prolly_look_up.specs.Sought.{Sought, EndsAt, LeadsOn, sought_of}
+use Rattle.prolly_look_up.specs.Sought.Sought.{Key, Number}
+use Rattle.prolly_look_up.specs.Way.{Clash, IsOrdered, Lead, LevelsFall, level_of}
 use Rattle.prolly_check.specs.declared.look_up.descent.At.{At}
-use Rattle.prolly_check.specs.lemmas.Ways.{lead_more}
-use Rattle.prolly_check.proofs.CheckedFile.{few_pairs}
-use Rattle.prolly_check.proofs.Chosen.{CanCount}
-use Rattle.prolly_check.specs.lemmas.Chunks.{one_chunk}
-use Rattle.prolly_check.proofs.MapTree.{root_is, top_is_read, height_is, is_there}
-use Rattle.prolly_check.proofs.MapTree.{root_of, root_pairs}
-use Rattle.prolly_check.proofs.TreeWays.{Tells, stands_in_all, GoesTo, goes_to, way_right}
+use Rattle.prolly_look_up.specs.lemmas.Ways.{lead_more}
+use Rattle.prolly_check.specs.lemmas.Sizes.{few_pairs}
+use Rattle.prolly_look_up.specs.lemmas.Chosen.{CanCount}
+use Rattle.prolly_look_up.specs.lemmas.Apart.{one_chunk}
+use Rattle.prolly_look_up.specs.lemmas.MapTree.{root_is, top_is_read, height_is, is_there}
+use Rattle.prolly_look_up.specs.lemmas.MapTree.{root_of, root_pairs}
+use Rattle.prolly_look_up.specs.lemmas.TreeWays.{Tells, stands_in_all, GoesTo, goes_to, way_right}
 
 -- ---- from one chunk to the next
 

@@ -18,9 +18,9 @@ use Rattle.prolly_chunk.specs.NodeLevel.{NodeState, NodeTakes, NodeEnds, node_le
 use Rattle.prolly_check.specs.Follower.{PassedOn, PassesOn, ClosedPasses, ClosesAll, ClosesBehind}
 use Rattle.prolly_check.specs.Follower.{AllWhole}
 use Rattle.prolly_check.specs.Follower.{all_of, leaf_chunks, sent_of_leaves}
-use Rattle.prolly_check.specs.HeldPairs.{bytes_in}
+use Rattle.prolly_look_up.specs.HeldPairs.{bytes_in}
 use Rattle.prolly_check.specs.OpenLevels.{AreBehind, AreBelow, node_levels, sent_through}
-use Rattle.prolly_check.proofs.HeldPairs.{bytes_append}
+use Rattle.prolly_look_up.specs.lemmas.HeldPairs.{bytes_append}
 use Rattle.prolly_check.proofs.NextLeaf.{ends_empty, ends_whole_leaves}
 use Rattle.prolly_check.proofs.OpenLevels.{behind_on, sent_on, closed_below, ended_below, prefix_of}
 use Rattle.prolly_check.proofs.OpenLevels.{sent_first, sent_prefix}

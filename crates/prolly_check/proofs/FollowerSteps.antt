@@ -1,14 +1,16 @@
 -- What the chunks of a file that were read so far say of those that must follow, step by step.
 use Rattle.std.proofs.Common.{◌≡◌, ℕ, zero, suc, ◌+◌, ◌<◌, Bool, true, false, List, []}
 use Rattle.std.proofs.Common.{◌∷◌, ◌++◌, length, take, drop, get_or, Option, Some, None, refl}
-use Rattle.std.proofs.Common.{sym, ap, ◌∙◌, subst, arith, append_assoc, append-nil, inl, inr, ◌⊎◌, Result, Ok, Err}
+use Rattle.std.proofs.Common.{sym, ap, ◌∙◌, subst, arith, append_assoc, append-nil, inl, inr, ◌⊎◌}
+use Rattle.std.proofs.Common.{Result, Ok, Err}
 use Rattle.std.specs.Option.{is_some}
 use Rattle.std.specs.Prelude.{MatchResult, OnOk, IfErr, ◌==◌}
 use Rattle.std.specs.List.{flat_map, list_any, AllByRecursion}
 use Rattle.std.specs.Str.{bytes_eq}
 use Rattle.std.proofs.Math.Seq.{drop-cons, get_or-append_seam, take-append_seam}
 use Rattle.std.proofs.lemmas.Bool.{cond-false, false_from_ne_true, ne_eqb}
-use Rattle.std.proofs.lemmas.List.{append_cancel_left, get_or_append_left, length-append, map-append}
+use Rattle.std.proofs.lemmas.List.{append_cancel_left, get_or_append_left, length-append}
+use Rattle.std.proofs.lemmas.List.{map-append}
 use Rattle.std.proofs.lemmas.List.{take-append-drop, take-append-le}
 use Rattle.std.proofs.lemmas.List.Concat.{flat_map-append}
 use Rattle.std.proofs.lemmas.Slice.Eq.{bytes_eq-Decides}
@@ -25,22 +27,23 @@ use Rattle.prolly_tree.specs.lemmas.Splits.{flat}
 use Rattle.prolly_laws.specs.Splits.{split_splits}
 use Rattle.prolly_chunk.specs.LeafLevel.{is_whole_leaf}
 use Rattle.prolly_chunk.specs.NodeLevel.{NodeState}
-use Rattle.prolly_check.specs.Entries.{AreWhole, IsWhole}
+use Rattle.prolly_look_up.specs.Entries.{AreWhole, IsWhole}
 use Rattle.prolly_check.specs.FirstFault.{difference}
 use Rattle.prolly_check.specs.Follower.{AllWhole, leaf_chunks, sent_of_leaves, all_of, IsGoing}
 use Rattle.prolly_check.specs.Follower.{IsEnding, IsOutOfPlace, PassesOn, Follows, FollowsIn}
 use Rattle.prolly_check.specs.Follower.{PartsAt, PartsFrom, place_of_end}
 use Rattle.prolly_check.specs.Follower.{IsAlike, IsTooShort, ClosesAll, ClosesBehind}
-use Rattle.prolly_check.specs.HeldPairs.{bytes_in, pairs_held}
+use Rattle.prolly_look_up.specs.HeldPairs.{bytes_in, pairs_held}
 use Rattle.prolly_check.specs.OpenLevels.{AreBehind, AreUnused, node_levels, sent_through}
 use Rattle.prolly_check.specs.Verdict.{UnlessMemory}
 use Rattle.prolly_check.specs.declared.verdict.follower.Follower.{Follower}
 use Rattle.prolly_check.specs.declared.verdict.fault.CheckFault.{CheckFault}
 use Rattle.prolly_check.specs.declared.verdict.fault.CheckFault.TheVariants.{NotCanonical}
-use Rattle.prolly_check.proofs.CheckedFile.{leaf_bytes}
-use Rattle.prolly_check.proofs.EntryLists.{leaf_pairs}
-use Rattle.prolly_check.proofs.HeldPairs.{bytes_append}
-use Rattle.prolly_check.proofs.NextLeaf.{held_all, held_leaves, held_sent, leaf_follows, sent_begins}
+use Rattle.prolly_look_up.specs.lemmas.LeafEvents.{leaf_bytes}
+use Rattle.prolly_look_up.specs.lemmas.EntryLists.{leaf_pairs}
+use Rattle.prolly_look_up.specs.lemmas.HeldPairs.{bytes_append}
+use Rattle.prolly_check.proofs.NextLeaf.{held_all, held_leaves, held_sent, leaf_follows}
+use Rattle.prolly_check.proofs.NextLeaf.{sent_begins}
 use Rattle.prolly_check.proofs.NextLeaf.{other_group, ends_open}
 use Rattle.prolly_check.proofs.OpenLevels.{unused_behind, unused_sent}
 use Rattle.prolly_check.proofs.OpenLevels.{difference_along}

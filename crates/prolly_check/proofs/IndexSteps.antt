@@ -23,7 +23,7 @@ use Rattle.prolly_entry.specs.declared.reference.Ref.{Ref}
 use Rattle.prolly_entry.specs.lemmas.Orders.{order_self}
 use Rattle.prolly_check.specs.Chunks.{AreReferences, HasAt, IsIndex}
 use Rattle.prolly_check.specs.FirstFault.{reuse}
-use Rattle.prolly_check.specs.Verdict.{AllApart}
+use Rattle.prolly_look_up.specs.Content.{AllApart}
 use Rattle.prolly_check.specs.declared.chunks.Index.{Index}
 use Rattle.prolly_check.specs.declared.verdict.fault.CheckFault.TheVariants.{Collision}
 use Rattle.prolly_check.proofs.Verdicts.{reuse_is}

@@ -17,13 +17,14 @@ use Rattle.prolly_tree.specs.Tree.{last_key}
 use Rattle.prolly_tree.specs.lemmas.Maps.{Above, Rises, rises, rises_back}
 use Rattle.prolly_file.specs.Sink.{SinkView, TakesPrefix}
 use Rattle.prolly_file.specs.Writes.{Writes}
-use Rattle.prolly_check.specs.Chunks.{HasFile, chunks_of}
-use Rattle.prolly_check.specs.Content.{Content}
-use Rattle.prolly_check.specs.HeldPairs.{pairs_held}
-use Rattle.prolly_check.specs.Leaves.{pairs_from}
-use Rattle.prolly_check.specs.ScanWay.{AreFirstFrom, next_key}
-use Rattle.prolly_check.proofs.HeldPairs.{map_holds}
-use Rattle.prolly_check.proofs.PairsFrom.{above_some, from_all, pairs_from-append}
+use Rattle.prolly_check.specs.Chunks.{HasFile}
+use Rattle.prolly_look_up.specs.Content.{chunks_of}
+use Rattle.prolly_look_up.specs.Content.{Content}
+use Rattle.prolly_look_up.specs.HeldPairs.{pairs_held}
+use Rattle.prolly_look_up.specs.Leaves.{pairs_from}
+use Rattle.prolly_look_up.specs.ScanWay.{AreFirstFrom, next_key}
+use Rattle.prolly_look_up.specs.lemmas.HeldPairs.{map_holds}
+use Rattle.prolly_look_up.specs.lemmas.PairsFrom.{above_some, from_all, pairs_from-append}
 
 -- the pairs of the next chunk
 held_next : (chunks : List (List ℕ)) (number : ℕ) (held : List Pair) → number < length chunks →

@@ -4,11 +4,9 @@ pub mod Verdicts
 pub mod OneVerdict
 -- What is known of a file that is checked, and of one that was accepted.
 pub mod CheckedFile
--- Entries that bytes spell, read one after another.
-pub mod EntryLists
--- The pairs that chunks hold, and testing chunks one after another.
+-- The pairs that chunks hold, chunk after chunk.
 pub mod HeldPairs
--- Reading keys one after another, those of a chunk and those of a file.
+-- Reading the keys of a file, one after another.
 pub mod RisingKeys
 -- Counting the pairs of a leaf, one after another.
 pub mod PairCounts
@@ -18,18 +16,10 @@ pub mod DigestLists
 pub mod IndexSteps
 -- The numbers of a tree: its levels, the sizes of its chunks, those that others lack.
 pub mod TreeNumbers
--- What is found among the pairs of a map: at a key, from a key on, at a number.
-pub mod PairsFrom
--- The tree of a map, and what is read of its chunks.
-pub mod MapTree
 -- What is left of a map, leaf by leaf, and what was written of it.
 pub mod LeafRests
 -- Levels of nodes that stand one above another: what they send of events, and of all of them.
 pub mod OpenLevels
--- The child of a node that a look-up goes on in.
-pub mod Chosen
--- The ways of look-ups down a tree, for who knows the root alone.
-pub mod TreeWays
 -- Going down the tree of a file that was checked.
 pub mod FileDescents
 -- The leaf that follows whole leaves, and the pairs that the chunks of a file hold.

@@ -24,20 +24,23 @@ use Rattle.prolly_file.specs.Frame.{framed, has_no_frame, IsSmall}
 use Rattle.prolly_file.specs.FrameLaws.{begins_frame, frames_bytes, one_front}
 use Rattle.prolly_file.specs.Header.{header_fault, header_tests, version_of}
 use Rattle.prolly_file.specs.declared.format.header.HeaderFault.TheVariants as header_faults
-use Rattle.prolly_check.specs.Content.{Content}
-use Rattle.prolly_check.specs.Entries.{AreWhole, IsWhole}
-use Rattle.prolly_check.specs.FirstFault.{chunk_bytes, difference, ending_for, order_fault}
+use Rattle.prolly_look_up.specs.Content.{Content}
+use Rattle.prolly_look_up.specs.Entries.{AreWhole, IsWhole}
+use Rattle.prolly_look_up.specs.Content.{chunk_bytes}
+use Rattle.prolly_check.specs.FirstFault.{difference, ending_for, order_fault}
 use Rattle.prolly_check.specs.FirstFault.{rises_behind}
 use Rattle.prolly_check.specs.FirstFlaw.{IsBodyFault, IsBodyFlaw, IsFlawBehind, IsGoodBody}
 use Rattle.prolly_check.specs.FirstFlaw.{IsMapFile, IsStreamFault, end_flaw, flaw_at_end}
-use Rattle.prolly_check.specs.HeldPairs.{pairs_held}
+use Rattle.prolly_look_up.specs.HeldPairs.{pairs_held}
 use Rattle.prolly_check.specs.declared.stream.fault.StreamFault.{StreamFault}
 use Rattle.prolly_check.specs.declared.stream.fault.StreamFault.TheVariants as stream
 use Rattle.prolly_check.specs.declared.verdict.fault.CheckFault.{CheckFault}
 use Rattle.prolly_check.specs.declared.verdict.fault.CheckFault.TheVariants as faults
-use Rattle.prolly_check.proofs.CheckedFile.{chunks_last, few_in_frames}
+use Rattle.prolly_check.proofs.CheckedFile.{chunks_last}
+use Rattle.prolly_check.specs.lemmas.Sizes.{few_in_frames}
 use Rattle.prolly_check.proofs.FollowerSteps.{held_in, whole_lawful}
-use Rattle.prolly_check.proofs.HeldPairs.{flat_held, map_holds}
+use Rattle.prolly_check.proofs.HeldPairs.{flat_held}
+use Rattle.prolly_look_up.specs.lemmas.HeldPairs.{map_holds}
 use Rattle.prolly_check.proofs.OneVerdict.{framed_one}
 use Rattle.prolly_check.proofs.RisingKeys.{rises_append, rising_is}
 use Rattle.prolly_check.proofs.Verdicts.{all_small, difference_ok, difference_same}

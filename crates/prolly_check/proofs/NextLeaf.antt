@@ -22,10 +22,10 @@ use Rattle.prolly_tree.specs.lemmas.Splits.{flat, as_group, closes, Open, Ends, 
 use Rattle.prolly_laws.specs.Splits.{parts, open_rest_of, split_parts, split_splits}
 use Rattle.prolly_chunk.specs.LeafLevel.{is_whole_leaf}
 use Rattle.prolly_check.specs.Follower.{AllWhole, leaf_chunks, sent_of_leaves, all_of}
-use Rattle.prolly_check.specs.HeldPairs.{bytes_in, pairs_held}
+use Rattle.prolly_look_up.specs.HeldPairs.{bytes_in, pairs_held}
 use Rattle.prolly_check.specs.OpenLevels.{node_levels, sent_through}
-use Rattle.prolly_check.proofs.EntryLists.{leaf_pairs}
-use Rattle.prolly_check.proofs.HeldPairs.{bytes_append}
+use Rattle.prolly_look_up.specs.lemmas.EntryLists.{leaf_pairs}
+use Rattle.prolly_look_up.specs.lemmas.HeldPairs.{bytes_append}
 use Rattle.prolly_check.proofs.OpenLevels.{prefix_of, sent_first, sent_prefix}
 use Rattle.prolly_check.proofs.OpenLevels.{sends_prefix}
 

@@ -12,8 +12,9 @@ use Rattle.prolly_file.specs.Frame.{framed, has_no_frame, IsSmall}
 use Rattle.prolly_file.specs.FrameLaws.{begins_frame, one_front}
 use Rattle.prolly_file.specs.Header.{header_tests, header_fault, version_of}
 use Rattle.prolly_file.specs.declared.format.header.HeaderFault.{HeaderFault}
-use Rattle.prolly_check.specs.Content.{Content}
-use Rattle.prolly_check.specs.Entries.{Holds, IsRead, AreWhole}
+use Rattle.prolly_look_up.specs.Content.{Content}
+use Rattle.prolly_look_up.specs.Entries.{Holds, AreWhole}
+use Rattle.prolly_check.specs.ReadChunks.{IsRead}
 use Rattle.prolly_check.specs.Frames.{ending_of}
 use Rattle.prolly_check.specs.FirstFault.{order_fault, difference, reuse, or_content, last_behind}
 use Rattle.prolly_check.specs.Verdict.{UnlessMemory, IsRefusal, ReadVerdict, EndVerdict}

@@ -17,13 +17,13 @@ use Rattle.prolly_entry.specs.lemmas.Lists.{all_append}
 use Rattle.prolly_tree.specs.Tree.{last_key, pair_is_boundary}
 use Rattle.prolly_chunk.specs.LeafLevel.{is_whole_leaf}
 use Rattle.prolly_check.specs.Digests.{AreCounted, IsPairsDigest, TellsOf}
-use Rattle.prolly_check.specs.Entries.{BeginsWith, IsLeaf, IsNode, IsSomeLeaf, pairs_in}
-use Rattle.prolly_check.specs.HeldPairs.{pairs_held}
+use Rattle.prolly_look_up.specs.Entries.{BeginsWith, IsLeaf, IsNode, IsSomeLeaf, pairs_in}
+use Rattle.prolly_look_up.specs.HeldPairs.{pairs_held}
 use Rattle.prolly_check.specs.FirstFault.{last_behind, rises_behind}
 use Rattle.prolly_check.specs.declared.verdict.pairs_digest.PairsDigest.{PairsDigest}
-use Rattle.prolly_check.proofs.EntryLists.{each_has_bytes, leaf_pairs, no_leaf, no_pairs}
+use Rattle.prolly_look_up.specs.lemmas.EntryLists.{each_has_bytes, leaf_pairs, no_leaf, no_pairs}
 use Rattle.prolly_check.proofs.RisingKeys.{last_append, rises_append}
-use Rattle.prolly_check.specs.lemmas.ReadEntries.{drop_front}
+use Rattle.prolly_look_up.specs.lemmas.ReadEntries.{drop_front}
 
 module _ (cut : Cut) where
   whole_more : (ps : List Pair) (p : Pair) → is_whole_leaf cut (ps ++ p ∷ []) ≡

@@ -1,14 +1,11 @@
--- Reading keys one after another, those of a chunk and those of a file.
+-- Reading the keys of a file, one after another.
 use Rattle.std.proofs.Common.{◌≡◌, ℕ, Bool, true, false, ◌&&◌, List, [], ◌∷◌, ◌++◌, drop, map}
-use Rattle.std.proofs.Common.{Option, Some, None, refl, sym, ap, ◌∙◌, arith, ◌↔◌, Ordering}
-use Rattle.std.specs.Ordering.{is_lt}
-use Rattle.std.specs.declared.cmp.Ordering.TheVariants.{Less, Equal, Greater}
-use Rattle.std.proofs.lemmas.Bool.{false≢true}
+use Rattle.std.proofs.Common.{Option, Some, None, refl, sym, ap, ◌∙◌, arith, ◌↔◌}
 use Rattle.std.proofs.lemmas.Grind.{common_steps}
 use Rattle.prolly_entry.specs.Keys.{Rising, RisingFrom}
 use Rattle.prolly_entry.specs.Pair.{Pair}
 use Rattle.prolly_entry.specs.Position.{Position, is_before}
-use Rattle.prolly_check.specs.HeldPairs.{pairs_held}
+use Rattle.prolly_look_up.specs.HeldPairs.{pairs_held}
 use Rattle.prolly_check.specs.FirstFault.{RisesTo, order_fault, rises_behind, last_behind}
 
 -- ---- pairs behind pairs
@@ -26,11 +23,6 @@ pub last_append : (last : Position) (xs ys : List Pair) →
     last_behind last (xs ++ ys) ≡ last_behind (last_behind last xs) ys
 last_append last [] ys = refl
 last_append last (x ∷ xs) ys = last_append (Some x.key) xs ys
-
-pub is_less : (o : Ordering) → is_lt o ≡ true → o ≡ Less
-is_less Less h = refl
-is_less Equal h = absurd (false≢true h)
-is_less Greater h = absurd (false≢true h)
 
 rises_is : (key : List ℕ) (ps : List Pair) → (rises_behind (Some key) ps ≡ true) ↔ RisingFrom key
     (map (λ p. p.key) ps)
@@ -59,10 +51,3 @@ rises_all last new ps p rest are inside first is = record {
 pub record ChunksRise (chunks : List (List ℕ)) (last : Option (List ℕ)) (number : ℕ) : Type 0 where
   pub same : order_fault None 0 (map pairs_held chunks) ≡ order_fault last number
       (map pairs_held (drop number chunks))
-
--- ---- reading the keys of one chunk, one after another
-
--- the keys rise, the first one behind this position
-abbrev pub RisesOn : Position → List (List ℕ) → Type 0
-RisesOn None keys = Rising keys
-RisesOn (Some last) keys = RisingFrom last keys

@@ -32,17 +32,18 @@ use Rattle.prolly_tree.specs.Tree.{LeveledTree, Tree, bytes_of, tree_of}
 use Rattle.prolly_tree.specs.lemmas.Trees.{Full}
 use Rattle.prolly_laws.specs.Trees.{grow_is, tree_full}
 use Rattle.prolly_check.specs.Chunks.{HasAt, IsIndex}
-use Rattle.prolly_check.specs.Numbers.{IsAtPlace, IsLevel, at_level, AreLevels, AreOfMap, AreSo}
-use Rattle.prolly_check.specs.Numbers.{has_reference, lacking, chunks_size}
-use Rattle.prolly_check.specs.Way.{level_of}
+use Rattle.prolly_check.specs.Numbers.{IsAtPlace, IsLevel, at_level, AreLevels, AreOfMap}
+use Rattle.prolly_chunk.specs.Missing.{AreSo}
+use Rattle.prolly_chunk.specs.Missing.{has_reference, lacking, chunks_size}
+use Rattle.prolly_look_up.specs.Way.{level_of}
 use Rattle.prolly_check.specs.declared.chunks.Index.{Index}
 use Rattle.prolly_chunk.specs.declared.level_stats.LevelStats.{LevelStats}
-use Rattle.prolly_check.specs.declared.numbers.Missing.{Missing}
+use Rattle.prolly_chunk.specs.declared.missing.Missing.{Missing}
 use Rattle.prolly_check.proofs.CheckedFile.{chunks_last}
-use Rattle.prolly_check.proofs.HeldPairs.{bytes_append, bytes_in}
-use Rattle.prolly_check.proofs.Chosen.{one_same}
-use Rattle.prolly_check.proofs.MapTree.{height_is}
-use Rattle.prolly_check.proofs.PairsFrom.{nth_back, nth_front}
+use Rattle.prolly_look_up.specs.lemmas.HeldPairs.{bytes_append, bytes_in}
+use Rattle.prolly_look_up.specs.lemmas.Chosen.{one_same}
+use Rattle.prolly_look_up.specs.lemmas.MapTree.{height_is}
+use Rattle.prolly_look_up.specs.lemmas.PairsFrom.{nth_back, nth_front}
 
 -- ---- whether a reference is there
 

@@ -25,20 +25,24 @@ use Rattle.prolly_tree.specs.lemmas.Splits.{flat}
 use Rattle.prolly_file.specs.Frame.{framed, IsSmall}
 use Rattle.prolly_file.specs.FrameLaws.{frames_bytes}
 use Rattle.prolly_file.specs.Header.{header_tests, header_fault, version_of}
-use Rattle.prolly_check.specs.Content.{Content}
-use Rattle.prolly_check.specs.Entries.{Holds, AllHold, IsRead}
+use Rattle.prolly_look_up.specs.Content.{Content}
+use Rattle.prolly_look_up.specs.Entries.{Holds}
+use Rattle.prolly_check.specs.ReadChunks.{AllHold, IsRead}
 use Rattle.prolly_check.specs.Frames.{ending_of, IsFramed}
-use Rattle.prolly_check.specs.HeldPairs.{pairs_held}
-use Rattle.prolly_check.specs.FirstFault.{order_fault, difference, end_fault, reuse, chunk_bytes}
+use Rattle.prolly_look_up.specs.HeldPairs.{pairs_held}
+use Rattle.prolly_check.specs.FirstFault.{order_fault, difference, end_fault, reuse}
+use Rattle.prolly_look_up.specs.Content.{chunk_bytes}
 use Rattle.prolly_check.specs.FirstFault.{ending_for, canonical_fault, judged, rises_behind}
 use Rattle.prolly_check.specs.FirstFault.{last_behind, or_content}
-use Rattle.prolly_check.specs.Verdict.{ReadVerdict, EndVerdict, IsVerdict, AllApart, IsFileOf}
+use Rattle.prolly_check.specs.Verdict.{ReadVerdict, EndVerdict, IsVerdict}
+use Rattle.prolly_look_up.specs.Content.{AllApart, IsFileOf}
 use Rattle.prolly_check.specs.Verdict.{FramesVerdict, AcceptsFiles}
 use Rattle.prolly_check.specs.declared.verdict.fault.CheckFault.{CheckFault}
 use Rattle.prolly_check.specs.declared.verdict.fault.CheckFault.TheVariants.{NotCanonical}
 use Rattle.prolly_check.specs.declared.verdict.fault.CheckFault.TheVariants.{Collision}
-pub use Rattle.prolly_check.specs.lemmas.Held.{difference_ok, if_none, or_none}
-use Rattle.prolly_check.proofs.HeldPairs.{flat_held, all_hold, map_holds}
+pub use Rattle.prolly_check.specs.lemmas.Faults.{difference_ok, if_none, or_none}
+use Rattle.prolly_check.proofs.HeldPairs.{flat_held, all_hold}
+use Rattle.prolly_look_up.specs.lemmas.HeldPairs.{map_holds}
 use Rattle.prolly_check.proofs.RisingKeys.{rises_append, rising_is}
 
 -- ---- what is accepted is the file of a map

@@ -9,12 +9,13 @@ use Rattle.prolly_entry.specs.Reference.{reference_of}
 use Rattle.prolly_entry.specs.declared.reference.Ref.{Ref}
 use Rattle.prolly_tree.specs.Chunk.{IsIn}
 use Rattle.prolly_file.specs.declared.format.header.Header.{Header}
-use Rattle.prolly_check.specs.Content.{Content}
-use Rattle.prolly_check.specs.Entries.{AreWhole}
+use Rattle.prolly_look_up.specs.Content.{Content, chunks_of}
+use Rattle.prolly_look_up.specs.Entries.{AreWhole}
 use Rattle.prolly_check.specs.Frames.{IsWithin, chunks_in}
-use Rattle.prolly_check.specs.HeldPairs.{pairs_held}
-use Rattle.prolly_check.specs.FirstFault.{chunk_bytes, judged}
-use Rattle.prolly_check.specs.Verdict.{IsFileOf, IsVerdict}
+use Rattle.prolly_look_up.specs.HeldPairs.{pairs_held}
+use Rattle.prolly_check.specs.FirstFault.{judged}
+use Rattle.prolly_look_up.specs.Content.{IsFileOf}
+use Rattle.prolly_check.specs.Verdict.{IsVerdict}
 use Rattle.prolly_check.specs.declared.chunks.Index.{Index}
 
 -- The references of the chunks, in their order.
@@ -54,10 +55,6 @@ content_of header chunks = record {
   bits = header.bits;
   pairs = flat_map pairs_held chunks;
 }
-
--- The chunks of the file of a map.
-abbrev pub chunks_of : Content → List (List ℕ)
-chunks_of content = chunk_bytes content.version content.bits content.pairs
 
 -- The header, the frames up to the place, the end record and the entries are as a file has them, so
 -- the verdict on the bytes is what is judged of the chunks.

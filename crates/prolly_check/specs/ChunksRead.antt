@@ -8,11 +8,11 @@ use Rattle.prolly_entry.specs.Reference.{reference_of}
 use Rattle.prolly_entry.specs.declared.reference.Ref.{Ref}
 use Rattle.prolly_tree.specs.File.{root_reference}
 use Rattle.prolly_file.specs.Frame.{framed, IsSmall}
-use Rattle.prolly_check.specs.Entries.{AreWhole}
+use Rattle.prolly_look_up.specs.Entries.{AreWhole}
 use Rattle.prolly_check.specs.FirstFault.{last_behind, order_fault}
 use Rattle.prolly_check.specs.FirstFlaw.{IsFlawBehind, MayBegin, flaw_at_end, record_flaw}
 use Rattle.prolly_check.specs.Follower.{Follows}
-use Rattle.prolly_check.specs.HeldPairs.{pairs_held}
+use Rattle.prolly_look_up.specs.HeldPairs.{pairs_held}
 use Rattle.prolly_check.specs.Incoming.{IsFilled}
 use Rattle.prolly_check.specs.Verdict.{UnlessMemory}
 use Rattle.prolly_check.specs.declared.stream.chunks_read.ChunksRead.{ChunksRead}

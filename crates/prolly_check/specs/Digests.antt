@@ -8,9 +8,9 @@ use Rattle.prolly_entry.specs.Reference.{reference_of}
 use Rattle.prolly_entry.specs.declared.version.Version.{Version}
 use Rattle.prolly_tree.specs.Tree.{pair_is_boundary}
 use Rattle.prolly_chunk.specs.LeafLevel.{is_whole_leaf}
-use Rattle.prolly_check.specs.Entries.{Holds, IsSomeLeaf, IsWhole, pairs_in}
+use Rattle.prolly_look_up.specs.Entries.{Holds, IsSomeLeaf, IsWhole, pairs_in}
 use Rattle.prolly_check.specs.FirstFault.{last_behind, rises_behind}
-use Rattle.prolly_check.specs.HeldPairs.{pairs_held}
+use Rattle.prolly_look_up.specs.HeldPairs.{pairs_held}
 use Rattle.prolly_check.specs.declared.verdict.digests.ChunkDigest.{ChunkDigest}
 use Rattle.prolly_check.specs.declared.verdict.pairs_digest.PairsDigest.{PairsDigest}
 

@@ -1,28 +1,24 @@
 -- Look-ups in a file that was checked.
 use Rattle.std.specs.List.{AllByRecursion}
-use Rattle.std.specs.Prelude.{◌≡◌, ℕ, suc, ◌^◌, ◌<◌, List, [], length, get_or}
+use Rattle.std.specs.Prelude.{◌≡◌, ℕ, suc, ◌^◌, ◌<◌, List, length}
 use Rattle.prolly_entry.specs.Reference.{reference_of}
 use Rattle.prolly_entry.specs.declared.version.Version.{Version}
 use Rattle.prolly_entry.specs.declared.version.Version.TheVariants.{Two}
 use Rattle.prolly_tree.specs.Chunk.{IsIn}
 use Rattle.prolly_tree.specs.Tree.{Tree, bytes_of, pairs_below}
-use Rattle.prolly_check.specs.Chunks.{chunks_of}
-use Rattle.prolly_check.specs.Content.{Content, root_bytes}
-use Rattle.prolly_check.specs.Descent.{IsTreeOf}
-use Rattle.prolly_check.specs.Kinds.{kind_of}
-use Rattle.prolly_check.specs.Sought.{Sought, LeadsOn, sought_of}
-use Rattle.prolly_check.specs.Sought.Sought.{Key, Number}
-use Rattle.prolly_check.specs.Way.{IsNamed, IsWayTo, level_of}
+use Rattle.prolly_look_up.specs.Content.{chunks_of}
+use Rattle.prolly_look_up.specs.Content.{Content, root_bytes, nth_chunk}
+use Rattle.prolly_look_up.specs.Descent.{IsTreeOf}
+use Rattle.prolly_look_up.specs.Kinds.{kind_of}
+use Rattle.prolly_look_up.specs.Sought.{Sought, LeadsOn, sought_of}
+use Rattle.prolly_look_up.specs.Sought.Sought.{Key, Number}
+use Rattle.prolly_look_up.specs.Way.{IsNamed, IsWayTo, level_of}
 use Rattle.prolly_check.specs.declared.look_up.descent.At.{At}
 
 -- It can be sought in chunks of the version: only those of version Two have counts.
 abbrev pub CanBeSought : Version → Sought → Type 0
 CanBeSought version (Key key) = Unit {0}
 CanBeSought version (Number n) = version ≡ Two
-
--- The chunk of this number in a file.
-abbrev pub nth_chunk : Content → ℕ → List ℕ
-nth_chunk content number = get_or (chunks_of content) number []
 
 -- It is the top of a tree of the file, of fewer pairs than a number of eight bytes can tell.
 pub record IsTop (content : Content) (number : ℕ) : Type 0 where

@@ -12,8 +12,8 @@ use Rattle.prolly_entry.specs.Reference.{reference_of}
 use Rattle.prolly_entry.specs.declared.version.Version.{Version}
 use Rattle.prolly_tree.specs.Chunk.{chunks}
 use Rattle.prolly_tree.specs.File.{root_reference}
-use Rattle.prolly_check.specs.Content.{Content}
-use Rattle.prolly_check.specs.HeldPairs.{pairs_held}
+use Rattle.prolly_look_up.specs.Content.{Content, chunk_bytes}
+use Rattle.prolly_look_up.specs.HeldPairs.{pairs_held}
 use Rattle.prolly_check.specs.declared.verdict.fault.CheckFault.{CheckFault}
 use Rattle.prolly_check.specs.declared.verdict.fault.CheckFault.TheVariants.{KeysOutOfOrder, BadEnd}
 use Rattle.prolly_check.specs.declared.verdict.fault.CheckFault.TheVariants.{NotCanonical}
@@ -61,10 +61,6 @@ reuse before number (c ∷ cs) =
     if list_any (λ d. bytes_eq (reference_of d) (reference_of c)) before then Some
     (Collision number)
     else reuse (c ∷ before) (suc number) cs
-
--- The chunks of the file of a map, as bytes.
-abbrev pub chunk_bytes : Version → ℕ → List Pair → List (List ℕ)
-chunk_bytes version bits pairs = map (λ c. c.bytes) (chunks (sha512_cut bits) version pairs)
 
 -- What stands behind the first byte of its end record: the root's reference and the number of
 -- chunks.

@@ -1,16 +1,8 @@
--- What a chunk file says.
-pub mod Content
 -- The frames of a chunk file: where its chunks lie, and what follows them.
 pub mod Frames
--- The entries that chunks hold.
-pub mod Entries
--- What a look-up seeks, and which child of a node it goes on in. (This project's rules.)
-pub mod Sought
--- The pairs that chunks hold.
-pub mod HeldPairs
--- What the entries of a chunk are.
-pub mod Kinds
--- Which bytes are the file of a map, and which fault others have.
+-- Chunks that are read one after another, up to the first that is bad.
+pub mod ReadChunks
+-- Which bytes are accepted, and which fault others have.
 pub mod Verdict
 -- What is wrong with the pairs and the chunks of a file that is well formed: the first fault.
 pub mod FirstFault
@@ -18,14 +10,8 @@ pub mod FirstFault
 pub mod Chunks
 -- What the hashes of chunks tell.
 pub mod Digests
--- The numbers of a tree: its levels, and the chunks that others lack.
+-- The numbers of a tree: its levels.
 pub mod Numbers
--- How a look-up goes down a tree.
-pub mod Descent
--- Pairs that were found by a number.
-pub mod FoundPairs
--- The pairs of a map from a key on.
-pub mod Leaves
 -- Levels of nodes that stand one above another, each of which takes what the one below it sent.
 pub mod OpenLevels
 -- The bytes of a source as they come.
@@ -36,12 +22,6 @@ pub mod ChunksRead
 pub mod FirstFlaw
 -- What the chunks of a file that were read so far say of those that must follow.
 pub mod Follower
--- The way of a look-up down a tree, by the references of its chunks.
-pub mod Way
--- The way of a scan down a tree, for who knows the root alone.
-pub mod ScanWay
--- What a look-up comes to at a chunk.
-pub mod Step
 -- Look-ups in a file that was checked.
 pub mod FileWays
 -- What is said of a chunk file, in short.

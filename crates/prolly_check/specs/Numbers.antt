@@ -1,31 +1,12 @@
--- The numbers of a tree: its levels, and the chunks that others lack.
-use Rattle.std.specs.List.{filter, flat_map, list_any, AllByRecursion}
-use Rattle.std.specs.Prelude.{◌≡◌, ℕ, not, Bool, List, length, ◌-◌, ◌/◌, ◌<◌, ◌≤◌, ◌==◌, map}
+-- The numbers of a tree: its levels.
+use Rattle.std.specs.List.{filter, AllByRecursion}
+use Rattle.std.specs.Prelude.{◌≡◌, ℕ, List, length, ◌-◌, ◌/◌, ◌<◌, ◌≤◌, ◌==◌, map}
 use Rattle.std.specs.Prelude.{slice_get, Some, nat_lt, nat_le, count_by}
-use Rattle.std.specs.Str.{bytes_eq}
-use Rattle.prolly_entry.specs.Reference.{reference_of}
-use Rattle.prolly_check.specs.Chunks.{chunks_of}
-use Rattle.prolly_check.specs.Content.{Content}
-use Rattle.prolly_check.specs.Way.{level_of}
+use Rattle.prolly_look_up.specs.Content.{chunks_of}
+use Rattle.prolly_look_up.specs.Content.{Content}
+use Rattle.prolly_look_up.specs.Way.{level_of}
+use Rattle.prolly_chunk.specs.Missing.{chunks_size}
 use Rattle.prolly_chunk.specs.declared.level_stats.LevelStats.{LevelStats}
-use Rattle.prolly_check.specs.declared.numbers.Missing.{Missing}
-
--- Whether one of the chunks has the reference.
-abbrev pub has_reference : List (List ℕ) → List ℕ → Bool
-has_reference chunks reference = list_any (λ c. bytes_eq (reference_of c) reference) chunks
-
--- The chunks whose reference none of the others has, in their order.
-abbrev pub lacking : List (List ℕ) → List (List ℕ) → List (List ℕ)
-lacking others chunks = filter (λ c. not (has_reference others (reference_of c))) chunks
-
--- How many bytes the chunks have together.
-abbrev pub chunks_size : List (List ℕ) → ℕ
-chunks_size chunks = length (flat_map (λ c. c) chunks)
-
--- The numbers are those of these chunks and of their bytes.
-pub record AreSo (chunks : List (List ℕ)) (missing : Missing) : Type 0 where
-  pub chunks_are : missing.chunks ≡ length chunks
-  pub bytes_are : missing.bytes ≡ chunks_size chunks
 
 -- The chunks of a level, in their order.
 abbrev pub at_level : ℕ → List (List ℕ) → List (List ℕ)

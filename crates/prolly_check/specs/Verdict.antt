@@ -1,21 +1,16 @@
--- Which bytes are the file of a map, and which fault others have.
-use Rattle.std.specs.List.{AllByRecursion}
-use Rattle.std.specs.Prelude.{◌≡◌, ◌⊎◌, ℕ, ◌<◌, ◌≤◌, ◌^◌, slice_index, List, [], ◌∷◌, length, drop}
-use Rattle.std.specs.Prelude.{map, Option, Some, None, Result, Ok, Err}
-use Rattle.prolly_entry.specs.Cut.{sha512_cut}
-use Rattle.prolly_entry.specs.Keys.{Rising}
-use Rattle.prolly_entry.specs.Pair.{Pair, IsPair}
-use Rattle.prolly_entry.specs.Reference.{reference_of}
+-- Which bytes are accepted, and which fault others have.
+use Rattle.std.specs.Prelude.{◌≡◌, ◌⊎◌, ℕ, ◌<◌, ◌≤◌, ◌^◌, slice_index, List, length, drop}
+use Rattle.std.specs.Prelude.{Option, Some, None, Result, Ok, Err}
+use Rattle.prolly_entry.specs.Pair.{Pair}
 use Rattle.prolly_entry.specs.declared.version.Version.{Version}
-use Rattle.prolly_tree.specs.File.{file}
 use Rattle.prolly_file.specs.Header.{header_tests, header_fault, version_of}
 use Rattle.prolly_file.specs.declared.format.header.HeaderFault.{HeaderFault}
 use Rattle.prolly_file.specs.declared.device.part_reader.ReadFault.{ReadFault}
 use Rattle.prolly_file.specs.declared.device.whole.WholeFault.{WholeFault}
-use Rattle.prolly_check.specs.Content.{Content}
-use Rattle.prolly_check.specs.Entries.{IsRead}
+use Rattle.prolly_look_up.specs.Content.{Content, IsFileOf}
+use Rattle.prolly_check.specs.ReadChunks.{IsRead}
 use Rattle.prolly_check.specs.Frames.{IsFramed}
-use Rattle.prolly_check.specs.FirstFault.{judged, chunk_bytes}
+use Rattle.prolly_check.specs.FirstFault.{judged}
 use Rattle.prolly_check.specs.declared.verdict.fault.CheckFault.{CheckFault}
 use Rattle.prolly_check.specs.declared.verdict.fault.CheckFault.TheVariants.{Memory, Read, TooLong}
 use Rattle.prolly_check.specs.declared.verdict.fault.CheckFault.TheVariants.{BadHeader, Truncated}
@@ -85,20 +80,6 @@ abbrev pub IsVerdict : List ℕ → Result Content CheckFault → Type 0
 IsVerdict bytes verdict = HeaderVerdict (header_fault header_tests bytes) bytes verdict
 
 -- ---- Their meaning.
-
--- No two chunks have one reference.
-abbrev pub AllApart : List (List ℕ) → Type 0
-AllApart [] = Unit {0}
-AllApart (c ∷ cs) = AllByRecursion (λ d. reference_of c ≡ reference_of d → ⊥) cs × AllApart cs
-
--- The bytes are the file of a map, of a version and a number of bits, no two of whose chunks have
--- one reference.
-pub record IsFileOf (bytes : List ℕ) (content : Content) : Type 0 where
-  pub bits : content.bits ≤ 24
-  pub lawful : AllByRecursion IsPair content.pairs
-  pub rising : Rising (map (λ p. p.key) content.pairs)
-  pub is : bytes ≡ file (sha512_cut content.bits) content.version content.pairs
-  pub apart : AllApart (chunk_bytes content.version content.bits content.pairs)
 
 -- Law: bytes have one verdict.
 abbrev pub OneVerdict : Type 0

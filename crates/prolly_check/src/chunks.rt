@@ -2,19 +2,19 @@
 ghost use Rattle.std.specs.Prelude.{◌≡◌, ℕ, ◌<◌, List, [], get_or, length, None, IfOk};
 ghost use Rattle.std.specs.Prelude.{IfErr, MatchOption, OnOk, option_map};
 ghost use Rattle.std.specs.List.{AllByRecursion};
-ghost use Rattle.prolly_check.specs.HeldPairs.{pairs_held};
+ghost use Rattle.prolly_look_up.specs.HeldPairs.{pairs_held};
 ghost use Rattle.prolly_check.specs.Frames.{IsWithin, chunks_in};
 ghost use Rattle.prolly_check.specs.Digests.{AreNamed};
-ghost use Rattle.prolly_check.specs.Entries.{AreWhole};
-ghost use Rattle.prolly_check.specs.Way.{level_of};
+ghost use Rattle.prolly_look_up.specs.Entries.{AreWhole};
+ghost use Rattle.prolly_look_up.specs.Way.{level_of};
 ghost use Rattle.prolly_check.specs.Chunks.{AreNumbered, AreReferences, HasAt, IsIndex};
 ghost use Rattle.prolly_check.specs.FirstFault.{reuse};
 ghost use Rattle.prolly_check.specs.Verdict.{UnlessMemory};
 
-use crate::entries::{Pairs, pairs_of};
 use crate::verdict::{CheckFault, ChunkDigest, ChunksAhead, chunk_at};
 use prolly_entry::Ref;
 use prolly_file::Header;
+use prolly_look_up::{Pairs, pairs_of};
 use std::alloc::{AllocError, Global};
 use std::marker::Model;
 use std::ops::Range;

@@ -2,24 +2,15 @@
 //! another tree lacks of it.
 ghost use Rattle.std.specs.Prelude.{◌≡◌, ◌<◌, ◌^◌, ℕ, List, length, map, sum, IfOk};
 ghost use Rattle.prolly_check.specs.Chunks.{AreReferences, IsIndex};
-ghost use Rattle.prolly_check.specs.Numbers.{AreLevels, AreOfMap, IsLevel, at_level, AreSo};
-ghost use Rattle.prolly_check.specs.Numbers.{lacking, chunks_size};
+ghost use Rattle.prolly_check.specs.Numbers.{AreLevels, AreOfMap, IsLevel, at_level};
+ghost use Rattle.prolly_chunk.specs.Missing.{AreSo};
+ghost use Rattle.prolly_chunk.specs.Missing.{lacking, chunks_size};
 
 use crate::chunks::{Chunks, Index};
 use crate::look_up::Leaves;
-use prolly_chunk::LevelStats;
+use prolly_chunk::{LevelStats, Missing};
 use prolly_entry::Ref;
 use std::alloc::{AllocError, Global};
-
-/// The chunks of a tree whose references another tree lacks: what a replica that has the other one
-/// has to fetch.
-#[derive(Clone, Copy)]
-pub struct Missing {
-    /// How many chunks these are.
-    pub chunks: u64,
-    /// How many bytes they have together, without the frames that stand around them in a file.
-    pub bytes: u64,
-}
 
 /// How many pairs are left. Takes no memory.
 pub(crate) fn count_pairs(mut leaves: Leaves) -> u64

@@ -8,10 +8,12 @@ mod chunk;
 mod event;
 mod leaf;
 mod level_stats;
+mod missing;
 mod node;
 
 pub use borrowed::BorrowedEvent;
 pub use event::ChunkEvent;
 pub use leaf::LeafLevel;
 pub use level_stats::LevelStats;
+pub use missing::Missing;
 pub use node::NodeLevel;

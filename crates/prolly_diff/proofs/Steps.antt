@@ -8,7 +8,8 @@ use Rattle.prolly_entry.specs.Pair.{Pair}
 use Rattle.prolly_entry.specs.lemmas.Orders.{greater_below, order_same}
 use Rattle.prolly_tree.specs.Difference.{IsMap}
 use Rattle.prolly_tree.specs.lemmas.Maps.{Above, above_first}
-use Rattle.prolly_diff.specs.Differences.{StartsWith, IsOrder, TakesLeast}
+use Rattle.prolly_diff.specs.Differences.{StartsWith, IsOrder}
+use Rattle.prolly_tree.specs.Walks.{TakesLeast}
 
 -- What is said of a value's image is said of the value.
 pub mapped : {A B : Type 0} (f : A → B) (X : Type 0) (Y : B → Type 0) (o : Option A) →

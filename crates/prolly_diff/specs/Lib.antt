@@ -1,4 +1,2 @@
--- What a walk over two maps comes to.
+-- What a side of a walk over two maps has.
 pub mod Differences
--- Lemmas for the crates above, by subject.
-pub mod lemmas

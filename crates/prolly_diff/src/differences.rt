@@ -2,9 +2,10 @@
 ghost use Rattle.std.specs.Prelude.{◌≡◌, MatchOption};
 ghost use Rattle.std.specs.Option.{option_copied, option_map};
 ghost use Rattle.prolly_tree.specs.Difference.{IsMap};
-ghost use Rattle.prolly_check.specs.Content.{Content};
-ghost use Rattle.prolly_check.specs.Verdict.{IsFileOf};
-ghost use Rattle.prolly_diff.specs.Differences.{IsWalkEnd, IsFirstChange, IsOrder, TakesLeast};
+ghost use Rattle.prolly_look_up.specs.Content.{Content};
+ghost use Rattle.prolly_look_up.specs.Content.{IsFileOf};
+ghost use Rattle.prolly_tree.specs.Walks.{IsWalkEnd, IsFirstChange, TakesLeast};
+ghost use Rattle.prolly_diff.specs.Differences.{IsOrder};
 
 use crate::side::{Side, pass_shared};
 use prolly_check::Tree;
@@ -26,7 +27,7 @@ pub struct Differences<'a> {
 
 impl<'a> Model for Differences<'a> {
     ghost use Rattle.prolly_tree.specs.Difference.{IsMap};
-    ghost use Rattle.prolly_diff.specs.Differences.{Maps};
+    ghost use Rattle.prolly_tree.specs.Walks.{Maps};
 
     ghost Value = { Maps };
 

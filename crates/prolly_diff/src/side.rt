@@ -1,8 +1,10 @@
 //! One of two maps, from where a walk stands.
 ghost use Rattle.std.specs.Prelude.{◌≡◌, ◌<◌, [], ◌∷◌, ◌++◌, true, false, length, MatchOption};
-ghost use Rattle.prolly_diff.specs.Differences.{pairs_in, StartsWith, AreAlike};
+ghost use Rattle.prolly_diff.specs.Differences.{pairs_in, StartsWith};
+ghost use Rattle.prolly_tree.specs.Walks.{AreAlike};
 
-use prolly_check::{Leaves, Pairs};
+use prolly_check::Leaves;
+use prolly_look_up::Pairs;
 use std::marker::Model;
 
 /// The pairs of a map that are left. Contracts see their list.

@@ -7,7 +7,8 @@ use crate::expect::{expect_bytes, expect_eq};
 use crate::rooted::{Chunks, Rooted, Shown, Sought, expect_shown, keys_from, look_up, open};
 use crate::rooted_differences::changes_between;
 use crate::set_proofs::{Tree, range};
-use prolly_check::{CheckFault, ManyThreads, OneThread, StreamFault, check, check_by_root};
+use prolly_check::{CheckFault, OneThread, StreamFault, check, check_by_root};
+use prolly_look_up::ManyThreads;
 use prolly_entry::{
     Pair, Record, RecordFault, Ref, Sha512Cut, Version, append_child, append_child_as, append_pair,
     append_record, records,

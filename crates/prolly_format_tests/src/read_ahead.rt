@@ -5,7 +5,7 @@ ghost use Rattle.prolly_root.specs.Reader.{way_of};
 use crate::checking::flip;
 use crate::expect::{expect_bytes, expect_eq};
 use crate::rooted::{Chunks, Rooted, open};
-use prolly_check::ManyThreads;
+use prolly_look_up::ManyThreads;
 use prolly_entry::{Pair, Version};
 use prolly_root::{ReadAhead, Reader, RootFault, Subtree};
 use prolly_test_parts::joined;

@@ -5,7 +5,8 @@ use crate::expect::{expect_bytes, expect_eq};
 use prolly_check::check;
 use prolly_entry::{Pair, Ref, Sha512Cut, Version};
 use prolly_file::{FromRead, ScriptDevice, scratch_as};
-use prolly_root::{FileChunks, Reader, RootFault, Subtree, prove};
+use prolly_range::prove_checked_key;
+use prolly_root::{FileChunks, Reader, RootFault, Subtree};
 use prolly_test_parts::{joined, pairs_of};
 use std::alloc::Global;
 use std::process::Abort;
@@ -302,7 +303,7 @@ fn expect_proved(
     leaf: &[u8],
 ) -> Result<(), Fail> {
     let tree = check(alloc, &mut FromRead::new(rooted.file.as_slice()), 10_000)?;
-    let proof = prove(alloc, &tree, key)?;
+    let proof = prove_checked_key(alloc, &tree, key)?;
     for fail_at in 1..=MOST_CALLS {
         let mut chunks = rooted.chunks(alloc, fail_at)?;
         let wanted = (leaf, proof.as_slice());

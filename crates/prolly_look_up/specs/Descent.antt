@@ -1,20 +1,19 @@
 -- The trees of a map, whose tops are its chunks.
 use Rattle.std.specs.Prelude.{◌≡◌, ℕ, zero, suc, ◌<◌, List, ◌∷◌, ◌++◌, length, map}
 use Rattle.std.specs.List.{AllByRecursion}
-use Rattle.prolly_entry.specs.Keys.{Rising}
 use Rattle.prolly_entry.specs.Pair.{Pair, IsPair}
 use Rattle.prolly_entry.specs.declared.version.Version.{Version}
 use Rattle.prolly_entry.specs.Cut.{sha512_cut}
 use Rattle.prolly_entry.specs.Spelling.{count_spelling}
 use Rattle.prolly_entry.specs.Reference.{reference_of}
+use Rattle.prolly_tree.specs.Difference.{IsMap}
 use Rattle.prolly_tree.specs.Tree.{Tree, pairs_below, greatest_key, pair_count, bytes_of, tree_of}
 use Rattle.prolly_tree.specs.Chunk.{Chunk, chunks, post_order, IsIn}
-use Rattle.prolly_file.specs.Scratch.{keys_in}
-use Rattle.prolly_check.specs.Entries.{Child, first_count}
-use Rattle.prolly_check.specs.FirstFault.{chunk_bytes}
-use Rattle.prolly_check.specs.Kinds.{Entries, kind_of}
-use Rattle.prolly_check.specs.Way.{IsOrdered}
-use Rattle.prolly_check.specs.Kinds.Entries.{Leaf, Node}
+use Rattle.prolly_look_up.specs.Entries.{Child, first_count}
+use Rattle.prolly_look_up.specs.Content.{chunk_bytes}
+use Rattle.prolly_look_up.specs.Kinds.{Entries, kind_of}
+use Rattle.prolly_look_up.specs.Way.{IsOrdered}
+use Rattle.prolly_look_up.specs.Kinds.Entries.{Leaf, Node}
 
 -- The chunks of the tree are there.
 abbrev pub HasTree : Version → List (List ℕ) → (level : ℕ) → Tree level → Type 0
@@ -33,7 +32,7 @@ pub record IsTreeOf (version : Version) (chunks : List (List ℕ)) (level : ℕ)
     : Type 0 where
   pub has : HasTree version chunks level tree
   pub lawful : AllByRecursion IsPair (pairs_below level tree)
-  pub rising : Rising (keys_in (pairs_below level tree))
+  pub rising : IsMap (pairs_below level tree)
   pub full : NodeFull level tree
 
 -- What a node says of its child, the top of a tree.
@@ -52,7 +51,7 @@ entries_below version (suc level) ts = Node (map (child_of version level) ts)
 -- The whole tree of a map is one of its chunks.
 abbrev pub RootIsTree : Type 0
 RootIsTree = (version : Version) (bits : ℕ) (m : List Pair) → AllByRecursion IsPair m →
-    Rising (keys_in m) → IsTreeOf version (chunk_bytes version bits m)
+    IsMap m → IsTreeOf version (chunk_bytes version bits m)
     (tree_of (sha512_cut bits) version m).level (tree_of (sha512_cut bits) version m).tree
 
 -- So is what is below a child of a node.

@@ -1,14 +1,11 @@
 -- The entries that chunks hold.
 use Rattle.std.specs.List.{flat_map, AllByRecursion}
 use Rattle.std.specs.Prelude.{◌≡◌, ℕ, zero, suc, ◌+◌, List, [], ◌∷◌, ◌++◌, length, take, drop}
-use Rattle.std.specs.Prelude.{Result, Ok, Err}
 use Rattle.prolly_entry.specs.ChildAt.{tail_length}
 use Rattle.prolly_entry.specs.Pair.{Pair, IsPair}
 use Rattle.prolly_entry.specs.Reading.{key_length, value_length}
 use Rattle.prolly_entry.specs.Spelling.{pair_spelling}
 use Rattle.prolly_entry.specs.declared.version.Version.{Version}
-use Rattle.prolly_check.specs.declared.verdict.fault.CheckFault.{CheckFault}
-use Rattle.prolly_check.specs.declared.verdict.fault.CheckFault.TheVariants.{BadChunk}
 pub use Rattle.prolly_entry.specs.Child.{Child, IsChild, entry_of, first_count}
 pub use Rattle.prolly_entry.specs.Spelling.{BeginsWith}
 
@@ -67,30 +64,6 @@ abbrev pub Holds : Version → List ℕ → List Pair → Type 0
 Holds version [] pairs = ⊥
 Holds version (zero ∷ entries) pairs = IsLeaf entries pairs
 Holds version (suc level ∷ entries) pairs = IsNode version entries pairs
-
--- The chunks are such, and have these lists of pairs, one for each chunk.
-abbrev pub AllHold : Version → List (List ℕ) → List (List Pair) → Type 0
-AllHold version [] [] = Unit {0}
-AllHold version [] (pairs ∷ lists) = ⊥
-AllHold version (chunk ∷ chunks) [] = ⊥
-AllHold version (chunk ∷ chunks) (pairs ∷ lists) = Holds version chunk pairs ×
-    AllHold version chunks lists
-
--- The fault names the first chunk that is not such.
-pub record IsBad (version : Version) (chunks : List (List ℕ)) (fault : CheckFault) : Type 0 where
-  pub before : List (List ℕ)
-  pub chunk : List ℕ
-  pub after : List (List ℕ)
-  pub lists : List (List Pair)
-  pub whole : chunks ≡ before ++ chunk ∷ after
-  pub good : AllHold version before lists
-  pub bad : (pairs : List Pair) → Holds version chunk pairs → ⊥
-  pub is : fault ≡ BadChunk (length before)
-
--- The chunks have these lists of pairs, or this fault.
-abbrev pub IsRead : Version → List (List ℕ) → Result (List (List Pair)) CheckFault → Type 0
-IsRead version chunks (Ok lists) = AllHold version chunks lists
-IsRead version chunks (Err fault) = IsBad version chunks fault
 
 -- Law: a chunk is bad where, behind lawful entries, there are bytes that no lawful entry begins.
 abbrev pub NoLeaf : Type 0

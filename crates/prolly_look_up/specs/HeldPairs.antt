@@ -2,7 +2,7 @@
 use Rattle.std.specs.Prelude.{ℕ, zero, suc, List, [], ◌∷◌, map}
 use Rattle.prolly_entry.specs.Pair.{Pair}
 use Rattle.prolly_tree.specs.Chunk.{Chunk}
-use Rattle.prolly_check.specs.Entries.{pairs_in}
+use Rattle.prolly_look_up.specs.Entries.{pairs_in}
 
 -- The bytes of chunks.
 abbrev pub bytes_in : List Chunk → List (List ℕ)

@@ -2,7 +2,7 @@
 use Rattle.std.specs.Prelude.{ℕ, zero, suc, List, [], ◌∷◌}
 use Rattle.prolly_entry.specs.Pair.{Pair}
 use Rattle.prolly_entry.specs.declared.version.Version.{Version}
-use Rattle.prolly_check.specs.Entries.{Child, pairs_in, children_in}
+use Rattle.prolly_look_up.specs.Entries.{Child, pairs_in, children_in}
 
 -- Those of a leaf are pairs, those of a node children.
 pub data Entries : Type 0 where

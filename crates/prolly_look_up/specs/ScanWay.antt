@@ -7,11 +7,11 @@ use Rattle.prolly_entry.specs.declared.version.Version.{Version}
 use Rattle.prolly_tree.specs.Difference.{IsMap}
 use Rattle.prolly_tree.specs.File.{root_reference}
 use Rattle.prolly_tree.specs.Tree.{last_key}
-use Rattle.prolly_check.specs.HeldPairs.{pairs_held}
-use Rattle.prolly_check.specs.FirstFault.{chunk_bytes}
-use Rattle.prolly_check.specs.Leaves.{pairs_from}
-use Rattle.prolly_check.specs.Sought.Sought.{Key}
-use Rattle.prolly_check.specs.Way.{Clash, IsWayTo}
+use Rattle.prolly_look_up.specs.HeldPairs.{pairs_held}
+use Rattle.prolly_look_up.specs.Content.{chunk_bytes}
+use Rattle.prolly_look_up.specs.Leaves.{pairs_from}
+use Rattle.prolly_look_up.specs.Sought.Sought.{Key}
+use Rattle.prolly_look_up.specs.Way.{Clash, IsWayTo}
 
 -- The chunks are the way of a look-up of the key, which finds these pairs: those of the last one
 -- whose key is not below the key. (A node holds no pairs.)

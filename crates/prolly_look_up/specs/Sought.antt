@@ -4,14 +4,14 @@ use Rattle.std.specs.Prelude.{ℕ, ◌-◌, nat_lt, List, [], ◌∷◌, Option,
 use Rattle.std.specs.Prelude.{◌<◌, ◌≤◌, ◌++◌, length, drop, option_map}
 use Rattle.prolly_entry.specs.Keys.{key_order}
 use Rattle.prolly_entry.specs.declared.version.Version.{Version}
-use Rattle.prolly_check.specs.Entries.{Child, IsNode, children_in}
-use Rattle.prolly_check.specs.Kinds.{Entries}
-use Rattle.prolly_check.specs.Kinds.Entries.{Leaf, Node}
-use Rattle.prolly_check.specs.declared.look_up.sought.ChildSought.{ChildSought}
-use Rattle.prolly_check.specs.declared.look_up.sought.Mark.{Mark}
-use Rattle.prolly_check.specs.declared.look_up.sought.Sought.{Sought as Asked}
-use Rattle.prolly_check.specs.declared.look_up.sought.Sought.TheVariants.{Key as AskedKey}
-use Rattle.prolly_check.specs.declared.look_up.sought.Sought.TheVariants.{Number as AskedNumber}
+use Rattle.prolly_look_up.specs.Entries.{Child, IsNode, children_in}
+use Rattle.prolly_look_up.specs.Kinds.{Entries}
+use Rattle.prolly_look_up.specs.Kinds.Entries.{Leaf, Node}
+use Rattle.prolly_look_up.specs.declared.sought.ChildSought.{ChildSought}
+use Rattle.prolly_look_up.specs.declared.sought.Mark.{Mark}
+use Rattle.prolly_look_up.specs.declared.sought.Sought.{Sought as Asked}
+use Rattle.prolly_look_up.specs.declared.sought.Sought.TheVariants.{Key as AskedKey}
+use Rattle.prolly_look_up.specs.declared.sought.Sought.TheVariants.{Number as AskedNumber}
 pub use Rattle.prolly_entry.specs.Child.{value_of}
 
 -- What a look-up seeks: a key, or the pair of this number, counted from 0 in the order of keys.

@@ -4,16 +4,16 @@ use Rattle.prolly_entry.specs.Keys.{Rising}
 use Rattle.prolly_entry.specs.Pair.{Pair}
 use Rattle.prolly_entry.specs.Reference.{reference_of}
 use Rattle.prolly_entry.specs.declared.version.Version.{Version}
-use Rattle.prolly_check.specs.Entries.{Holds, IsWhole}
-use Rattle.prolly_check.specs.HeldPairs.{pairs_held}
-use Rattle.prolly_check.specs.Kinds.{kind_of}
-use Rattle.prolly_check.specs.Sought.{Sought, EndsAt, LeadsOn, sought_of}
-use Rattle.prolly_check.specs.Way.{FallsTo, IsNamed, entry_keys, level_of}
-use Rattle.prolly_check.specs.declared.look_up.step.ChunkFlaw.{ChunkFlaw}
-use Rattle.prolly_check.specs.declared.look_up.step.ChunkFlaw.TheVariants.{Entries, Level, Order}
-use Rattle.prolly_check.specs.declared.look_up.step.ChunkFlaw.TheVariants.{Reference}
-use Rattle.prolly_check.specs.declared.look_up.step.Step.{Step}
-use Rattle.prolly_check.specs.declared.look_up.step.Step.TheVariants.{End, Below}
+use Rattle.prolly_look_up.specs.Entries.{Holds, IsWhole}
+use Rattle.prolly_look_up.specs.HeldPairs.{pairs_held}
+use Rattle.prolly_look_up.specs.Kinds.{kind_of}
+use Rattle.prolly_look_up.specs.Sought.{Sought, EndsAt, LeadsOn, sought_of}
+use Rattle.prolly_look_up.specs.Way.{FallsTo, IsNamed, entry_keys, level_of}
+use Rattle.prolly_look_up.specs.declared.step.ChunkFlaw.{ChunkFlaw}
+use Rattle.prolly_look_up.specs.declared.step.ChunkFlaw.TheVariants.{Entries, Level, Order}
+use Rattle.prolly_look_up.specs.declared.step.ChunkFlaw.TheVariants.{Reference}
+use Rattle.prolly_look_up.specs.declared.step.Step.{Step}
+use Rattle.prolly_look_up.specs.declared.step.Step.TheVariants.{End, Below}
 
 -- The look-up ends at the chunk, and these are the pairs that it holds; or goes on from it at the
 -- chunk that is due.

@@ -13,13 +13,13 @@ use Rattle.prolly_tree.specs.Chunk.{IsIn}
 use Rattle.prolly_tree.specs.Difference.{IsMap}
 use Rattle.prolly_tree.specs.File.{root_reference}
 use Rattle.prolly_tree.specs.LookUp.{find, nth}
-use Rattle.prolly_check.specs.Entries.{IsWhole}
-use Rattle.prolly_check.specs.HeldPairs.{pairs_held}
-use Rattle.prolly_check.specs.FirstFault.{chunk_bytes}
-use Rattle.prolly_check.specs.Kinds.{Entries, kind_of}
-use Rattle.prolly_check.specs.Sought.{Sought, EndsAt, LeadsOn}
-use Rattle.prolly_check.specs.Sought.Sought.{Key, Number}
-use Rattle.prolly_check.specs.Kinds.Entries.{Leaf, Node}
+use Rattle.prolly_look_up.specs.Entries.{IsWhole}
+use Rattle.prolly_look_up.specs.HeldPairs.{pairs_held}
+use Rattle.prolly_look_up.specs.Content.{chunk_bytes}
+use Rattle.prolly_look_up.specs.Kinds.{Entries, kind_of}
+use Rattle.prolly_look_up.specs.Sought.{Sought, EndsAt, LeadsOn}
+use Rattle.prolly_look_up.specs.Sought.Sought.{Key, Number}
+use Rattle.prolly_look_up.specs.Kinds.Entries.{Leaf, Node}
 
 -- ---- one chunk
 

@@ -8,9 +8,9 @@ ghost use Rattle.prolly_entry.specs.declared.version.Version.TheVariants.{One};
 ghost use Rattle.prolly_tree.specs.Chunk.{chunk_of};
 ghost use Rattle.prolly_tree.specs.RecordFile.{record_file};
 ghost use Rattle.prolly_tree.specs.Tree.{last_key};
-ghost use Rattle.prolly_check.specs.Entries.{IsLeaf, pairs_in, IsSomeLeaf, IsWhole, IsNode};
-ghost use Rattle.prolly_check.specs.Entries.{children_in};
-ghost use Rattle.prolly_check.specs.HeldPairs.{pairs_held};
+ghost use Rattle.prolly_look_up.specs.Entries.{Holds, IsLeaf, pairs_in, IsSomeLeaf, IsWhole, IsNode};
+ghost use Rattle.prolly_look_up.specs.Entries.{children_in};
+ghost use Rattle.prolly_look_up.specs.HeldPairs.{pairs_held};
 
 use prolly_chunk::BorrowedEvent;
 use prolly_entry::{Child, Version, split_pair};
@@ -24,7 +24,7 @@ pub const CHUNK_LIMIT: usize = 1_073_741_824;
 pub const LEAF: u8 = 0;
 
 /// Whether the entries are those of a leaf.
-pub(crate) fn is_leaf(mut entries: &[u8]) -> bool
+fn is_leaf(mut entries: &[u8]) -> bool
     ensures leaf { result ≡ true → IsSomeLeaf entries.now }
     ensures other { result ≡ false → (pairs : List PairValue) → IsLeaf entries.now pairs → ⊥ }
 {
@@ -34,8 +34,8 @@ pub(crate) fn is_leaf(mut entries: &[u8]) -> bool
     entries.is_empty()
 }
 
-/// The pairs of one leaf of a checked file, or those of them that are left, in the order of their
-/// keys. They are borrowed from the file's bytes.
+/// The pairs of one leaf, or those of them that are left, in their order. They are borrowed from the
+/// bytes of its chunk.
 #[derive(Drop)]
 pub struct Pairs<'a> {
     entries: &'a [u8],
@@ -51,7 +51,7 @@ impl<'a> Model for Pairs<'a> {
 
 impl<'a> Pairs<'a> {
     /// The pairs of the entries of a leaf.
-    pub(crate) fn new(entries: &'a [u8]) -> Pairs<'a>
+    pub fn new(entries: &'a [u8]) -> Pairs<'a>
         requires { IsSomeLeaf entries.now }
         ensures { result ≡ pairs_in entries.now }
     {
@@ -126,7 +126,7 @@ impl<'a> Pairs<'a> {
     }
 
     /// The last key, empty where no pair is left, and how many pairs are left. Takes no memory.
-    pub(crate) fn last_key_and_count(mut self) -> (&'a [u8], u64)
+    pub fn last_key_and_count(mut self) -> (&'a [u8], u64)
         requires { length self < 2 ^ 64 }
         ensures key { result.0.now ≡ last_key self.entry }
         ensures short { length result.0.now ≤ 1024 }
@@ -202,8 +202,8 @@ pub fn split_first_child(version: Version, entries: &[u8]) -> Option<(Child<'_>,
     Some((child, rest))
 }
 
-/// Whether the entries are those of a node.
-pub(crate) fn is_node(version: Version, mut entries: &[u8]) -> bool
+/// Whether the entries are those of a node. Takes no memory.
+pub fn is_node(version: Version, mut entries: &[u8]) -> bool
     ensures node { result ≡ true → IsNode version entries.now [] }
     ensures other { result ≡ false →
         (pairs : List PairValue) → IsNode version entries.now pairs → ⊥ }
@@ -212,4 +212,19 @@ pub(crate) fn is_node(version: Version, mut entries: &[u8]) -> bool
         entries = rest;
     }
     entries.is_empty()
+}
+
+/// Whether a chunk is a level and whole lawful entries of that level's kind.
+pub(crate) fn is_whole(version: Version, chunk: &[u8]) -> bool
+    ensures whole { result ≡ true → IsWhole version chunk.now }
+    ensures other { result ≡ false → (pairs : List PairValue) → Holds version chunk.now pairs → ⊥ }
+{
+    if chunk.len() == 0 {
+        return false;
+    }
+    let entries = &chunk[1..];
+    if chunk[0] == LEAF {
+        return is_leaf(entries);
+    }
+    is_node(version, entries)
 }

@@ -2,9 +2,9 @@
 ghost use Rattle.std.specs.Prelude.{◌≡◌, ◌<◌, ◌∷◌, [], List, map, drop, Some, None, IfSome, IfNone};
 ghost use Rattle.std.specs.Prelude.{MatchOption};
 ghost use Rattle.prolly_entry.specs.Keys.{Rising};
-ghost use Rattle.prolly_check.specs.Sought.{value_of, IsChildSought, IsMark, child_sought};
-ghost use Rattle.prolly_check.specs.Sought.{sought_of};
-ghost use Rattle.prolly_check.specs.Entries.{Child as ChildValue, IsNode, children_in};
+ghost use Rattle.prolly_look_up.specs.Sought.{value_of, IsChildSought, IsMark, child_sought};
+ghost use Rattle.prolly_look_up.specs.Sought.{sought_of};
+ghost use Rattle.prolly_look_up.specs.Entries.{Child as ChildValue, IsNode, children_in};
 
 use crate::entries::split_first_child;
 use prolly_entry::{Child, Ref, Version, key_order};

@@ -3,15 +3,14 @@ ghost use Rattle.std.specs.Prelude.{◌≡◌, ◌↔◌, ℕ, ◌<◌, [], All,
 ghost use Rattle.std.specs.Prelude.{IfNone, IfOk, IfErr, OnOk};
 ghost use Rattle.prolly_entry.specs.Byte.{IsByte};
 ghost use Rattle.prolly_entry.specs.Keys.{Rising};
-ghost use Rattle.prolly_check.specs.Entries.{IsNode, IsWhole, children_in};
-ghost use Rattle.prolly_check.specs.Kinds.{kind_of};
-ghost use Rattle.prolly_check.specs.Sought.{IsChildOf, IsMark, EndsAt, sought_of};
-ghost use Rattle.prolly_check.specs.Step.{IsFlawedChunk, IsStep};
-ghost use Rattle.prolly_check.specs.Way.{FallsTo, IsNamed, IsOrdered, entry_keys};
+ghost use Rattle.prolly_look_up.specs.Entries.{IsNode, IsWhole, children_in};
+ghost use Rattle.prolly_look_up.specs.Kinds.{kind_of};
+ghost use Rattle.prolly_look_up.specs.Sought.{IsChildOf, IsMark, EndsAt, sought_of};
+ghost use Rattle.prolly_look_up.specs.Step.{IsFlawedChunk, IsStep};
+ghost use Rattle.prolly_look_up.specs.Way.{FallsTo, IsNamed, IsOrdered, entry_keys};
 
-use crate::entries::{LEAF, Pairs, pairs_of, split_first_child};
-use crate::look_up::sought::{ChildSought, Mark, Sought, child_sought};
-use crate::verdict::is_whole;
+use crate::entries::{LEAF, Pairs, is_whole, pairs_of, split_first_child};
+use crate::sought::{ChildSought, Mark, Sought, child_sought};
 use prolly_entry::{Ref, Version, key_rises};
 
 /// The chunk that is due next on the way of a look-up.

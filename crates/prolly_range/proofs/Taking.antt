@@ -1,14 +1,15 @@
 -- Chunks that are taken one after another, and the tree that they are of.
-use Rattle.std.proofs.Common.{◌≡◌, ℕ, zero, suc, ◌⊎◌, inl, inr, List, [], ◌∷◌, ◌++◌, map, refl, sym, ap}
+use Rattle.std.proofs.Common.{◌≡◌, ℕ, zero, suc, ◌⊎◌, inl, inr, List, [], ◌∷◌, ◌++◌, map, refl, sym}
+use Rattle.std.proofs.Common.{ap}
 use Rattle.std.proofs.Common.{◌∙◌, subst, append_assoc, append-nil, Option, Some, None}
 use Rattle.std.specs.List.{AllByRecursion, flat_map}
-use Rattle.prolly_check.specs.Descent.{ChildIsTree, IsTreeOf, RootIsTree, TopIsRead, child_of}
-use Rattle.prolly_check.specs.Descent.{entries_below}
-use Rattle.prolly_check.specs.Entries.{Child}
-use Rattle.prolly_check.specs.FirstFault.{chunk_bytes}
-use Rattle.prolly_check.specs.Kinds.{Entries, kind_of}
-use Rattle.prolly_check.specs.Way.{Clash, FallsTo, level_of}
-use Rattle.prolly_check.specs.lemmas.Clashes.{top_or_clash, wider}
+use Rattle.prolly_look_up.specs.Descent.{ChildIsTree, IsTreeOf, RootIsTree, TopIsRead, child_of}
+use Rattle.prolly_look_up.specs.Descent.{entries_below}
+use Rattle.prolly_look_up.specs.Entries.{Child}
+use Rattle.prolly_look_up.specs.Content.{chunk_bytes}
+use Rattle.prolly_look_up.specs.Kinds.{Entries, kind_of}
+use Rattle.prolly_look_up.specs.Way.{Clash, FallsTo, level_of}
+use Rattle.prolly_look_up.specs.lemmas.Clashes.{top_or_clash, wider}
 use Rattle.prolly_entry.specs.Cut.{sha512_cut}
 use Rattle.prolly_entry.specs.Pair.{Pair}
 use Rattle.prolly_entry.specs.Reference.{reference_of}

@@ -1,5 +1,6 @@
 -- How far a walk has to go yet.
-use Rattle.std.proofs.Common.{◌≡◌, ℕ, zero, suc, ◌+◌, ◌-◌, ◌*◌, ◌^◌, ◌<◌, ◌≤◌, List, [], ◌∷◌, ◌++◌, length}
+use Rattle.std.proofs.Common.{◌≡◌, ℕ, zero, suc, ◌+◌, ◌-◌, ◌*◌, ◌^◌, ◌<◌, ◌≤◌, List, [], ◌∷◌, ◌++◌}
+use Rattle.std.proofs.Common.{length}
 use Rattle.std.proofs.Common.{sym, ap, subst, arith, map, inl, inr, Option, Some, None}
 use Rattle.std.specs.Prelude.{All}
 use Rattle.std.proofs.Math.Nat.{suc-mul}
@@ -7,10 +8,11 @@ use Rattle.std.proofs.lemmas.Bool.{cases_lt}
 use Rattle.prolly_entry.specs.Byte.{IsByte}
 use Rattle.prolly_entry.specs.Pair.{Pair}
 use Rattle.prolly_entry.specs.declared.version.Version.{Version}
-use Rattle.prolly_check.specs.Entries.{Child, behind_child, children_in, entries_up_to, first_child}
-use Rattle.prolly_check.specs.Kinds.{Entries, kind_of}
-use Rattle.prolly_check.specs.Kinds.Entries.{Leaf, Node}
-use Rattle.prolly_check.specs.Way.{FallsTo, level_of}
+use Rattle.prolly_look_up.specs.Entries.{Child, behind_child, children_in, entries_up_to}
+use Rattle.prolly_look_up.specs.Entries.{first_child}
+use Rattle.prolly_look_up.specs.Kinds.{Entries, kind_of}
+use Rattle.prolly_look_up.specs.Kinds.Entries.{Leaf, Node}
+use Rattle.prolly_look_up.specs.Way.{FallsTo, level_of}
 use Rattle.prolly_file.specs.Frame.{IsSmall}
 use Rattle.prolly_range.specs.KeySet.{KeySet, Met, met_first, met_in, part_behind, part_below}
 use Rattle.prolly_range.specs.SetProof.{Due, Takes, child_due, due_below}

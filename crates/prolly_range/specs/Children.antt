@@ -1,6 +1,6 @@
 -- The children of a node in which keys are sought.
 use Rattle.std.specs.Prelude.{ℕ, List}
-use Rattle.prolly_check.specs.Entries.{Child}
+use Rattle.prolly_look_up.specs.Entries.{Child}
 use Rattle.prolly_range.specs.KeySet.{KeySet, Met, set_of}
 use Rattle.prolly_range.specs.declared.children.ChildMet.{ChildMet}
 

@@ -1,11 +1,12 @@
 -- The proof of what a map has at the keys of a set. (This project's format.)
-use Rattle.std.specs.Prelude.{◌≡◌, ℕ, zero, suc, ◌+◌, ◌⊎◌, List, [], ◌∷◌, ◌++◌, map, Option, Some, None}
+use Rattle.std.specs.Prelude.{◌≡◌, ℕ, zero, suc, ◌+◌, ◌⊎◌, List, [], ◌∷◌, ◌++◌, map, Option, Some}
+use Rattle.std.specs.Prelude.{None}
 use Rattle.std.specs.List.{AllByRecursion, flat_map}
-use Rattle.prolly_check.specs.Entries.{Child}
-use Rattle.prolly_check.specs.FirstFault.{chunk_bytes}
-use Rattle.prolly_check.specs.Kinds.{Entries, kind_of}
-use Rattle.prolly_check.specs.Kinds.Entries.{Leaf, Node}
-use Rattle.prolly_check.specs.Way.{Clash, FallsTo, IsNamed, level_of}
+use Rattle.prolly_look_up.specs.Entries.{Child}
+use Rattle.prolly_look_up.specs.Content.{chunk_bytes}
+use Rattle.prolly_look_up.specs.Kinds.{Entries, kind_of}
+use Rattle.prolly_look_up.specs.Kinds.Entries.{Leaf, Node}
+use Rattle.prolly_look_up.specs.Way.{Clash, FallsTo, IsNamed, level_of}
 use Rattle.prolly_entry.specs.Cut.{sha512_cut}
 use Rattle.prolly_entry.specs.Pair.{Pair, IsPair}
 use Rattle.prolly_entry.specs.Version.{version_byte}

@@ -1,9 +1,10 @@
-//! The proof of a set of keys, from a file that was checked.
-ghost use Rattle.std.specs.Prelude.{[], ◌∷◌, IfErr, OnErr, OnOk};
-ghost use Rattle.prolly_check.specs.Content.{Content};
-ghost use Rattle.prolly_check.specs.Verdict.{IsFileOf};
+//! Proofs of a key and of a set of keys, from a file that was checked.
+ghost use Rattle.std.specs.Prelude.{[], ◌∷◌, IfErr, IfOk, OnErr, OnOk};
+ghost use Rattle.prolly_look_up.specs.Content.{Content};
+ghost use Rattle.prolly_look_up.specs.Content.{IsFileOf};
 ghost use Rattle.prolly_entry.specs.Cut.{sha512_cut};
 ghost use Rattle.prolly_file.specs.Sink.{IsSettled};
+ghost use Rattle.prolly_root.specs.ProofFile.{IsProofOf};
 ghost use Rattle.prolly_tree.specs.File.{root_reference};
 ghost use Rattle.prolly_range.specs.KeySet.{set_of};
 ghost use Rattle.prolly_range.specs.Prover.{MayStop, TellsSink, WritesPart, WritesProof};
@@ -14,8 +15,19 @@ use crate::prove_fault::ProveFault;
 use crate::prover::prove_set;
 use prolly_check::Tree;
 use prolly_file::{InMemory, Sink};
-use prolly_root::FileChunks;
-use std::alloc::Global;
+use prolly_root::{FileChunks, proof_of};
+use std::alloc::{AllocError, Global};
+
+/// The proof of what a checked tree has at the key: of its value, or that it has none.
+///
+/// The proof has one chunk a level. Takes memory for it, and time linear in it.
+pub fn prove_checked_key(alloc: Global, tree: &Tree, key: &[u8]) -> Result<Vec<u8>, AllocError>
+    ensures { IfOk result (λ proof. (content : Content) → IsFileOf tree.now content →
+        IsProofOf content key.now proof.items) }
+{
+    let way = tree.way_to(alloc, key)?;
+    proof_of(alloc, tree.version(), &way)
+}
 
 /// Writes the proof of what a checked tree has at the keys of the set, and flushes the sink. What a
 /// fault leaves in the sink is a first part of a proof.

@@ -1,12 +1,12 @@
 //! The children of a node in which keys are sought.
 ghost use Rattle.std.specs.Prelude.{◌≡◌, ◌++◌, [], map, Some, OnOk, IfOk, option_map};
-ghost use Rattle.prolly_check.specs.Entries.{IsNode, children_in};
-ghost use Rattle.prolly_check.specs.Sought.{value_of};
+ghost use Rattle.prolly_look_up.specs.Entries.{IsNode, children_in};
+ghost use Rattle.prolly_look_up.specs.Sought.{value_of};
 ghost use Rattle.prolly_range.specs.KeySet.{met_first, met_in, set_of};
 ghost use Rattle.prolly_range.specs.Children.{met_of, seen_met};
 
 use crate::key_set::KeySet;
-use prolly_check::split_first_child;
+use prolly_look_up::split_first_child;
 use prolly_entry::{Child, Ref, Version};
 use std::alloc::{AllocError, Global};
 use std::collections::VecDeque;

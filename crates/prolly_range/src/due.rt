@@ -1,8 +1,8 @@
 //! The chunks that are due.
 ghost use Rattle.std.specs.Prelude.{◌≡◌, ◌++◌, OnOk, IfOk, map, [], ◌∷◌};
-ghost use Rattle.prolly_check.specs.Entries.{IsWhole};
-ghost use Rattle.prolly_check.specs.Kinds.{kind_of};
-ghost use Rattle.prolly_check.specs.Way.{level_of};
+ghost use Rattle.prolly_look_up.specs.Entries.{IsWhole};
+ghost use Rattle.prolly_look_up.specs.Kinds.{kind_of};
+ghost use Rattle.prolly_look_up.specs.Way.{level_of};
 ghost use Rattle.prolly_range.specs.KeySet.{set_of};
 ghost use Rattle.prolly_range.specs.Children.{met_of};
 ghost use Rattle.prolly_range.specs.Dues.{due_of, seen_due};
@@ -10,7 +10,7 @@ ghost use Rattle.prolly_range.specs.SetProof.{due_below};
 
 use crate::children::{ChildMet, children_met};
 use crate::key_set::KeySet;
-use prolly_check::LEAF;
+use prolly_look_up::LEAF;
 use prolly_entry::{Ref, Version};
 use std::alloc::{AllocError, Global};
 use std::collections::VecDeque;

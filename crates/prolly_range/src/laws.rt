@@ -3,7 +3,7 @@
 ghost use Rattle.prolly_range.specs.Found.{KeysAreFound, ShownInOrder};
 ghost use Rattle.prolly_range.specs.SetProof.{SetProofsAreRight, TakenAreRight};
 
-use prolly_check::laws::tops_are_read;
+use prolly_look_up::laws::tops_are_read;
 
 /// Whoever knows the root of a map knows by a proof what the map has at the keys of a set, and there
 /// is one such proof; so does who has taken the first chunks of it know the first of the pairs; or

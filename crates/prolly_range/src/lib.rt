@@ -21,7 +21,7 @@ mod sorted_keys;
 mod start;
 mod verifier;
 
-pub use checked::prove_checked_set;
+pub use checked::{prove_checked_key, prove_checked_set};
 pub use fault::SetFault;
 pub use key_set::KeySet;
 pub use prove_fault::ProveFault;

@@ -1,10 +1,10 @@
 //! The chunks that are due, and where they stand.
 ghost use Rattle.std.specs.Prelude.{◌≡◌, ◌<◌, ◌-◌, ◌++◌, ◌∷◌, [], map, IfOk, OnOk};
 ghost use Rattle.std.specs.List.{AllByRecursion};
-ghost use Rattle.prolly_check.specs.Content.{Content};
-ghost use Rattle.prolly_check.specs.Entries.{IsWhole};
-ghost use Rattle.prolly_check.specs.Kinds.{kind_of};
-ghost use Rattle.prolly_check.specs.Way.{FallsTo, IsNamed, level_of};
+ghost use Rattle.prolly_look_up.specs.Content.{Content};
+ghost use Rattle.prolly_look_up.specs.Entries.{IsWhole};
+ghost use Rattle.prolly_look_up.specs.Kinds.{kind_of};
+ghost use Rattle.prolly_look_up.specs.Way.{FallsTo, IsNamed, level_of};
 ghost use Rattle.prolly_root.specs.ChunkSource.{HasAsked};
 ghost use Rattle.prolly_root.specs.RootFault.{IsOrFails, MayFail};
 ghost use Rattle.prolly_tree.specs.Tree.{bytes_of};
@@ -16,8 +16,8 @@ ghost use Rattle.prolly_range.specs.SetProof.{due_below};
 
 use crate::children::{ChildMet, children_met};
 use crate::due::Due;
-use prolly_check::LEAF;
-use prolly_check::laws::tops_are_read;
+use prolly_look_up::LEAF;
+use prolly_look_up::laws::tops_are_read;
 use prolly_entry::Version;
 use prolly_root::{ChunkSource, RootFault, tested_chunk};
 use std::alloc::{AllocError, Global};

@@ -1,11 +1,11 @@
 //! What a chunk of a proof shows.
 ghost use Rattle.std.specs.Prelude.{◌≡◌, ◌≤◌, [], ◌∷◌, length, drop, IfNone, IfSome, MatchOption};
-ghost use Rattle.prolly_check.specs.Entries.{IsWhole};
-ghost use Rattle.prolly_check.specs.HeldPairs.{pairs_held};
+ghost use Rattle.prolly_look_up.specs.Entries.{IsWhole};
+ghost use Rattle.prolly_look_up.specs.HeldPairs.{pairs_held};
 ghost use Rattle.prolly_range.specs.KeySet.{pairs_wanted, set_of};
 
 use crate::key_set::KeySet;
-use prolly_check::{Pairs, pairs_of};
+use prolly_look_up::{Pairs, pairs_of};
 use prolly_entry::Version;
 use prolly_file::FRAME_START;
 use std::marker::Model;
@@ -21,8 +21,8 @@ pub struct ProvedChunk<'a> {
 
 impl<'a> Model for ProvedChunk<'a> {
     ghost use Rattle.std.specs.Prelude.{List, drop};
-    ghost use Rattle.prolly_check.specs.Entries.{IsWhole};
-    ghost use Rattle.prolly_check.specs.HeldPairs.{pairs_held};
+    ghost use Rattle.prolly_look_up.specs.Entries.{IsWhole};
+    ghost use Rattle.prolly_look_up.specs.HeldPairs.{pairs_held};
     ghost use Rattle.prolly_entry.specs.Pair.{Pair as PairValue};
     ghost use Rattle.prolly_range.specs.KeySet.{pairs_wanted, set_of};
 

@@ -1,14 +1,16 @@
 //! Writing the proof of what a map has at the keys of a set.
-ghost use Rattle.std.specs.Prelude.{◌≡◌, ◌++◌, ◌∷◌, [], true, map, option_map, IfErr, IfOk, OnErr, OnOk};
+ghost use Rattle.std.specs.Prelude.{◌≡◌, ◌++◌, ◌∷◌, [], true, map, option_map, IfErr, IfOk, OnErr};
+ghost use Rattle.std.specs.Prelude.{OnOk};
 ghost use Rattle.std.specs.List.{AllByRecursion};
-ghost use Rattle.prolly_check.specs.Content.{Content};
+ghost use Rattle.prolly_look_up.specs.Content.{Content};
 ghost use Rattle.prolly_entry.specs.Cut.{sha512_cut};
 ghost use Rattle.prolly_file.specs.Sink.{IsSettled};
 ghost use Rattle.prolly_root.specs.ChunkSource.{HasAsked};
 ghost use Rattle.prolly_root.specs.RootFault.{IsOrFails, MayFail};
 ghost use Rattle.prolly_tree.specs.File.{root_reference};
 ghost use Rattle.prolly_range.specs.KeySet.{set_of};
-ghost use Rattle.prolly_range.specs.Prover.{IsLocated, MayFailTo, ProvesNext, TellsSink, TellsSource};
+ghost use Rattle.prolly_range.specs.Prover.{IsLocated, MayFailTo, ProvesNext, TellsSink};
+ghost use Rattle.prolly_range.specs.Prover.{TellsSource};
 ghost use Rattle.prolly_range.specs.Prover.{WritesPart, WritesProof, WritesRest, located_due};
 ghost use Rattle.prolly_range.specs.SetProof.{root_due, set_start};
 ghost use Rattle.prolly_range.specs.ToGo.{ComesNearer};
@@ -18,7 +20,7 @@ use crate::key_set::KeySet;
 use crate::located::{Located, put_first};
 use crate::prove_fault::ProveFault;
 use crate::start::set_start;
-use prolly_check::laws::tops_are_read;
+use prolly_look_up::laws::tops_are_read;
 use prolly_entry::{Ref, Version};
 use prolly_file::{Sink, write_all, write_frame};
 use prolly_root::{ChunkSource, RootFault};

@@ -3,14 +3,15 @@ ghost use Rattle.std.specs.Prelude.{◌≡◌, ◌≢◌, ◌↔◌, ◌++◌, [
 ghost use Rattle.std.specs.Prelude.{ℕ, Err, IfErr, IfOk, IsErrOf, MatchOption, OnErr, OnOk};
 ghost use Rattle.prolly_entry.specs.declared.version.Version.{Version as VersionValue};
 ghost use Rattle.prolly_file.specs.Writer.{next_count};
-ghost use Rattle.prolly_check.specs.Way.{FallsTo, IsNamed};
+ghost use Rattle.prolly_look_up.specs.Way.{FallsTo, IsNamed};
 ghost use Rattle.prolly_root.specs.ProofFault.{IsChunkFault};
 ghost use Rattle.prolly_range.specs.Dues.{due_of};
 ghost use Rattle.prolly_range.specs.KeySet.{set_of};
 ghost use Rattle.prolly_range.specs.SetProof.{root_due, set_start};
 ghost use Rattle.prolly_range.specs.Start.{IsSetStartFault};
 ghost use Rattle.prolly_range.specs.ToGo.{ComesNearer};
-ghost use Rattle.prolly_range.specs.Verifier.{ComesTo, IsNextFault, IsRestOf, IsStartFault, MayFail};
+ghost use Rattle.prolly_range.specs.Verifier.{ComesTo, IsNextFault, IsRestOf, IsStartFault};
+ghost use Rattle.prolly_range.specs.Verifier.{MayFail};
 
 use crate::due::{Due, put_below};
 use crate::fault::SetFault;
@@ -18,7 +19,7 @@ use crate::frames::next_frame;
 use crate::key_set::KeySet;
 use crate::proved::ProvedChunk;
 use crate::start::{PROOF_START, test_start};
-use prolly_check::test_chunk;
+use prolly_look_up::test_chunk;
 use prolly_entry::{Ref, Version};
 use prolly_file::{FRAME_START, PartReader, Source};
 use prolly_root::ProofFault;
@@ -35,7 +36,7 @@ use std::marker::Model;
 /// gives.
 ///
 /// Memory is taken for one chunk, as its bytes come, and for the references of the children in which
-/// keys are sought of the nodes above it. A chunk longer than [`CHUNK_LIMIT`](prolly_check::CHUNK_LIMIT)
+/// keys are sought of the nodes above it. A chunk longer than [`CHUNK_LIMIT`](prolly_look_up::CHUNK_LIMIT)
 /// is told as want of memory.
 #[derive(Drop)]
 pub struct SetVerifier<'a> {

@@ -8,13 +8,13 @@ use Rattle.std.proofs.lemmas.List.{get_or_push, length-append, length-map, map-a
 use Rattle.std.proofs.Math.ListN.{get_or-map}
 use Rattle.std.specs.Prelude.{All, IfOk, IsErr, IsErrAnd, OnErr}
 use Rattle.prolly_entry.specs.Byte.{IsByte}
-use Rattle.prolly_check.specs.Content.{Content}
-use Rattle.prolly_check.specs.Leaves.{pairs_from}
-use Rattle.prolly_check.specs.Kinds.{kind_of}
-use Rattle.prolly_check.specs.Sought.{Sought, EndsAt, LeadsOn, sought_of}
-use Rattle.prolly_check.specs.Way.{FallsTo, IsNamed, IsWayTo, Lead, LevelsFall, level_of}
-use Rattle.prolly_check.specs.declared.look_up.step.Due.{Due}
-use Rattle.prolly_check.specs.lemmas.Ways.{lead_more}
+use Rattle.prolly_look_up.specs.Content.{Content}
+use Rattle.prolly_look_up.specs.Leaves.{pairs_from}
+use Rattle.prolly_look_up.specs.Kinds.{kind_of}
+use Rattle.prolly_look_up.specs.Sought.{Sought, EndsAt, LeadsOn, sought_of}
+use Rattle.prolly_look_up.specs.Way.{FallsTo, IsNamed, IsWayTo, Lead, LevelsFall, level_of}
+use Rattle.prolly_look_up.specs.declared.step.Due.{Due}
+use Rattle.prolly_look_up.specs.lemmas.Ways.{lead_more}
 use Rattle.prolly_entry.specs.declared.version.Version.{Version}
 use Rattle.std.specs.Ordering.{is_lt}
 use Rattle.std.specs.declared.cmp.Ordering.TheVariants.{Less, Equal, Greater}

@@ -6,11 +6,11 @@ use Rattle.std.specs.List.{flat_map}
 use Rattle.std.specs.Prelude.{IfSome, Option, Some, None, ok_or}
 use Rattle.std.proofs.Math.Seq.{drop-append_seam, take-append_seam, take-length}
 use Rattle.std.proofs.lemmas.List.{drop_all, length-drop}
-use Rattle.prolly_check.specs.Chunks.{chunks_of}
-use Rattle.prolly_check.specs.Content.{Content}
-use Rattle.prolly_check.specs.Verdict.{IsFileOf}
-use Rattle.prolly_check.specs.declared.verdict.fault.CheckFault.{CheckFault}
-use Rattle.prolly_check.specs.declared.verdict.fault.CheckFault.TheVariants as checks
+use Rattle.prolly_look_up.specs.Content.{chunks_of}
+use Rattle.prolly_look_up.specs.Content.{Content}
+use Rattle.prolly_look_up.specs.Content.{IsFileOf}
+use Rattle.prolly_root.specs.declared.file.end_record.NamedRootFault.{NamedRootFault}
+use Rattle.prolly_root.specs.declared.file.end_record.NamedRootFault.TheVariants as faults
 use Rattle.prolly_entry.specs.Cut.{sha512_cut}
 use Rattle.prolly_entry.specs.declared.reference.Ref.{Ref}
 use Rattle.prolly_file.specs.EndRecord.{IsNoEnd, NamesRoot}
@@ -73,17 +73,17 @@ module _ {bytes : List ℕ} {content : Content} (f : IsFileOf bytes content) whe
       ap (take (length root)) same ∙ take-append_seam root count
 
   -- what is told of a lawful file's end is its root
-  pub names_root : (result : Result Ref CheckFault) → TellsRoot bytes result →
+  pub names_root : (result : Result Ref NamedRootFault) → TellsRoot bytes result →
       NamesRootOf content result
   names_root (Ok other) tells = one_root other.0 tells.1
-  names_root (Err checks.Truncated) tells = absurd (has_room tells)
-  names_root (Err checks.BadEnd) tells = absurd (tells.1 root names)
+  names_root (Err faults.Truncated) tells = absurd (has_room tells)
+  names_root (Err faults.BadEnd) tells = absurd (tells.1 root names)
   names_root (Err fault) tells = tells
 
 -- what is told of the last bytes is told of the file
 pub tells_last : (bytes read : List ℕ) (named : Option Ref) → 35 ≤ length bytes →
     read ≡ take 29 (last_bytes bytes) → IfSome named (λ root. NamesRoot root.0 read) →
-    (named ≡ None → IsNoEnd read) → TellsRoot bytes (ok_or named checks.BadEnd)
+    (named ≡ None → IsNoEnd read) → TellsRoot bytes (ok_or named faults.BadEnd)
 tells_last bytes read named room is some none = go named some none
   where
     same : read ≡ last_bytes bytes
@@ -93,6 +93,6 @@ tells_last bytes read named room is some none = go named some none
         long = omega (arith, length-drop (length bytes - 29) bytes, room)
 
     go : (named : Option Ref) → IfSome named (λ root. NamesRoot root.0 read) →
-        (named ≡ None → IsNoEnd read) → TellsRoot bytes (ok_or named checks.BadEnd)
+        (named ≡ None → IsNoEnd read) → TellsRoot bytes (ok_or named faults.BadEnd)
     go (Some root) some none = (room, subst (NamesRoot root.0) same some)
     go None some none = (room, λ root n. none refl root (subst (NamesRoot root) (sym same) n))

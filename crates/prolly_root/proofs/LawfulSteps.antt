@@ -2,15 +2,15 @@
 use Rattle.std.proofs.Common.{◌≡◌, ℕ, zero, suc, ◌-◌, List, [], ◌∷◌, ◌++◌, length, drop, get_or}
 use Rattle.std.proofs.Common.{map, inr, Some, Result, Ok, Err, refl, sym, ap, ◌∙◌, subst, arith}
 use Rattle.std.proofs.lemmas.List.{length-append}
-use Rattle.prolly_check.specs.Chunks.{chunks_of}
-use Rattle.prolly_check.specs.Content.{Content}
-use Rattle.prolly_check.specs.Descent.{ChildIsTree, IsTreeOf}
-use Rattle.prolly_check.specs.Descent.{TopIsRead, child_of, entries_below}
-use Rattle.prolly_check.specs.Entries.{Child, IsWhole}
-use Rattle.prolly_check.specs.Kinds.{kind_of}
-use Rattle.prolly_check.specs.Sought.{Sought, IsChildOf}
-use Rattle.prolly_check.specs.Way.{level_of}
-use Rattle.prolly_check.specs.declared.look_up.sought.ChildSought.{ChildSought}
+use Rattle.prolly_look_up.specs.Content.{chunks_of}
+use Rattle.prolly_look_up.specs.Content.{Content}
+use Rattle.prolly_look_up.specs.Descent.{ChildIsTree, IsTreeOf}
+use Rattle.prolly_look_up.specs.Descent.{TopIsRead, child_of, entries_below}
+use Rattle.prolly_look_up.specs.Entries.{Child, IsWhole}
+use Rattle.prolly_look_up.specs.Kinds.{kind_of}
+use Rattle.prolly_look_up.specs.Sought.{Sought, IsChildOf}
+use Rattle.prolly_look_up.specs.Way.{level_of}
+use Rattle.prolly_look_up.specs.declared.sought.ChildSought.{ChildSought}
 use Rattle.prolly_entry.specs.Reference.{reference_of}
 use Rattle.prolly_entry.specs.declared.version.Version.{Version}
 use Rattle.prolly_tree.specs.Tree.{Tree, bytes_of}

@@ -4,11 +4,11 @@ use Rattle.std.proofs.Common.{rules, subst}
 use Rattle.std.proofs.lemmas.Bool.{cases_Bool, false≢true}
 use Rattle.std.proofs.lemmas.Slice.Eq.{bytes_eq-Decides}
 use Rattle.std.specs.Str.{bytes_eq}
-use Rattle.prolly_check.specs.Kinds.{kind_of}
-use Rattle.prolly_check.specs.Sought.{EndsAt, LeadsOn, Sought}
-use Rattle.prolly_check.specs.Sought.Sought.{Key}
-use Rattle.prolly_check.specs.Way.{Clash, IsNamed, Lead}
-use Rattle.prolly_check.specs.lemmas.Ways.{no_way_on, one_way_on}
+use Rattle.prolly_look_up.specs.Kinds.{kind_of}
+use Rattle.prolly_look_up.specs.Sought.{EndsAt, LeadsOn, Sought}
+use Rattle.prolly_look_up.specs.Sought.Sought.{Key}
+use Rattle.prolly_look_up.specs.Way.{Clash, IsNamed, Lead}
+use Rattle.prolly_look_up.specs.lemmas.Ways.{no_way_on, one_way_on}
 use Rattle.prolly_entry.specs.Reference.{reference_of}
 use Rattle.prolly_entry.specs.declared.version.Version.{Version}
 use Rattle.prolly_root.specs.ProofFile.{ProofsAreOne, proof_file}

@@ -11,12 +11,12 @@ use Rattle.prolly_file.specs.Frame.{framed, IsSmall, has_no_frame}
 use Rattle.prolly_root.specs.ProofFile.{proof_file, IsProof, proof_start, ProofsSayOne}
 use Rattle.std.proofs.lemmas.Bool.{false≢true}
 use Rattle.std.specs.Int.{w64, to_be_bytes}
-use Rattle.prolly_check.specs.Kinds.{kind_of}
-use Rattle.prolly_check.specs.HeldPairs.{pairs_held}
-use Rattle.prolly_check.specs.Sought.{EndsAt, LeadsOn, sought_of, Sought}
-use Rattle.prolly_check.specs.Sought.Sought.{Key}
-use Rattle.prolly_check.specs.Way.{FallsTo, IsNamed, level_of, Lead, LevelsFall}
-use Rattle.prolly_check.specs.declared.look_up.step.Due.{Due}
+use Rattle.prolly_look_up.specs.Kinds.{kind_of}
+use Rattle.prolly_look_up.specs.HeldPairs.{pairs_held}
+use Rattle.prolly_look_up.specs.Sought.{EndsAt, LeadsOn, sought_of, Sought}
+use Rattle.prolly_look_up.specs.Sought.Sought.{Key}
+use Rattle.prolly_look_up.specs.Way.{FallsTo, IsNamed, level_of, Lead, LevelsFall}
+use Rattle.prolly_look_up.specs.declared.step.Due.{Due}
 use Rattle.prolly_root.specs.ProofFault.{HasPassed, IsFault, IsFrameFault, HasMore}
 use Rattle.prolly_root.specs.ProofFault.{last_level, EndsWithin, IsProofStartFault, IsWrongChunk}
 use Rattle.prolly_root.proofs.Descending.{Descended, one_passed, way_ends}
@@ -24,7 +24,7 @@ use Rattle.prolly_root.specs.declared.proof.fault.ProofFault.{ProofFault}
 use Rattle.prolly_tree.specs.LookUp.{find}
 use Rattle.std.specs.Borrow.{Bor}
 use Rattle.std.specs.Prelude.{IfErr}
-use Rattle.prolly_check.specs.lemmas.Ways.{no_flaw, no_way_on, one_way_on}
+use Rattle.prolly_look_up.specs.lemmas.Ways.{no_flaw, no_way_on, one_way_on}
 use Rattle.prolly_entry.specs.declared.version.Version.TheVariants.{One, Two}
 use Rattle.prolly_file.specs.FrameLaws.{begins_frame, one_front}
 use Rattle.prolly_root.specs.declared.proof.fault.ProofFault.TheVariants as faults

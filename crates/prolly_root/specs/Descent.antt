@@ -1,15 +1,15 @@
 -- Going down from the root, from each chunk to the one that it refers to.
 use Rattle.std.specs.List.{AllByRecursion}
 use Rattle.std.specs.Prelude.{◌≡◌, ℕ, List, map, Option, Some}
-use Rattle.prolly_check.specs.Chunks.{chunks_of}
-use Rattle.prolly_check.specs.Content.{Content}
-use Rattle.prolly_check.specs.Descent.{IsTreeOf}
-use Rattle.prolly_check.specs.HeldPairs.{pairs_held}
-use Rattle.prolly_check.specs.Kinds.{kind_of}
-use Rattle.prolly_check.specs.Leaves.{IsLeft}
-use Rattle.prolly_check.specs.Sought.{Sought, EndsAt, IsMark, LeadsOn, sought_of}
-use Rattle.prolly_check.specs.Way.{FallsTo, IsNamed, IsWayTo, level_of}
-use Rattle.prolly_check.specs.declared.look_up.step.Due.{Due}
+use Rattle.prolly_look_up.specs.Content.{chunks_of}
+use Rattle.prolly_look_up.specs.Content.{Content}
+use Rattle.prolly_look_up.specs.Descent.{IsTreeOf}
+use Rattle.prolly_look_up.specs.HeldPairs.{pairs_held}
+use Rattle.prolly_look_up.specs.Kinds.{kind_of}
+use Rattle.prolly_look_up.specs.Leaves.{IsLeft}
+use Rattle.prolly_look_up.specs.Sought.{Sought, EndsAt, IsMark, LeadsOn, sought_of}
+use Rattle.prolly_look_up.specs.Way.{FallsTo, IsNamed, IsWayTo, level_of}
+use Rattle.prolly_look_up.specs.declared.step.Due.{Due}
 use Rattle.prolly_entry.specs.Reference.{reference_of}
 use Rattle.prolly_entry.specs.declared.version.Version.{Version}
 use Rattle.prolly_tree.specs.Tree.{Tree, bytes_of}

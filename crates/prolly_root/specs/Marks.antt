@@ -1,7 +1,7 @@
 -- Places that are remembered while the root is sought.
 use Rattle.std.specs.Prelude.{◌≡◌, ℕ, ◌<◌, ◌≤◌, List, length, get_or}
 use Rattle.std.specs.List.{AllByRecursion}
-use Rattle.prolly_check.specs.Content.{Content}
+use Rattle.prolly_look_up.specs.Content.{Content}
 use Rattle.prolly_root.specs.Walk.{IsBehind, IsWalk, NoneBetween}
 use Rattle.prolly_root.specs.declared.file.marks.Mark.{Mark}
 use Rattle.prolly_root.specs.declared.file.marks.Marks.{Marks}

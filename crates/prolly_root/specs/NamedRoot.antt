@@ -2,11 +2,10 @@
 use Rattle.std.specs.Prelude.{◌≡◌, ℕ, ◌-◌, ◌<◌, ◌≤◌, ◌⊎◌, List, drop, length, slice_index, Option}
 use Rattle.std.specs.Prelude.{Some, None}
 use Rattle.std.specs.Prelude.{Result, Ok, Err}
-use Rattle.prolly_check.specs.Content.{Content}
-use Rattle.prolly_check.specs.Verdict.{fault_of_header}
-use Rattle.prolly_check.specs.declared.verdict.fault.CheckFault.{CheckFault}
-use Rattle.prolly_check.specs.declared.verdict.fault.CheckFault.TheVariants.{BadEnd, Read}
-use Rattle.prolly_check.specs.declared.verdict.fault.CheckFault.TheVariants.{Truncated}
+use Rattle.prolly_look_up.specs.Content.{Content}
+use Rattle.prolly_root.specs.declared.file.end_record.NamedRootFault.{NamedRootFault}
+use Rattle.prolly_root.specs.declared.file.end_record.NamedRootFault.TheVariants.{BadEnd, BadHeader}
+use Rattle.prolly_root.specs.declared.file.end_record.NamedRootFault.TheVariants.{Read, Truncated}
 use Rattle.prolly_entry.specs.Cut.{sha512_cut}
 use Rattle.prolly_entry.specs.declared.reference.Ref.{Ref}
 use Rattle.prolly_file.specs.EndRecord.{IsNoEnd, NamesRoot}
@@ -39,35 +38,40 @@ TellsHeader bytes (Err fault) = OnlyRead fault
 
 -- ---- the root
 
+-- What is wrong with a header.
+abbrev pub fault_of_header : HeaderFault → NamedRootFault
+fault_of_header header_faults.Truncated = Truncated
+fault_of_header header_faults.BadByte = BadHeader
+
 -- The last bytes of a file, as many as an end record has.
 abbrev pub last_bytes : List ℕ → List ℕ
 last_bytes bytes = drop (length bytes - 29) bytes
 
 -- What the end of a file with a lawful header tells: the root of its end record; or that there is no
 -- room for both, or no end record, of whatever root.
-abbrev pub TellsRoot : List ℕ → Result Ref CheckFault → Type 0
+abbrev pub TellsRoot : List ℕ → Result Ref NamedRootFault → Type 0
 TellsRoot bytes (Ok root) = (35 ≤ length bytes) × NamesRoot root.0 (last_bytes bytes)
 TellsRoot bytes (Err Truncated) = length bytes < 35
 TellsRoot bytes (Err BadEnd) = (35 ≤ length bytes) × IsNoEnd (last_bytes bytes)
 TellsRoot bytes (Err fault) = fault ≡ Read
 
 -- A bad header is told first.
-abbrev pub TellsBehind : Option HeaderFault → List ℕ → Result Ref CheckFault → Type 0
+abbrev pub TellsBehind : Option HeaderFault → List ℕ → Result Ref NamedRootFault → Type 0
 TellsBehind None bytes result = TellsRoot bytes result
 TellsBehind (Some fault) bytes result =
     (result ≡ Err (fault_of_header fault)) ⊎ (result ≡ Err Read)
 
 -- What the header and the end of a file tell; or a read failed.
-abbrev pub TellsEnd : List ℕ → Result Ref CheckFault → Type 0
+abbrev pub TellsEnd : List ℕ → Result Ref NamedRootFault → Type 0
 TellsEnd bytes result = TellsBehind (header_fault header_tests bytes) bytes result
 
 -- That a read failed is told where one more call failed, and only there.
-abbrev pub TellsFailedRead : ℕ → ℕ → Result Ref CheckFault → Type 0
+abbrev pub TellsFailedRead : ℕ → ℕ → Result Ref NamedRootFault → Type 0
 TellsFailedRead old new (Err Read) = new ≡ after_failure old
 TellsFailedRead old new result = new ≡ old
 
 -- The root is that of this content; or a read failed.
-abbrev pub NamesRootOf : Content → Result Ref CheckFault → Type 0
+abbrev pub NamesRootOf : Content → Result Ref NamedRootFault → Type 0
 NamesRootOf content (Ok root) =
     root.0 ≡ root_reference (sha512_cut content.bits) content.version content.pairs
 NamesRootOf content (Err fault) = fault ≡ Read

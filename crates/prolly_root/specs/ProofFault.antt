@@ -1,12 +1,12 @@
 -- What is wrong with bytes that are no proof: the first fault.
 use Rattle.std.specs.Prelude.{◌≡◌, ℕ, ◌⊎◌, true, List, [], ◌∷◌, ◌++◌, length, Option, Some, None}
 use Rattle.std.specs.List.{AllByRecursion}
-use Rattle.prolly_check.specs.Step.{IsFlawedChunk}
-use Rattle.prolly_check.specs.Sought.{Sought}
-use Rattle.prolly_check.specs.Sought.Sought.{Key}
-use Rattle.prolly_check.specs.Way.{Lead, LevelsFall, level_of}
-use Rattle.prolly_check.specs.declared.look_up.step.ChunkFlaw.{ChunkFlaw}
-use Rattle.prolly_check.specs.declared.look_up.step.ChunkFlaw.TheVariants as flaws
+use Rattle.prolly_look_up.specs.Step.{IsFlawedChunk}
+use Rattle.prolly_look_up.specs.Sought.{Sought}
+use Rattle.prolly_look_up.specs.Sought.Sought.{Key}
+use Rattle.prolly_look_up.specs.Way.{Lead, LevelsFall, level_of}
+use Rattle.prolly_look_up.specs.declared.step.ChunkFlaw.{ChunkFlaw}
+use Rattle.prolly_look_up.specs.declared.step.ChunkFlaw.TheVariants as flaws
 use Rattle.prolly_entry.specs.declared.version.Version.{Version}
 use Rattle.prolly_file.specs.Frame.{framed, has_no_frame, IsSmall}
 use Rattle.prolly_root.specs.ProofFile.{IsProof, proof_file, proof_start}

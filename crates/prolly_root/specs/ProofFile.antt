@@ -1,9 +1,9 @@
 -- The file of a proof, and what it proves. (This project's format.)
 use Rattle.std.specs.Prelude.{◌≡◌, ℕ, ◌⊎◌, List, [], ◌∷◌, ◌++◌, Option}
 use Rattle.std.specs.List.{AllByRecursion, flat_map}
-use Rattle.prolly_check.specs.Content.{Content}
-use Rattle.prolly_check.specs.FirstFault.{chunk_bytes}
-use Rattle.prolly_check.specs.Way.{Clash, IsWay}
+use Rattle.prolly_look_up.specs.Content.{Content}
+use Rattle.prolly_look_up.specs.Content.{chunk_bytes}
+use Rattle.prolly_look_up.specs.Way.{Clash, IsWay}
 use Rattle.prolly_entry.specs.Cut.{sha512_cut}
 use Rattle.prolly_entry.specs.Pair.{Pair, IsPair}
 use Rattle.prolly_entry.specs.Version.{version_byte}

@@ -1,6 +1,6 @@
 -- Leaves of a chunk file that are read before they are asked for.
 use Rattle.std.specs.Prelude.{◌≡◌, ℕ, List, take, drop}
-use Rattle.prolly_check.specs.Content.{Content}
+use Rattle.prolly_look_up.specs.Content.{Content}
 use Rattle.prolly_entry.specs.Cut.{sha512_cut}
 use Rattle.prolly_tree.specs.File.{file}
 use Rattle.prolly_root.specs.declared.file.fetched.Fetched.{Fetched}

@@ -1,8 +1,8 @@
 -- A reader that looks up by the root again and again.
 use Rattle.std.specs.Prelude.{◌≡◌, ℕ, List, [], take, IfErr, OnErr, Result}
 use Rattle.std.specs.List.{AllByRecursion}
-use Rattle.prolly_check.specs.Content.{Content}
-use Rattle.prolly_check.specs.ScanWay.{IsScanWay}
+use Rattle.prolly_look_up.specs.Content.{Content}
+use Rattle.prolly_look_up.specs.ScanWay.{IsScanWay}
 use Rattle.prolly_entry.specs.Pair.{Pair}
 use Rattle.prolly_entry.specs.declared.version.Version.{Version}
 use Rattle.prolly_tree.specs.Tree.{Tree}

@@ -1,6 +1,6 @@
 //! What gives the chunks of a tree.
 ghost use Rattle.std.specs.Prelude.{◌≡◌, ◌-◌, ℕ, suc, List};
-ghost use Rattle.prolly_check.specs.Content.{Content};
+ghost use Rattle.prolly_look_up.specs.Content.{Content};
 ghost use Rattle.prolly_root.specs.RootFault.{IsOrFails, MayFail, OnlyRead};
 ghost use Rattle.prolly_root.specs.ChunkSource.{HasAsked, IsChildNumber, IsLawful, root_level};
 ghost use Rattle.prolly_root.specs.ChunkSource.{root_tree};

@@ -8,7 +8,7 @@ mod marks;
 mod subtree;
 mod walk;
 
-pub use end_record::named_root;
+pub use end_record::{NamedRootFault, named_root};
 pub use file_chunks::FileChunks;
 pub use header::named_header;
 pub use subtree::Subtree;

@@ -1,9 +1,9 @@
 //! A chunk as a source gives it.
 ghost use Rattle.std.specs.Prelude.{◌≡◌, true};
-ghost use Rattle.prolly_check.specs.Way.{IsNamed};
+ghost use Rattle.prolly_look_up.specs.Way.{IsNamed};
 
-use prolly_check::reference_of_ordered;
 use prolly_entry::{Ref, Version};
+use prolly_look_up::reference_of_ordered;
 use std::marker::Model;
 
 /// A chunk as a [`ChunkSource`](crate::ChunkSource) gives it. Contracts see its bytes. Where it was
@@ -17,7 +17,7 @@ pub struct GivenChunk {
 
 impl Model for GivenChunk {
     ghost use Rattle.std.specs.Prelude.{ℕ, IfSome, List};
-    ghost use Rattle.prolly_check.specs.Way.{IsNamed};
+    ghost use Rattle.prolly_look_up.specs.Way.{IsNamed};
 
     ghost Value = { List ℕ };
 

@@ -2,7 +2,7 @@
 //! law, and to prove the crate is to prove it.
 ghost use Rattle.prolly_root.specs.ProofFile.{ProofsAreOne, ProofsAreRight, ProofsSayOne};
 
-use prolly_check::laws::ways_are_right;
+use prolly_look_up::laws::ways_are_right;
 
 /// Whoever knows the root of a map knows by a proof what the map has at the key, or has two
 /// different chunks with one reference; a proof says one thing; and there is one proof for a root

@@ -16,10 +16,10 @@ mod root_fault;
 mod tested;
 
 pub use chunk_source::ChunkSource;
-pub use file::{FileChunks, Subtree, named_header, named_root};
+pub use file::{FileChunks, NamedRootFault, Subtree, named_header, named_root};
 pub use given_chunk::GivenChunk;
 pub use look_up::Reader;
-pub use proof::{ProofFault, prove, verify};
+pub use proof::{ProofFault, proof_of, verify};
 pub use read_ahead::ReadAhead;
 pub use root_fault::RootFault;
 pub use tested::tested_chunk;

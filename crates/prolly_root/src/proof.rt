@@ -6,6 +6,5 @@ mod start;
 mod verifier;
 
 pub use fault::ProofFault;
-pub(crate) use prover::proof_of;
-pub use prover::prove;
+pub use prover::proof_of;
 pub use verifier::verify;

@@ -6,8 +6,8 @@ ghost use Rattle.prolly_root.specs.RootFault.{OnlyRead};
 
 use crate::chunk_source::ChunkSource;
 use crate::root_fault::RootFault;
-use prolly_check::ManyThreads;
 use prolly_entry::Version;
+use prolly_look_up::ManyThreads;
 use std::alloc::Global;
 use std::thread::Threads;
 

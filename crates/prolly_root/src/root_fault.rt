@@ -1,9 +1,9 @@
 //! Why a look-up by a root has no answer.
 ghost use Rattle.std.specs.Prelude.{◌≡◌};
 
-use prolly_check::ChunkFlaw;
 use prolly_entry::FaultText;
 use prolly_file::SourceFault;
+use prolly_look_up::ChunkFlaw;
 use std::alloc::AllocError;
 use std::error::Error;
 use std::fmt;

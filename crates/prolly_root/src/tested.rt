@@ -1,7 +1,7 @@
 //! Reading a chunk of which nothing is believed.
 ghost use Rattle.std.specs.Prelude.{◌≡◌, IfOk, IfErr, IsOk, OnOk};
-ghost use Rattle.prolly_check.specs.Content.{Content};
-ghost use Rattle.prolly_check.specs.Way.{FallsTo, IsNamed, IsOrdered};
+ghost use Rattle.prolly_look_up.specs.Content.{Content};
+ghost use Rattle.prolly_look_up.specs.Way.{FallsTo, IsNamed, IsOrdered};
 ghost use Rattle.prolly_entry.specs.Reference.{reference_of};
 ghost use Rattle.prolly_root.specs.ChunkSource.{HasAsked};
 ghost use Rattle.prolly_root.specs.Descent.{StandsBelow};
@@ -10,9 +10,9 @@ ghost use Rattle.prolly_tree.specs.Tree.{bytes_of};
 
 use crate::chunk_source::ChunkSource;
 use crate::root_fault::RootFault;
-use prolly_check::laws::tops_are_read;
-use prolly_check::{falls_to, test_chunk};
 use prolly_entry::{Ref, Version};
+use prolly_look_up::laws::tops_are_read;
+use prolly_look_up::{falls_to, test_chunk};
 use std::alloc::Global;
 
 /// The chunk that stands in this place, where it is the one that is due there: it has the reference,

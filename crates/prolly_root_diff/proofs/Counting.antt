@@ -19,7 +19,7 @@ use Rattle.std.specs.Prelude.{IfOk}
 use Rattle.std.specs.Result.{is_ok}
 use Rattle.std.specs.Str.{bytes_eq}
 use Rattle.std.specs.declared.cmp.Ordering.TheVariants.{Equal, Greater, Less}
-use Rattle.prolly_check.specs.declared.numbers.Missing.{Missing}
+use Rattle.prolly_chunk.specs.declared.missing.Missing.{Missing}
 use Rattle.prolly_entry.specs.declared.reference.Ref.{Ref}
 use Rattle.prolly_entry.specs.lemmas.Orders.{order_same, order_self}
 use Rattle.prolly_root_diff.specs.Notes.{AreOf, is_unknown, unknown_of}

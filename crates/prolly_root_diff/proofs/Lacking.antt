@@ -1,5 +1,6 @@
 -- What the notes of a walk tell of the chunks that the old tree lacks.
-use Rattle.std.proofs.Common.{◌≡◌, ℕ, ◌+◌, ◌<◌, ◌≤◌, ◌⊎◌, inl, inr, Bool, true, false, cond, not, List}
+use Rattle.std.proofs.Common.{◌≡◌, ℕ, ◌+◌, ◌<◌, ◌≤◌, ◌⊎◌, inl, inr, Bool, true, false, cond, not}
+use Rattle.std.proofs.Common.{List}
 use Rattle.std.proofs.Common.{[], ◌∷◌, map, length, refl, sym, ap, ◌∙◌, subst, arith}
 use Rattle.std.proofs.Common.{Option, None, Some, append-nil}
 use Rattle.std.proofs.Math.Path.{fun_ext}
@@ -10,10 +11,10 @@ use Rattle.std.proofs.lemmas.Slice.Eq.{bytes_eq-Decides}
 use Rattle.std.specs.List.{filter, list_any, sum_by, AllByRecursion}
 use Rattle.std.specs.Prelude.{◌||◌, IfSome}
 use Rattle.std.specs.Str.{bytes_eq}
-use Rattle.prolly_check.specs.Descent.{ChildIsTree, RootIsTree, TopIsRead}
-use Rattle.prolly_check.specs.FirstFault.{chunk_bytes}
-use Rattle.prolly_check.specs.Numbers.{AreSo, has_reference, lacking}
-use Rattle.prolly_check.specs.declared.numbers.Missing.{Missing}
+use Rattle.prolly_look_up.specs.Descent.{ChildIsTree, RootIsTree, TopIsRead}
+use Rattle.prolly_look_up.specs.Content.{chunk_bytes}
+use Rattle.prolly_chunk.specs.Missing.{AreSo, has_reference, lacking}
+use Rattle.prolly_chunk.specs.declared.missing.Missing.{Missing}
 use Rattle.prolly_entry.specs.Cut.{sha512_cut}
 use Rattle.prolly_entry.specs.Reference.{reference_of}
 use Rattle.prolly_entry.specs.declared.version.Version.{Version}

@@ -5,10 +5,10 @@ use Rattle.std.proofs.lemmas.Bool.Decides.{Decides-eqb}
 use Rattle.std.proofs.lemmas.List.{nil_from_length}
 use Rattle.std.specs.List.{AllByRecursion}
 use Rattle.std.specs.Prelude.{All}
-use Rattle.prolly_check.specs.HeldPairs.{pairs_held}
-use Rattle.prolly_check.specs.Kinds.{kind_of}
-use Rattle.prolly_check.specs.Way.{Clash, level_of}
-use Rattle.prolly_check.specs.lemmas.Clashes.{wider}
+use Rattle.prolly_look_up.specs.HeldPairs.{pairs_held}
+use Rattle.prolly_look_up.specs.Kinds.{kind_of}
+use Rattle.prolly_look_up.specs.Way.{Clash, level_of}
+use Rattle.prolly_look_up.specs.lemmas.Clashes.{wider}
 use Rattle.prolly_entry.specs.Byte.{IsByte}
 use Rattle.prolly_entry.specs.Pair.{Pair}
 use Rattle.prolly_entry.specs.declared.version.Version.{Version}

@@ -10,12 +10,13 @@ use Rattle.prolly_entry.specs.lemmas.Lists.{all_append}
 use Rattle.prolly_laws.specs.Trees.{leaves_are}
 use Rattle.prolly_tree.specs.Leaves.{leaves_below}
 use Rattle.prolly_tree.specs.Tree.{LeveledTree, Tree, bytes_of, tree_of}
-use Rattle.prolly_check.specs.Descent.{ChildIsTree, IsTreeOf, RootIsTree, TopIsRead, entries_below}
-use Rattle.prolly_check.specs.HeldPairs.{pairs_held}
-use Rattle.prolly_check.specs.Kinds.{Entries, kind_of}
-use Rattle.prolly_check.specs.Kinds.Entries.{Leaf, Node}
-use Rattle.prolly_check.specs.Way.{Clash, level_of}
-use Rattle.prolly_check.specs.lemmas.Clashes.{top_or_clash}
+use Rattle.prolly_look_up.specs.Descent.{ChildIsTree, IsTreeOf, RootIsTree, TopIsRead}
+use Rattle.prolly_look_up.specs.Descent.{entries_below}
+use Rattle.prolly_look_up.specs.HeldPairs.{pairs_held}
+use Rattle.prolly_look_up.specs.Kinds.{Entries, kind_of}
+use Rattle.prolly_look_up.specs.Kinds.Entries.{Leaf, Node}
+use Rattle.prolly_look_up.specs.Way.{Clash, level_of}
+use Rattle.prolly_look_up.specs.lemmas.Clashes.{top_or_clash}
 use Rattle.prolly_root_diff.specs.DueTrees.{due_behind}
 use Rattle.prolly_root_diff.specs.Leaves.{BeginWith, LeavesBeginAtRoot}
 use Rattle.prolly_root_diff.specs.Leaves.{LeavesOpenFirst, leaves_of_trees, with_pairs}

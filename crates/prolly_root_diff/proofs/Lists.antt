@@ -7,7 +7,6 @@ use Rattle.std.specs.Cmp.Lexicographic.{pointwise}
 use Rattle.std.proofs.lemmas.Bool.Decides.{Decides-eqb}
 use Rattle.std.proofs.lemmas.Slice.Eq.{slice_eq-Decides}
 use Rattle.prolly_root_diff.specs.Left.{Left}
-use Rattle.prolly_root_diff.specs.Walks.{BeginAlike}
 use Rattle.prolly_root_diff.specs.Sides.{dues}
 use Rattle.prolly_root_diff.specs.declared.siblings.Siblings.{Siblings}
 use Rattle.std.specs.List.{flat_map}

@@ -8,10 +8,10 @@ use Rattle.prolly_entry.specs.Pair.{Pair}
 use Rattle.prolly_entry.specs.declared.version.Version.{Version}
 use Rattle.prolly_tree.specs.Chunk.{IsIn}
 use Rattle.prolly_tree.specs.lemmas.Trees.{in_front, in_back}
-use Rattle.prolly_check.specs.Way.{Clash, level_of}
-use Rattle.prolly_check.specs.lemmas.Clashes.{wider}
-use Rattle.prolly_diff.specs.Differences.{AreAlike, AreMaps, Maps}
-use Rattle.prolly_diff.specs.lemmas.Walks.{alike_more, alike_none, maps_behind}
+use Rattle.prolly_look_up.specs.Way.{Clash, level_of}
+use Rattle.prolly_look_up.specs.lemmas.Clashes.{wider}
+use Rattle.prolly_tree.specs.Walks.{AreAlike, AreMaps, Maps}
+use Rattle.prolly_tree.specs.lemmas.Walks.{alike_more, alike_none, maps_behind}
 use Rattle.prolly_root_diff.specs.Left.{Due, IsLeft, Left, Opens, OpensFirst, PassBy}
 use Rattle.std.proofs.Common.{arith}
 use Rattle.prolly_root_diff.proofs.Lists.{left_is}

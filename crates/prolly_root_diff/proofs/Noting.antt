@@ -4,10 +4,10 @@ use Rattle.std.proofs.Common.{Option, None, Some, append-nil}
 use Rattle.std.proofs.lemmas.List.{map-append}
 use Rattle.std.specs.List.{flat_map}
 use Rattle.std.specs.Option.{is_some}
-use Rattle.prolly_check.specs.Entries.{Child}
-use Rattle.prolly_check.specs.Kinds.{Entries, kind_of}
-use Rattle.prolly_check.specs.Kinds.Entries.{Leaf, Node}
-use Rattle.prolly_check.specs.Way.{level_of}
+use Rattle.prolly_look_up.specs.Entries.{Child}
+use Rattle.prolly_look_up.specs.Kinds.{Entries, kind_of}
+use Rattle.prolly_look_up.specs.Kinds.Entries.{Leaf, Node}
+use Rattle.prolly_look_up.specs.Way.{level_of}
 use Rattle.prolly_entry.specs.Reference.{reference_of}
 use Rattle.prolly_entry.specs.declared.version.Version.{Version}
 use Rattle.prolly_root_diff.specs.Left.{Due, Left, Opens, due_of, opened}

@@ -5,12 +5,12 @@ use Rattle.std.proofs.lemmas.List.{map-append}
 use Rattle.std.proofs.lemmas.List.Sums.{sum_by-append, sum_by-cons}
 use Rattle.std.specs.List.{flat_map, AllByRecursion, sum_by}
 use Rattle.std.specs.Prelude.{All}
-use Rattle.prolly_check.specs.Descent.{ChildIsTree, IsTreeOf, TopIsRead, child_of, entries_below}
-use Rattle.prolly_check.specs.Entries.{Child}
-use Rattle.prolly_check.specs.Kinds.{kind_of}
-use Rattle.prolly_check.specs.Kinds.Entries.{Node}
-use Rattle.prolly_check.specs.Way.{Clash, IsNamed}
-use Rattle.prolly_check.specs.lemmas.Clashes.{top_or_clash, wider}
+use Rattle.prolly_look_up.specs.Descent.{ChildIsTree, IsTreeOf, TopIsRead, child_of, entries_below}
+use Rattle.prolly_look_up.specs.Entries.{Child}
+use Rattle.prolly_look_up.specs.Kinds.{kind_of}
+use Rattle.prolly_look_up.specs.Kinds.Entries.{Node}
+use Rattle.prolly_look_up.specs.Way.{Clash, IsNamed}
+use Rattle.prolly_look_up.specs.lemmas.Clashes.{top_or_clash, wider}
 use Rattle.prolly_entry.specs.Byte.{IsByte}
 use Rattle.prolly_entry.specs.Reference.{reference_of}
 use Rattle.prolly_entry.specs.declared.version.Version.{Version}

@@ -9,13 +9,13 @@ use Rattle.prolly_entry.specs.Reference.{reference_of}
 use Rattle.prolly_entry.specs.declared.reference.Ref.{Ref}
 use Rattle.prolly_entry.specs.declared.version.Version.{Version}
 use Rattle.prolly_tree.specs.Tree.{Tree, bytes_of}
-use Rattle.prolly_check.specs.Chunks.{chunks_of}
-use Rattle.prolly_check.specs.Content.{Content}
-use Rattle.prolly_check.specs.Descent.{ChildIsTree, IsTreeOf, RootIsTree, TopIsRead, child_of}
-use Rattle.prolly_check.specs.Entries.{Child, children_in}
-use Rattle.prolly_check.specs.Kinds.{Entries, kind_of}
-use Rattle.prolly_check.specs.Kinds.Entries.{Leaf, Node}
-use Rattle.prolly_check.specs.Way.{FallsTo, IsNamed, level_of}
+use Rattle.prolly_look_up.specs.Content.{chunks_of}
+use Rattle.prolly_look_up.specs.Content.{Content}
+use Rattle.prolly_look_up.specs.Descent.{ChildIsTree, IsTreeOf, RootIsTree, TopIsRead, child_of}
+use Rattle.prolly_look_up.specs.Entries.{Child, children_in}
+use Rattle.prolly_look_up.specs.Kinds.{Entries, kind_of}
+use Rattle.prolly_look_up.specs.Kinds.Entries.{Leaf, Node}
+use Rattle.prolly_look_up.specs.Way.{FallsTo, IsNamed, level_of}
 use Rattle.prolly_root.specs.ChunkSource.{IsChildNumber, IsLawful, root_level, root_tree}
 use Rattle.prolly_root.specs.Descent.{StandsBelow}
 use Rattle.prolly_root.specs.RootFault.{IsOrFails, OnlyRead}
@@ -27,7 +27,8 @@ use Rattle.prolly_root_diff.specs.Notes.{Reads}
 use Rattle.prolly_root_diff.specs.declared.notes.Note.{Note}
 use Rattle.prolly_root_diff.specs.Sides.{AreChildrenOf, AreLastBelow, AreLastChildren, AreOne}
 use Rattle.prolly_root_diff.specs.Sides.{AreSiblingsOf, HaveSame, IsBehindFirst, IsTopThere}
-use Rattle.prolly_root_diff.specs.Sides.{PutBehindFirst, bound_of, due_at, dues, left_of, level_above}
+use Rattle.prolly_root_diff.specs.Sides.{PutBehindFirst, bound_of, due_at, dues, left_of}
+use Rattle.prolly_root_diff.specs.Sides.{level_above}
 use Rattle.prolly_root_diff.specs.declared.side.Side.{Side}
 use Rattle.prolly_root_diff.specs.declared.siblings.Parent.{Parent}
 use Rattle.prolly_root_diff.specs.declared.siblings.Siblings.{Siblings}

@@ -10,8 +10,9 @@ use Rattle.prolly_entry.specs.declared.version.Version.{Version}
 use Rattle.prolly_tree.specs.Difference.{IsDifference, IsMap}
 use Rattle.prolly_tree.specs.Tree.{LeveledTree}
 use Rattle.prolly_tree.specs.lemmas.Maps.{Above, FirstAbove, above_first}
-use Rattle.prolly_diff.specs.Differences.{AreMaps, Maps, TakesLeast}
-use Rattle.prolly_diff.specs.lemmas.Walks.{added, alike_more, alike_one, changed, no_change, removed}
+use Rattle.prolly_tree.specs.Walks.{AreMaps, Maps, TakesLeast}
+use Rattle.prolly_tree.specs.lemmas.Walks.{added, alike_more, alike_one, changed, no_change}
+use Rattle.prolly_tree.specs.lemmas.Walks.{removed}
 use Rattle.prolly_root_diff.specs.Left.{IsLeft, Left, pairs_of, tops_of}
 use Rattle.prolly_root_diff.specs.Walks.{AreLeft, Changes, Ends, FirstChange}
 use Rattle.prolly_root_diff.specs.Walks.{GoOn, IsReady, Lefts, Moves, Takes, TakesFirst, Tells}

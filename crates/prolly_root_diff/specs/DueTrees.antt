@@ -1,9 +1,9 @@
 -- What is due of a tree, step by step.
 use Rattle.std.specs.Prelude.{◌≡◌, ℕ, ◌^◌, ◌<◌, List, [], ◌∷◌, length, None}
 use Rattle.std.specs.List.{AllByRecursion, flat_map}
-use Rattle.prolly_check.specs.Content.{Content}
-use Rattle.prolly_check.specs.Kinds.{kind_of}
-use Rattle.prolly_check.specs.Way.{IsNamed, level_of}
+use Rattle.prolly_look_up.specs.Content.{Content}
+use Rattle.prolly_look_up.specs.Kinds.{kind_of}
+use Rattle.prolly_look_up.specs.Way.{IsNamed, level_of}
 use Rattle.prolly_entry.specs.declared.version.Version.{Version}
 use Rattle.prolly_tree.specs.Tree.{Tree}
 use Rattle.prolly_root_diff.specs.Left.{Due, opened}

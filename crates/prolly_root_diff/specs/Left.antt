@@ -12,13 +12,13 @@ use Rattle.prolly_tree.specs.Difference.{IsDifference, IsMap}
 use Rattle.prolly_tree.specs.File.{root_reference}
 use Rattle.prolly_tree.specs.Tree.{LeveledTree, bytes_of, last_key, pairs_below}
 use Rattle.prolly_tree.specs.lemmas.Maps.{Above, HasKey}
-use Rattle.prolly_check.specs.Descent.{IsTreeOf}
-use Rattle.prolly_check.specs.Entries.{Child}
-use Rattle.prolly_check.specs.FirstFault.{chunk_bytes}
-use Rattle.prolly_check.specs.Kinds.{Entries, kind_of}
-use Rattle.prolly_check.specs.Way.{Clash, IsNamed, level_of}
-use Rattle.prolly_check.specs.Kinds.Entries.{Leaf, Node}
-use Rattle.prolly_diff.specs.Differences.{AreAlike, Maps}
+use Rattle.prolly_look_up.specs.Descent.{IsTreeOf}
+use Rattle.prolly_look_up.specs.Entries.{Child}
+use Rattle.prolly_look_up.specs.Content.{chunk_bytes}
+use Rattle.prolly_look_up.specs.Kinds.{Entries, kind_of}
+use Rattle.prolly_look_up.specs.Way.{Clash, IsNamed, level_of}
+use Rattle.prolly_look_up.specs.Kinds.Entries.{Leaf, Node}
+use Rattle.prolly_tree.specs.Walks.{AreAlike, Maps}
 
 -- ---- what is left of one tree
 

@@ -3,12 +3,12 @@ use Rattle.std.specs.Prelude.{◌≡◌, ℕ, List, [], ◌∷◌, ◌++◌, map
 use Rattle.std.specs.List.{AllByRecursion, filter, list_any, sum_by}
 use Rattle.std.specs.Prelude.{◌⊎◌, Bool}
 use Rattle.std.specs.Str.{bytes_eq}
-use Rattle.prolly_check.specs.FirstFault.{chunk_bytes}
-use Rattle.prolly_check.specs.Kinds.{Entries, kind_of}
-use Rattle.prolly_check.specs.Kinds.Entries.{Leaf, Node}
-use Rattle.prolly_check.specs.Numbers.{AreSo, lacking}
-use Rattle.prolly_check.specs.Way.{IsNamed}
-use Rattle.prolly_check.specs.declared.numbers.Missing.{Missing}
+use Rattle.prolly_look_up.specs.Content.{chunk_bytes}
+use Rattle.prolly_look_up.specs.Kinds.{Entries, kind_of}
+use Rattle.prolly_look_up.specs.Kinds.Entries.{Leaf, Node}
+use Rattle.prolly_chunk.specs.Missing.{AreSo, lacking}
+use Rattle.prolly_look_up.specs.Way.{IsNamed}
+use Rattle.prolly_chunk.specs.declared.missing.Missing.{Missing}
 use Rattle.prolly_entry.specs.Cut.{sha512_cut}
 use Rattle.prolly_entry.specs.Pair.{IsPair, Pair}
 use Rattle.prolly_entry.specs.Reference.{reference_of}

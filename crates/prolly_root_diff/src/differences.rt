@@ -1,12 +1,14 @@
 //! The walk over two trees.
-ghost use Rattle.std.specs.Prelude.{◌≡◌, ◌≤◌, ◌^◌, true, false, Err, None, Some, IfOk, IfErr, OnErr};
+ghost use Rattle.std.specs.Prelude.{◌≡◌, ◌≤◌, ◌^◌, true, false, Err, None, Some, IfOk, IfErr};
+ghost use Rattle.std.specs.Prelude.{OnErr};
 ghost use Rattle.std.specs.Prelude.{OnOk, IfSome};
 ghost use Rattle.std.specs.List.{sum_by};
 ghost use Rattle.std.specs.Option.{is_some};
 ghost use Rattle.prolly_root_diff.specs.Notes.{AreNoted, TellsMissing};
 ghost use Rattle.prolly_root_diff.specs.Sides.{left_of};
 ghost use Rattle.prolly_root_diff.specs.ToGo.{ComesNearer};
-ghost use Rattle.prolly_root_diff.specs.Walks.{Gives, IsBegun, IsOfOneKey, Lefts, TellsNew, TellsOld};
+ghost use Rattle.prolly_root_diff.specs.Walks.{Gives, IsBegun, IsOfOneKey, Lefts, TellsNew};
+ghost use Rattle.prolly_root_diff.specs.Walks.{TellsOld};
 ghost use Rattle.prolly_root_diff.specs.Walks.{lefts_of};
 ghost use Rattle.prolly_root_diff.specs.declared.notes.Notes.{Notes as NotesValue};
 
@@ -16,7 +18,7 @@ use crate::laws::walks_are_right;
 use crate::notes::{Notes, note_new, note_old};
 use crate::onward::{Onward, way_onward};
 use crate::side::Side;
-use prolly_check::Missing;
+use prolly_chunk::Missing;
 use prolly_entry::{Ref, Version};
 use prolly_root::ChunkSource;
 use std::alloc::{AllocError, Global};

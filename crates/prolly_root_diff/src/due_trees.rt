@@ -1,15 +1,15 @@
 //! The subtrees of a tree that are due.
 ghost use Rattle.std.specs.Prelude.{◌≡◌, ◌<◌, ◌∷◌, length, OnOk, IfOk};
-ghost use Rattle.prolly_check.specs.Content.{Content};
+ghost use Rattle.prolly_look_up.specs.Content.{Content};
 ghost use Rattle.prolly_root.specs.ChunkSource.{HasAsked};
 ghost use Rattle.prolly_root.specs.RootFault.{IsOrFails, MayFail};
 ghost use Rattle.prolly_root_diff.specs.DueTrees.{AreDueIn, IsWholeTree, ReadsFirst, all_due};
 ghost use Rattle.prolly_root_diff.specs.Sides.{PutBehindFirst};
 
 use crate::siblings::Siblings;
-use prolly_check::LEAF;
-use prolly_check::laws::tops_are_read;
 use prolly_entry::{Ref, Version};
+use prolly_look_up::LEAF;
+use prolly_look_up::laws::tops_are_read;
 use prolly_root::{ChunkSource, RootFault};
 use std::alloc::{AllocError, Global};
 use std::collections::VecDeque;

@@ -6,7 +6,7 @@ ghost use Rattle.prolly_root_diff.specs.Left.{BeginsAtRoot, OpensFirst, PassesEq
 ghost use Rattle.prolly_root_diff.specs.Notes.{NotesAreRight};
 ghost use Rattle.prolly_root_diff.specs.Walks.{BeforeIsRight, FirstAreRight, WalksAreRight};
 
-use prolly_check::laws::tops_are_read;
+use prolly_look_up::laws::tops_are_read;
 
 /// What is left of a tree stays the same where a chunk is read in the place of a subtree, and
 /// subtrees with equal references are passed by in both. So what a walk gives is the difference of

@@ -1,14 +1,14 @@
 //! The pairs that are left of one leaf.
 ghost use Rattle.std.specs.Prelude.{◌≡◌, ◌<◌, ◌≤◌, [], ◌∷◌, length, List, true, false, IfOk};
 ghost use Rattle.std.specs.Prelude.{IfSome, MatchOption};
-ghost use Rattle.prolly_check.specs.Entries.{IsWhole};
-ghost use Rattle.prolly_check.specs.Kinds.{kind_of};
-ghost use Rattle.prolly_check.specs.Kinds.Entries.{Leaf as LeafEntries};
-ghost use Rattle.prolly_check.specs.Way.{level_of};
+ghost use Rattle.prolly_look_up.specs.Entries.{IsWhole};
+ghost use Rattle.prolly_look_up.specs.Kinds.{kind_of};
+ghost use Rattle.prolly_look_up.specs.Kinds.Entries.{Leaf as LeafEntries};
+ghost use Rattle.prolly_look_up.specs.Way.{level_of};
 ghost use Rattle.prolly_entry.specs.Pair.{Pair as PairValue};
 
-use prolly_check::split_first_pair;
 use prolly_entry::{Pair, Version};
+use prolly_look_up::split_first_pair;
 use std::alloc::{AllocError, Global};
 use std::marker::Model;
 
@@ -23,7 +23,7 @@ pub(crate) struct Leaf {
 impl Model for Leaf {
     ghost use Rattle.std.specs.Prelude.{◌≤◌, List, drop, length};
     ghost use Rattle.prolly_entry.specs.Pair.{Pair as PairValue};
-    ghost use Rattle.prolly_check.specs.Entries.{IsSomeLeaf, pairs_in};
+    ghost use Rattle.prolly_look_up.specs.Entries.{IsSomeLeaf, pairs_in};
 
     ghost Value = { List PairValue };
 

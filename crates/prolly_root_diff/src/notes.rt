@@ -7,7 +7,7 @@ ghost use Rattle.std.specs.Ordering.{nat_cmp};
 ghost use Rattle.std.specs.Str.{bytes_eq};
 ghost use Rattle.prolly_root_diff.specs.Notes.{AddsNew, AddsOld, AreOf, unknown_of};
 
-use prolly_check::Missing;
+use prolly_chunk::Missing;
 use prolly_entry::Ref;
 use std::alloc::{AllocError, Global};
 

@@ -1,7 +1,7 @@
 //! The leaves of a tree, for who knows its root.
 ghost use Rattle.std.specs.Prelude.{◌≡◌, ◌<◌, [], true, false, length, None, Some, Err, IfOk};
 ghost use Rattle.std.specs.Prelude.{IfErr, IfSome, OnOk};
-ghost use Rattle.prolly_check.specs.Content.{Content};
+ghost use Rattle.prolly_look_up.specs.Content.{Content};
 ghost use Rattle.prolly_root.specs.ChunkSource.{HasAsked};
 ghost use Rattle.prolly_root.specs.RootFault.{IsOrFails, MayFail};
 ghost use Rattle.prolly_root.specs.declared.root_fault.RootFault.{RootFault as RootFaultValue};
@@ -12,8 +12,8 @@ ghost use Rattle.prolly_root_diff.specs.ToGo.{weights};
 use crate::due_trees::{read_first, whole_tree};
 use crate::laws::leaves_are_right;
 use crate::siblings::Siblings;
-use prolly_check::pairs_of;
 use prolly_entry::{Ref, Version};
+use prolly_look_up::pairs_of;
 use prolly_root::{ChunkSource, RootFault};
 use std::alloc::{AllocError, Global};
 use std::collections::VecDeque;

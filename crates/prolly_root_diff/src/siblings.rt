@@ -1,9 +1,9 @@
 //! The subtrees that are due below one node.
 ghost use Rattle.std.specs.Prelude.{◌≡◌, ◌<◌, [], map, true, false, drop, None};
 ghost use Rattle.std.specs.Prelude.{IfOk, MatchOption};
-ghost use Rattle.prolly_check.specs.Content.{Content};
-ghost use Rattle.prolly_check.specs.Entries.{IsNode, IsWhole, children_in};
-ghost use Rattle.prolly_check.specs.Way.{FallsTo, IsNamed, level_of};
+ghost use Rattle.prolly_look_up.specs.Content.{Content};
+ghost use Rattle.prolly_look_up.specs.Entries.{IsNode, IsWhole, children_in};
+ghost use Rattle.prolly_look_up.specs.Way.{FallsTo, IsNamed, level_of};
 ghost use Rattle.prolly_root.specs.ChunkSource.{HasAsked};
 ghost use Rattle.prolly_root.specs.Descent.{StandsBelow};
 ghost use Rattle.prolly_root.specs.RootFault.{IsOrFails, MayFail, OnlyRead};
@@ -11,9 +11,9 @@ ghost use Rattle.prolly_root_diff.specs.Sides.{AreChildrenOf, AreSiblingsOf, Hav
 ghost use Rattle.prolly_root_diff.specs.Sides.{IsBehindFirst, IsTopThere, bound_of};
 ghost use Rattle.prolly_root_diff.specs.Sides.{level_above};
 
-use prolly_check::laws::tops_are_read;
-use prolly_check::split_first_child;
 use prolly_entry::{Ref, Version};
+use prolly_look_up::laws::tops_are_read;
+use prolly_look_up::split_first_child;
 use prolly_root::{ChunkSource, RootFault, tested_chunk};
 use std::alloc::{AllocError, Global};
 use std::collections::VecDeque;

@@ -5,7 +5,7 @@ use Rattle.std.proofs.Common.{refl, sym, ap, ◌∙◌, subst, arith, All, lengt
 use Rattle.std.proofs.Common.{append-nil, if◌then◌else◌}
 use Rattle.std.proofs.Math.Seq.{drop-append-add, drop-append_seam}
 use Rattle.std.proofs.lemmas.Bool.{le-ltb}
-use Rattle.std.proofs.lemmas.List.{drop-append-le, drop-drop, length-map, map_push, take-append-le}
+use Rattle.std.proofs.lemmas.List.{drop-append-le, drop-drop, map_push, take-append-le}
 use Rattle.std.proofs.lemmas.List.{take_all}
 use Rattle.std.proofs.lemmas.List.Concat.{flat_map-append}
 use Rattle.std.proofs.lemmas.List.Elements.{All-push, All-weaker, recursion_from_All}
@@ -18,7 +18,7 @@ use Rattle.prolly_sort.specs.declared.place.Place.{Place}
 use Rattle.prolly_sort.specs.Overlaid.{written}
 use Rattle.prolly_sort.specs.Place.{StandsIn, key_in, part_in, place_of, record_in}
 use Rattle.prolly_sort.specs.Place.{records_in, value_in}
-use Rattle.prolly_sort.specs.Run.{IsHeld, cost_of}
+use Rattle.prolly_sort.specs.Run.{IsHeld}
 use Rattle.prolly_sort.proofs.Numbering.{numbered_more}
 
 same_record : (a b : List ℕ) (v w : Option (List ℕ)) → a ≡ b → v ≡ w →

@@ -1,6 +1,7 @@
 -- Places in the order of their keys and numbers: those of one key stand in the order in which they came.
-use Rattle.std.proofs.Common.{◌≡◌, ℕ, zero, suc, ◌+◌, ◌<◌, ◌≤◌, Bool, true, false, cond, List, [], ◌∷◌}
-use Rattle.std.proofs.Common.{All, IsPermutation, IsSortedBy, Ordering, filter, get_or, is_lt}
+use Rattle.std.proofs.Common.{◌≡◌, ℕ, zero, suc, ◌+◌, ◌<◌, ◌≤◌, Bool, true, false, cond, List, []}
+use Rattle.std.proofs.Common.{◌∷◌}
+use Rattle.std.proofs.Common.{All, IsPermutation, Ordering, filter, get_or, is_lt}
 use Rattle.std.proofs.Common.{nat_eq, sum_by, refl, sym, ap, ◌∙◌, arith}
 use Rattle.std.proofs.lemmas.Bool.Decides.{Decides-eqb}
 use Rattle.std.proofs.lemmas.Cmp.{nat_cmp_total, nat_list_cmp_total, on_total, then_total}
@@ -17,7 +18,7 @@ use Rattle.std.specs.declared.cmp.Ordering.TheVariants.{Less, Equal, Greater}
 use Rattle.prolly_entry.specs.Keys.{key_order}
 use Rattle.prolly_entry.specs.lemmas.Orders.{eq_true, order_same, order_self}
 use Rattle.prolly_sort.specs.declared.place.Place.{Place}
-use Rattle.prolly_sort.specs.Place.{AreInOrder, comes_before, is_below, key_in}
+use Rattle.prolly_sort.specs.Place.{comes_before, is_below, key_in}
 use Rattle.prolly_sort.specs.Run.{NumberedFrom}
 use Rattle.prolly_sort.proofs.Lasting.{same_there}
 use Rattle.prolly_sort.proofs.Numbering.{number_at}

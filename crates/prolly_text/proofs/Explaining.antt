@@ -1,5 +1,5 @@
 -- Explaining the faulty lines of a text, one after another.
-use Rattle.std.proofs.Common.{◌≡◌, ◌≢◌, ◌⊎◌, ℕ, ◌+◌, ◌<◌, ◌≤◌, true, List, [], ◌∷◌, ◌++◌, ap, arith}
+use Rattle.std.proofs.Common.{◌≡◌, ◌≢◌, ◌⊎◌, ℕ, ◌+◌, ◌<◌, true, List, [], ◌∷◌, ◌++◌, ap, arith}
 use Rattle.std.proofs.Common.{◌∙◌, append_assoc, append-nil, drop, inl, inr, length, length-append}
 use Rattle.std.proofs.Common.{length-drop, refl, subst, sym, take, if◌then◌else◌}
 use Rattle.std.proofs.lemmas.Bool.Decides.{nat_tests}
@@ -7,8 +7,9 @@ use Rattle.std.proofs.lemmas.List.{length-take-le, take-take}
 use Rattle.std.specs.Prelude.{codes, nat_lt}
 use Rattle.prolly_text.specs.Ahead.{BeginsWithLine, LiesWithin, LooksLong, PassesLine}
 use Rattle.prolly_text.specs.Defects.{HasDefect}
-use Rattle.prolly_text.specs.FaultyLines.{AreExplained, Explains, IsExplained, IsGood, IsSeen}
-use Rattle.prolly_text.specs.FaultyLines.{SeesFaulty, SeesGood, StopsAtFault, defect_lines, lines_with}
+use Rattle.prolly_text.specs.FaultyLines.{Explains, IsExplained, IsGood, IsSeen}
+use Rattle.prolly_text.specs.FaultyLines.{SeesFaulty, SeesGood, StopsAtFault, defect_lines}
+use Rattle.prolly_text.specs.FaultyLines.{lines_with}
 use Rattle.prolly_text.specs.FaultyLines.{place_after, place_behind, shown_line, start}
 use Rattle.prolly_text.specs.Lines.{lines_of}
 use Rattle.prolly_text.specs.Notations.{written}
@@ -16,7 +17,6 @@ use Rattle.prolly_text.specs.declared.lines.buffer.TheConstants.{LINE_LIMIT}
 use Rattle.prolly_text.specs.declared.lines.defect.Defect.{Defect}
 use Rattle.prolly_text.specs.declared.lines.defect.Defect.TheVariants.{LineTooLong}
 use Rattle.prolly_text.specs.declared.lines.defect.LinePlace.{LinePlace}
-use Rattle.prolly_text.specs.declared.lines.explain.LineCounts.{LineCounts}
 use Rattle.prolly_text.specs.declared.lines.explain.Seen.{Seen}
 use Rattle.prolly_text.specs.declared.lines.explain.Seen.TheVariants.{End, Good, Faulty}
 use Rattle.prolly_text.specs.declared.lines.form.LineForm.{LineForm}

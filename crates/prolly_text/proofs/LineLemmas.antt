@@ -1,15 +1,14 @@
 -- Lines, and the split of a line at its first separator.
-use Rattle.std.proofs.Common.{◌≡◌, ◌≢◌, inl, inr, ℕ, ◌+◌, ◌-◌, ◌<◌, ◌≤◌, Bool, true, false}
-use Rattle.std.proofs.Common.{List, [], ◌∷◌, ◌++◌, length, take, drop, Option, Some, None, All}
+use Rattle.std.proofs.Common.{◌≡◌, ◌≢◌, ℕ, ◌+◌, ◌-◌, ◌<◌, ◌≤◌, Bool, true, false}
+use Rattle.std.proofs.Common.{List, [], ◌∷◌, ◌++◌, length, take, drop, Some, None, All}
 use Rattle.std.proofs.Common.{get_or, unwrap_or, add-one, drop-cons, length-drop, refl, sym, ap}
-use Rattle.std.proofs.Common.{◌∙◌, subst, arith, Result, Ok, Err, IfOk, IfErr}
+use Rattle.std.proofs.Common.{◌∙◌, subst, arith, Result, Ok, Err, IfErr}
 use Rattle.std.specs.Prelude.{◌==◌, slice_get}
 use Rattle.std.specs.List.{AllByRecursion}
 use Rattle.std.proofs.lemmas.List.Elements.{recursion_from_All}
 use Rattle.std.proofs.lemmas.List.{drop-drop, nil_from_length, take-append-drop, take_all}
 use Rattle.std.proofs.lemmas.Option.{slice_get_within, unwrap_or-slice_get}
 use Rattle.std.proofs.lemmas.Bool.Decides.{nat_tests}
-use Rattle.prolly_entry.specs.Record.{Record}
 use Rattle.prolly_entry.specs.lemmas.Lists.{rest_is}
 use Rattle.prolly_text.specs.Notations.{IsTextFault, IsWritten, StandsWithin, separator}
 use Rattle.prolly_text.specs.declared.notation.Notation.{Notation}
@@ -19,10 +18,9 @@ use Rattle.prolly_text.specs.lemmas.Digits.{all_so}
 use Rattle.prolly_tree.specs.Split.{in_front}
 use Rattle.prolly_text.specs.Lines.{lines_of, reads_bare_keys, CutsAt, IsBadLine, IsDashLine}
 use Rattle.prolly_text.specs.Lines.{IsLineOf, IsPairLine, IsRemovalLine}
-use Rattle.prolly_text.specs.declared.lines.line.LineFlaw.{LineFlaw}
 use Rattle.prolly_text.specs.declared.lines.form.LineForm.{LineForm}
-use Rattle.prolly_text.specs.PackedLines.{IsChangeOf, IsLongChange, IsUnreadLine, IsWrongLine}
-use Rattle.prolly_text.specs.PackedLines.{MarksRemoval, StandsFor}
+use Rattle.prolly_text.specs.PackedLines.{IsUnreadLine}
+use Rattle.prolly_text.specs.PackedLines.{MarksRemoval}
 use Rattle.prolly_text.specs.declared.notation.TextFault.{TextFault}
 use Rattle.prolly_text.specs.declared.notation.TextFault.TheVariants as texts
 

@@ -1,7 +1,7 @@
 -- Passing a line that is too long.
-use Rattle.std.proofs.Common.{◌≡◌, ◌≢◌, ℕ, ◌+◌, ◌^◌, ◌<◌, ◌≤◌, List, [], ◌∷◌, ◌++◌, All, Some, ap}
+use Rattle.std.proofs.Common.{◌≡◌, ◌≢◌, ℕ, ◌+◌, ◌<◌, ◌≤◌, List, [], ◌∷◌, ◌++◌, All, Some, ap}
 use Rattle.std.proofs.Common.{◌∙◌, append_assoc, arith, drop, inl, inr, length, length-append}
-use Rattle.std.proofs.Common.{length-drop, refl, subst, sym, take}
+use Rattle.std.proofs.Common.{length-drop, subst, sym, take}
 use Rattle.std.specs.Prelude.{Err, IfOk, Ok, Result, slice_get}
 use Rattle.std.proofs.lemmas.List.{append-nil, length-take-le, nil_from_length}
 use Rattle.std.proofs.lemmas.List.{take_all}

@@ -32,6 +32,8 @@ pub mod Pipeline
 pub mod lemmas
 -- The difference of two maps: the records that turn the one into the other.
 pub mod Difference
+-- A walk over two maps side by side. (This project's rules.)
+pub mod Walks
 -- What comes of changes that are laid over a map. (This project's rules.)
 pub mod Applying
 -- What of a map goes on unchanged where changes are laid over it. (This project's rules.)

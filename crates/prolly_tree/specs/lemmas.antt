@@ -11,3 +11,5 @@ pub mod Splits
 pub mod Trees
 -- What the stages of a pipeline send, and its writer takes.
 pub mod Stages
+-- A walk over two maps: what was passed over, and the change behind it.
+pub mod Walks

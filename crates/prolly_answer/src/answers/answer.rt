@@ -1,8 +1,10 @@
 //! What the program prints.
 ghost use Rattle.std.specs.Prelude.{ℕ, List, [], IfOk, Some};
 ghost use Rattle.std.specs.Option.{option_copied};
-ghost use Rattle.prolly_answer.specs.Answers.{Shows, ShowsNothing, ShowsLine, ShowsDone, ShowsFault};
-ghost use Rattle.prolly_answer.specs.Answers.{ShowsFileFault, ShowsFileLine, ShowsName, ShowsRefusal};
+ghost use Rattle.prolly_answer.specs.Answers.{Shows, ShowsNothing, ShowsLine, ShowsDone};
+ghost use Rattle.prolly_answer.specs.Answers.{ShowsFault};
+ghost use Rattle.prolly_answer.specs.Answers.{ShowsFileFault, ShowsFileLine, ShowsName};
+ghost use Rattle.prolly_answer.specs.Answers.{ShowsRefusal};
 ghost use Rattle.prolly_answer.specs.LookUps.{ShowsPair, ShowsRaw, ShowsValue};
 
 use crate::faults::{Fault, NameFault};

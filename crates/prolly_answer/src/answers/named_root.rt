@@ -1,18 +1,20 @@
 //! The command `root`: the root that a chunk file names.
 ghost use Rattle.std.specs.Prelude.{◌≡◌, true, IfOk};
-ghost use Rattle.prolly_check.specs.Content.{Content};
+ghost use Rattle.prolly_look_up.specs.Content.{Content};
 ghost use Rattle.prolly_root.specs.Walk.{HoldsFile};
 ghost use Rattle.prolly_answer.specs.NamedRoots.{IsNamedRoot, ShowsRootOf, TellsNamedRead};
+ghost use Rattle.prolly_answer.specs.NamedRoots.{check_fault};
 
 use crate::answers::answer::Answer;
 use crate::faults::Fault;
+use prolly_check::CheckFault;
 use prolly_file::Device;
-use prolly_root::named_root;
+use prolly_root::{NamedRootFault, named_root};
 use std::alloc::{AllocError, Global};
 
 /// What `root` answers: the text of the root that the end record of a chunk file names, or the line
-/// of the fault of the header or the end. Nothing between the two is read, and nothing is checked:
-/// see [`named_root`]. An `Err` is want of memory for the answer's own text.
+/// of the fault of the header or the end, which is that of `check`. Nothing between the two is read,
+/// and nothing is checked: see [`named_root`]. An `Err` is want of memory for the answer's own text.
 pub fn answer_root<D: Device>(alloc: Global, device: &mut D) -> Result<Answer, AllocError>
     ensures shown { (D.seen device.old).is_honest ≡ true →
         IfOk result (IsNamedRoot (D.seen device.old).bytes) }
@@ -25,6 +27,18 @@ pub fn answer_root<D: Device>(alloc: Global, device: &mut D) -> Result<Answer, A
 {
     match named_root(device) {
         Ok(root) => Answer::of_line(alloc, &root.to_text()),
-        Err(fault) => Answer::of_fault(alloc, Fault::Check(fault)),
+        Err(fault) => Answer::of_fault(alloc, Fault::Check(checked_as(fault))),
+    }
+}
+
+/// The fault of a check that is told where a file names no root.
+fn checked_as(fault: NamedRootFault) -> CheckFault
+    ensures { result ≡ check_fault fault }
+{
+    match fault {
+        NamedRootFault::Read => CheckFault::Read,
+        NamedRootFault::BadHeader => CheckFault::BadHeader,
+        NamedRootFault::Truncated => CheckFault::Truncated,
+        NamedRootFault::BadEnd => CheckFault::BadEnd,
     }
 }

@@ -5,7 +5,8 @@ ghost use Rattle.prolly_root.specs.RootFault.{TellsReads};
 ghost use Rattle.prolly_root.specs.declared.root_fault.RootFault.{RootFault as RootFaultValue};
 ghost use Rattle.prolly_answer.specs.LookUps.{ShowsFailedRead};
 ghost use Rattle.prolly_answer.specs.Outputs.{TookAll, TookPart};
-ghost use Rattle.prolly_answer.specs.Proofs.{IsProve, IsProveByRoot, IsProvedOf, IsUnproved, IsVerify};
+ghost use Rattle.prolly_answer.specs.Proofs.{IsProve, IsProveByRoot, IsProvedOf, IsUnproved};
+ghost use Rattle.prolly_answer.specs.Proofs.{IsVerify};
 ghost use Rattle.prolly_answer.specs.Proofs.{ProofByRoot};
 ghost use Rattle.prolly_answer.specs.RootOutcomes.{RefusesNone};
 ghost use Rattle.prolly_answer.specs.Answers.{ShowsFault};
@@ -16,7 +17,8 @@ use crate::input::{INPUT_LIMIT, input_of};
 use prolly_check::{ChunkHasher, check_by};
 use prolly_entry::{Ref, Version};
 use prolly_file::{Sink, Source, WriteFault, write_whole};
-use prolly_root::{ChunkSource, Reader, RootFault, prove, verify};
+use prolly_range::prove_checked_key;
+use prolly_root::{ChunkSource, Reader, RootFault, verify};
 use prolly_text::Notation;
 use std::alloc::{AllocError, Global};
 
@@ -52,7 +54,7 @@ pub fn answer_prove<H: ChunkHasher, S: Source, W: Sink>(
         Ok(tree) => tree,
         Err(fault) => return Answer::of_fault(alloc, Fault::Check(fault)),
     };
-    let proof = prove(alloc, &tree, key)?;
+    let proof = prove_checked_key(alloc, &tree, key)?;
     match write_whole(sink, &proof) {
         Ok(()) => Ok(Answer::of_done(alloc)),
         Err(WriteFault) => Answer::of_fault(alloc, Fault::Write),

@@ -1,7 +1,8 @@
 //! The command `scan` of a file of which only the root is believed.
-ghost use Rattle.std.specs.Prelude.{◌≡◌, ◌-◌, ◌<◌, true, length, take, All, Err, IfErr, IfOk, OnErr};
+ghost use Rattle.std.specs.Prelude.{◌≡◌, ◌-◌, ◌<◌, true, length, take, All, Err, IfErr, IfOk};
+ghost use Rattle.std.specs.Prelude.{OnErr};
 ghost use Rattle.std.specs.Prelude.{OnOk};
-ghost use Rattle.prolly_check.specs.ScanWay.{next_key};
+ghost use Rattle.prolly_look_up.specs.ScanWay.{next_key};
 ghost use Rattle.prolly_entry.specs.Byte.{IsByte};
 ghost use Rattle.prolly_answer.specs.LookUps.{pair_lines};
 ghost use Rattle.prolly_answer.specs.Outputs.{TookBytes, TookUntil};
@@ -14,9 +15,9 @@ use crate::answers::answer::Answer;
 use crate::answers::flushed::settled;
 use crate::answers::scan::append_first;
 use crate::faults::{Fault, OutputFault, RootOutputFault};
-use prolly_check::{ManyThreads, Pairs};
 use prolly_entry::{Ref, Version};
 use prolly_file::{Sink, write_all};
+use prolly_look_up::{ManyThreads, Pairs};
 use prolly_root::{ReadAhead, Reader};
 use prolly_text::Notation;
 use std::alloc::{AllocError, Global};
@@ -46,7 +47,7 @@ pub struct RootScan<'a> {
 /// the frames below a chunk once and reads no chunk twice. It takes memory for one look-up, for what
 /// the source reads ahead, and for the lines of one leaf, or of as many of its pairs as are still
 /// wanted: they are made from where the pairs lie. What the pairs of such look-ups are of the map
-/// with the root is said by [`ways_are_right`](prolly_check::laws::ways_are_right). The sink is
+/// with the root is said by [`ways_are_right`](prolly_look_up::laws::ways_are_right). The sink is
 /// called once for each leaf, or more often where it takes only a part, and flushed at the end. Where
 /// the limit is 0, nothing is read.
 pub fn answer_scan_by_root<R: Threads + Sync, S: ReadAhead, W: Sink>(

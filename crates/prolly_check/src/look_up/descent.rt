@@ -4,15 +4,14 @@ ghost use Rattle.prolly_entry.specs.Reference.{reference_of};
 ghost use Rattle.prolly_tree.specs.LookUp.{find};
 ghost use Rattle.prolly_check.specs.Chunks.{HasFile};
 ghost use Rattle.prolly_check.specs.FileWays.{CanBeSought, IsWayEnd, IsNamedAt, IsNextOnWay, IsTop};
-ghost use Rattle.prolly_check.specs.FileWays.{nth_chunk};
-ghost use Rattle.prolly_check.specs.Kinds.{kind_of};
-ghost use Rattle.prolly_check.specs.Content.{root_bytes};
-ghost use Rattle.prolly_check.specs.Sought.{EndsAt, sought_of};
-ghost use Rattle.prolly_check.specs.Way.{IsWay};
+ghost use Rattle.prolly_look_up.specs.Content.{nth_chunk};
+ghost use Rattle.prolly_look_up.specs.Kinds.{kind_of};
+ghost use Rattle.prolly_look_up.specs.Content.{root_bytes};
+ghost use Rattle.prolly_look_up.specs.Sought.{EndsAt, sought_of};
+ghost use Rattle.prolly_look_up.specs.Way.{IsWay};
 
 use crate::file::CheckedFile;
-use crate::look_up::sought::{Mark, Sought};
-use crate::look_up::step::step_of;
+use prolly_look_up::{Mark, Sought, step_of};
 use std::alloc::{AllocError, Global};
 
 /// Where a look-up stands: at the chunk of this number, in which this is sought.

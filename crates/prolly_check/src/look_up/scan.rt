@@ -1,41 +1,10 @@
 //! Copies of the first pairs of leaves.
-ghost use Rattle.std.specs.Prelude.{◌≡◌, ◌++◌, ◌≤◌, length, take, OnOk, IfOk};
+ghost use Rattle.std.specs.Prelude.{◌≡◌, take, IfOk};
 
-use crate::entries::Pairs;
 use crate::look_up::leaves::Leaves;
 use prolly_entry::Pair;
+use prolly_look_up::copy_pairs;
 use std::alloc::{AllocError, Global};
-
-/// Copies of the first pairs of a leaf, at most `limit` of them. Takes memory for them, and time
-/// linear in them.
-pub fn first_pairs(alloc: Global, leaf: Pairs, limit: usize) -> Result<Vec<Pair>, AllocError>
-    ensures { IfOk result (λ pairs. pairs.items ≡ take limit leaf.entry) }
-{
-    let mut pairs = Vec::new(alloc);
-    copy_pairs(alloc, leaf, limit, &mut pairs)?;
-    Ok(pairs)
-}
-
-/// Adds copies of the pairs of a leaf, until there are `limit` pairs.
-fn copy_pairs(
-    alloc: Global,
-    mut leaf: Pairs,
-    limit: usize,
-    pairs: &mut Vec<Pair>,
-) -> Result<(), AllocError>
-    requires { length pairs.old.items ≤ limit }
-    ensures within { OnOk result (length pairs.new.items ≤ limit) }
-    ensures added { OnOk result
-        (pairs.new.items ≡ take limit (pairs.old.items ++ leaf.entry)) }
-{
-    while let Some((key, value)) = leaf.next() {
-        if pairs.len() == limit {
-            return Ok(());
-        }
-        pairs.push(Pair::copy_of(alloc, key, value)?)?;
-    }
-    Ok(())
-}
 
 /// The first pairs of leaves, at most `limit` of them. Reads no leaf behind the one that has the last
 /// of them.

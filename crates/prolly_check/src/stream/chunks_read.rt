@@ -4,14 +4,15 @@ ghost use Rattle.std.specs.Prelude.{get_or, IfErr, IfOk, OnOk, MatchResult};
 ghost use Rattle.std.specs.List.{AllByRecursion};
 ghost use Rattle.std.specs.Option.{option_map};
 ghost use Rattle.prolly_file.specs.Frame.{has_no_frame};
-ghost use Rattle.prolly_check.specs.ChunksRead.{AreRead, BodyRead, EndsChunks, EndsRecord, GoesOver};
+ghost use Rattle.prolly_check.specs.ChunksRead.{AreRead, BodyRead, EndsChunks, EndsRecord};
+ghost use Rattle.prolly_check.specs.ChunksRead.{GoesOver};
 ghost use Rattle.prolly_check.specs.ChunksRead.{TakesChunk};
 ghost use Rattle.prolly_check.specs.Digests.{AreDigests, IsDigest};
 ghost use Rattle.prolly_check.specs.Frames.{IsWithin, chunks_in};
 ghost use Rattle.prolly_check.specs.FirstFault.{last_behind, rises_behind};
 ghost use Rattle.prolly_check.specs.FirstFlaw.{IsBodyFault};
 ghost use Rattle.prolly_check.specs.Follower.{IsAlike};
-ghost use Rattle.prolly_check.specs.HeldPairs.{pairs_held};
+ghost use Rattle.prolly_look_up.specs.HeldPairs.{pairs_held};
 
 use crate::stream::incoming::let_go;
 use crate::verdict::{

@@ -3,7 +3,7 @@ ghost use Rattle.std.specs.Prelude.{◌≡◌, ◌≢◌, ◌↔◌, ◌⊎◌, 
 ghost use Rattle.std.specs.Prelude.{IfErr, IfOk, IsErrOf, OnOk};
 ghost use Rattle.prolly_entry.specs.Cut.{sha512_cut};
 ghost use Rattle.prolly_tree.specs.File.{root_reference};
-ghost use Rattle.prolly_check.specs.Content.{Content};
+ghost use Rattle.prolly_look_up.specs.Content.{Content};
 ghost use Rattle.prolly_check.specs.FirstFlaw.{IsBodyVerdict, IsFileOfRoot, IsMapFile};
 ghost use Rattle.prolly_check.specs.FirstFlaw.{IsRootVerdict, IsStreamFault};
 ghost use Rattle.prolly_check.specs.Incoming.{Reads};

@@ -1,13 +1,14 @@
 //! Comparing the chunks of a file with those of the file of the pairs that they hold.
-ghost use Rattle.std.specs.Prelude.{◌≡◌, ◌<◌, ◌+◌, ◌^◌, [], ℕ, true, false, None, Some, OnOk, IfErr};
+ghost use Rattle.std.specs.Prelude.{◌≡◌, ◌<◌, ◌+◌, ◌^◌, [], ℕ, true, false, None, Some, OnOk};
+ghost use Rattle.std.specs.Prelude.{IfErr};
 ghost use Rattle.std.specs.Prelude.{drop, length, take};
 ghost use Rattle.std.specs.List.{flat_map};
 ghost use Rattle.prolly_entry.specs.declared.version.Version.{Version as VersionValue};
 ghost use Rattle.prolly_check.specs.Digests.{AreDigests};
-ghost use Rattle.prolly_check.specs.Entries.{AreWhole};
+ghost use Rattle.prolly_look_up.specs.Entries.{AreWhole};
 ghost use Rattle.prolly_check.specs.FirstFault.{CompareAs};
 ghost use Rattle.prolly_check.specs.Follower.{IsOutOfPlace};
-ghost use Rattle.prolly_check.specs.HeldPairs.{pairs_held};
+ghost use Rattle.prolly_look_up.specs.HeldPairs.{pairs_held};
 ghost use Rattle.prolly_check.specs.Verdict.{UnlessMemory};
 
 use crate::chunks::Chunks;

@@ -3,12 +3,14 @@ ghost use Rattle.std.specs.Prelude.{◌≡◌, ◌≢◌, ◌↔◌, ◌⊎◌, 
 ghost use Rattle.std.specs.Prelude.{drop, length, Err, IfOk, OnOk, IfErr, IsErrOf};
 ghost use Rattle.std.specs.List.{flat_map, AllByRecursion};
 ghost use Rattle.prolly_check.specs.FirstFault.{Says, ending_of_chunks};
-ghost use Rattle.prolly_check.specs.Verdict.{IsRefusal, IsFileOf, IsVerdict, UnlessMemory};
+ghost use Rattle.prolly_check.specs.Verdict.{IsRefusal, IsVerdict, UnlessMemory};
+ghost use Rattle.prolly_look_up.specs.Content.{IsFileOf};
 ghost use Rattle.prolly_check.specs.Chunks.{IsChecked, IsFile, IsLaidOut, AreReferences};
-ghost use Rattle.prolly_check.specs.Content.{Content};
+ghost use Rattle.prolly_look_up.specs.Content.{Content};
 ghost use Rattle.prolly_check.specs.Digests.{AreDigests};
-ghost use Rattle.prolly_check.specs.Entries.{AreWhole, IsBad};
-ghost use Rattle.prolly_check.specs.HeldPairs.{pairs_held};
+ghost use Rattle.prolly_look_up.specs.Entries.{AreWhole};
+ghost use Rattle.prolly_check.specs.ReadChunks.{IsBad};
+ghost use Rattle.prolly_look_up.specs.HeldPairs.{pairs_held};
 ghost use Rattle.prolly_check.specs.Frames.{IsWithin, chunks_in};
 
 use crate::chunks::{Chunks, Index, Layout};

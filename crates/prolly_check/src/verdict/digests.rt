@@ -9,14 +9,11 @@ ghost use Rattle.prolly_check.specs.Frames.{IsWithin, chunks_in};
 use crate::verdict::frames::chunk_at;
 use crate::verdict::pairs_digest::PairsDigest;
 use prolly_entry::{Ref, Sha512Cut, Version};
+use prolly_look_up::ManyThreads;
 use std::alloc::{AllocError, Global};
 use std::num::NonZeroUsize;
 use std::ops::Range;
 use std::thread::{Threads, for_each_mut};
-
-/// How many bytes of chunks there are at least for each thread. To hash as many takes longer than to
-/// start a thread.
-const BYTES_PER_THREAD: usize = 65_536;
 
 /// What is told of a chunk.
 #[derive(Clone, Copy)]
@@ -96,31 +93,6 @@ impl ChunkHasher for OneThread {
         spans: &[Range<usize>],
     ) -> Result<Vec<ChunkDigest>, AllocError> {
         digests_of(alloc, cut, version, bytes, spans)
-    }
-}
-
-/// Threads hash the chunks, an equal share of them each. Where one can't be had, another does its
-/// work, so no file is refused for that.
-#[derive(Drop)]
-pub struct ManyThreads<'a, R: Threads + Sync> {
-    /// What starts them.
-    pub rt: &'a R,
-    /// How many they are at most.
-    pub threads: NonZeroUsize,
-}
-
-impl<'a, R: Threads + Sync> ManyThreads<'a, R> {
-    /// So many threads at most, and no more than one for each 64 KiB of chunks. Chunks are of many
-    /// sizes, so some four threads a processor even the shares out.
-    pub fn new(rt: &'a R, threads: NonZeroUsize) -> ManyThreads<'a, R> {
-        ManyThreads { rt, threads }
-    }
-
-    /// How many threads share so many bytes of chunks.
-    pub fn count_for(&self, bytes: usize) -> usize
-        ensures { 0 < result }
-    {
-        self.threads.get().min(bytes / BYTES_PER_THREAD).max(1)
     }
 }
 

@@ -3,7 +3,7 @@ ghost use Rattle.std.specs.Prelude.{◌≡◌, ◌≢◌, ◌<◌, ℕ, [], ◌�
 ghost use Rattle.std.specs.Prelude.{IfOk, IfErr, OnOk};
 ghost use Rattle.prolly_check.specs.Digests.{IsDigest};
 ghost use Rattle.prolly_check.specs.Follower.{EndsWith, Follows, IsAlike, TakesNext, place_of_end};
-ghost use Rattle.prolly_check.specs.HeldPairs.{bytes_in};
+ghost use Rattle.prolly_look_up.specs.HeldPairs.{bytes_in};
 
 use crate::verdict::chunks_ahead::ChunksAhead;
 use crate::verdict::digests::ChunkDigest;

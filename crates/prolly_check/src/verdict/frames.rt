@@ -1,14 +1,9 @@
 //! The frames of a chunk file, and what follows them.
-ghost use Rattle.std.specs.Prelude.{◌≡◌, ◌≤◌, true, Ok, Err, length, drop, IfOk, IfErr, false};
-ghost use Rattle.std.specs.Prelude.{List, OnOk};
-ghost use Rattle.prolly_entry.specs.Pair.{Pair as PairValue};
+ghost use Rattle.std.specs.Prelude.{◌≡◌, ◌≤◌, true, Ok, Err, length, drop, IfOk, IfErr};
 ghost use Rattle.prolly_file.specs.Frame.{has_no_frame};
 ghost use Rattle.prolly_check.specs.Frames.{FramesTo, IsWithin, chunk_in, ending_of, chunks_in};
-ghost use Rattle.prolly_check.specs.Entries.{Holds, IsWhole};
 
-use crate::entries::{LEAF, is_leaf, is_node};
 use crate::verdict::fault::CheckFault;
-use prolly_entry::Version;
 use prolly_file::{END_LETTER, END_SIZE, FRAME_LETTER, FRAME_START, frame_at};
 use std::alloc::{AllocError, Global};
 use std::ops::Range;
@@ -61,19 +56,4 @@ pub(crate) fn chunk_at<'a>(bytes: &'a [u8], span: &Range<usize>) -> &'a [u8]
     ensures { result.now ≡ chunk_in bytes.now span.now }
 {
     &bytes[span.start..span.end]
-}
-
-/// Whether a chunk is a level and whole lawful entries of that level's kind.
-pub(crate) fn is_whole(version: Version, chunk: &[u8]) -> bool
-    ensures whole { result ≡ true → IsWhole version chunk.now }
-    ensures other { result ≡ false → (pairs : List PairValue) → Holds version chunk.now pairs → ⊥ }
-{
-    if chunk.len() == 0 {
-        return false;
-    }
-    let entries = &chunk[1..];
-    if chunk[0] == LEAF {
-        return is_leaf(entries);
-    }
-    is_node(version, entries)
 }

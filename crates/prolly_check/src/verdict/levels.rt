@@ -6,7 +6,7 @@ ghost use Rattle.prolly_entry.specs.declared.version.Version.TheVariants.{One};
 ghost use Rattle.prolly_tree.specs.Chunk.{chunk_of};
 ghost use Rattle.prolly_chunk.specs.NodeLevel.{NodeTakes};
 ghost use Rattle.prolly_check.specs.Follower.{ClosedPasses, ClosesAll, ClosesBehind, PassesOn};
-ghost use Rattle.prolly_check.specs.HeldPairs.{bytes_in};
+ghost use Rattle.prolly_look_up.specs.HeldPairs.{bytes_in};
 ghost use Rattle.prolly_check.specs.OpenLevels.{AreUnused, node_levels};
 
 use crate::verdict::chunks_ahead::ChunksAhead;

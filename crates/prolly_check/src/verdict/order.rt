@@ -3,14 +3,14 @@ ghost use Rattle.std.specs.Prelude.{◌≡◌, ℕ, false, map, None, Some, OnOk
 ghost use Rattle.std.specs.Option.{option_copied};
 ghost use Rattle.prolly_entry.specs.declared.version.Version.{Version as VersionValue};
 ghost use Rattle.prolly_check.specs.Digests.{AreDigests, IsDigest};
-ghost use Rattle.prolly_check.specs.HeldPairs.{pairs_held};
+ghost use Rattle.prolly_look_up.specs.HeldPairs.{pairs_held};
 ghost use Rattle.prolly_check.specs.FirstFault.{order_fault, rises_behind, RisesTo};
 
 use crate::chunks::Chunks;
-use crate::entries::pairs_of;
 use crate::verdict::digests::ChunkDigest;
 use crate::verdict::fault::CheckFault;
 use prolly_entry::{Version, key_rises};
+use prolly_look_up::pairs_of;
 
 /// A key is not greater than the one before it.
 #[derive(Clone, Copy)]

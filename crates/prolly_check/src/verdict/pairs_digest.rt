@@ -7,13 +7,13 @@ ghost use Rattle.prolly_entry.specs.Spelling.{pair_spelling};
 ghost use Rattle.prolly_entry.specs.declared.version.Version.TheVariants.{One};
 ghost use Rattle.prolly_tree.specs.Chunk.{chunk_of};
 ghost use Rattle.prolly_check.specs.Digests.{AreCounted, IsPairsDigest, TellsOf};
-ghost use Rattle.prolly_check.specs.Entries.{Holds, IsLeaf, IsSomeLeaf, IsWhole, pairs_in};
+ghost use Rattle.prolly_look_up.specs.Entries.{Holds, IsLeaf, IsSomeLeaf, IsWhole, pairs_in};
 ghost use Rattle.prolly_check.specs.FirstFault.{last_behind, rises_behind};
-ghost use Rattle.prolly_check.specs.HeldPairs.{pairs_held};
+ghost use Rattle.prolly_look_up.specs.HeldPairs.{pairs_held};
 
-use crate::entries::{LEAF, Pairs, is_node};
 use prolly_chunk::BorrowedEvent;
 use prolly_entry::{Cut, Sha512Cut, Version, key_rises, split_pair};
+use prolly_look_up::{LEAF, Pairs, is_node};
 
 /// What the pairs of a chunk tell. A node has none.
 #[derive(Clone, Copy)]

@@ -8,7 +8,8 @@ use prolly_answer::{
     answer_dump_by_root, answer_found, answer_found_pair, answer_found_raw, answer_prove_by_root,
     answer_root, answer_scan_by_root,
 };
-use prolly_check::{ManyThreads, OneThread};
+use prolly_check::OneThread;
+use prolly_look_up::ManyThreads;
 use prolly_entry::{Pair, Ref, Version};
 use prolly_file::{FromRead, ScriptDevice, ScriptSink};
 use prolly_root::{FileChunks, Reader, RootFault};

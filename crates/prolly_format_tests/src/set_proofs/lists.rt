@@ -5,8 +5,7 @@ use crate::expect::{expect_bytes, expect_eq};
 use prolly_check::{Tree as Checked, check};
 use prolly_entry::Version;
 use prolly_file::FromRead;
-use prolly_range::{NotRising, SortedKeys};
-use prolly_root::prove;
+use prolly_range::{NotRising, SortedKeys, prove_checked_key};
 use std::alloc::{AllocError, Global};
 use std::process::Abort;
 use std::test::Fail;
@@ -94,7 +93,7 @@ fn the_proof_of_one_key_has_the_chunks_of_the_keys_way(rt: HostRuntime) -> Resul
         for key in ENDS {
             let keys = copies(alloc, &[*key])?;
             let proof = tree.proof(&rt, alloc, list(&keys)?)?;
-            let single = prove(alloc, &checked, key)?;
+            let single = prove_checked_key(alloc, &checked, key)?;
             expect_eq(&rt, &proof.get(5..), &single.get(5..));
         }
     }

@@ -3,7 +3,7 @@ use Rattle.std.proofs.Common.{◌≡◌, ℕ, inl, inr, List, [], ◌∷◌, sym
 use Rattle.std.specs.List.{AllByRecursion}
 use Rattle.prolly_entry.specs.Reference.{reference_of}
 use Rattle.prolly_tree.specs.Chunk.{IsIn}
-use Rattle.prolly_check.specs.Verdict.{AllApart}
+use Rattle.prolly_look_up.specs.Content.{AllApart}
 
 apart_from : (c d : List ℕ) (cs : List (List ℕ)) →
     AllByRecursion (λ d. reference_of c ≡ reference_of d → ⊥) cs → IsIn d cs →

@@ -18,14 +18,14 @@ use Rattle.prolly_entry.specs.lemmas.Lists.{all_append}
 use Rattle.prolly_entry.specs.lemmas.Orders.{order_trans}
 use Rattle.prolly_tree.specs.Tree.{Tree, bytes_of, greatest_key, pair_count, pairs_below}
 use Rattle.prolly_tree.specs.lemmas.Maps.{Rises, rises_back, rises_front}
-use Rattle.prolly_check.specs.Descent.{NodeFull, child_of}
-use Rattle.prolly_check.specs.Entries.{Child, IsNode, children_in}
-use Rattle.prolly_check.specs.Leaves.{pairs_from}
-use Rattle.prolly_check.specs.Sought.{Sought, child_sought, reference_and_sought, IsMark}
-use Rattle.prolly_check.specs.Sought.Sought.{Key, Number}
-use Rattle.prolly_check.specs.declared.look_up.sought.Mark.{Mark}
-use Rattle.prolly_check.proofs.PairsFrom.{all_below, some_from}
-use Rattle.prolly_check.proofs.RisingKeys.{is_less}
+use Rattle.prolly_look_up.specs.Descent.{NodeFull, child_of}
+use Rattle.prolly_look_up.specs.Entries.{Child, IsNode, children_in}
+use Rattle.prolly_look_up.specs.Leaves.{pairs_from}
+use Rattle.prolly_look_up.specs.Sought.{Sought, child_sought, reference_and_sought, IsMark}
+use Rattle.prolly_look_up.specs.Sought.Sought.{Key, Number}
+use Rattle.prolly_look_up.specs.declared.sought.Mark.{Mark}
+use Rattle.prolly_look_up.specs.lemmas.PairsFrom.{all_below, some_from}
+use Rattle.prolly_look_up.specs.lemmas.RisingKeys.{is_less}
 
 -- ---- what is sought in pairs, and in trees
 

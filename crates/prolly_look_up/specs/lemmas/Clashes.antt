@@ -8,8 +8,8 @@ use Rattle.prolly_entry.specs.declared.version.Version.{Version}
 use Rattle.prolly_laws.specs.Trees.{top_in}
 use Rattle.prolly_tree.specs.Chunk.{IsIn, chunk_of}
 use Rattle.prolly_tree.specs.Tree.{Tree, bytes_of}
-use Rattle.prolly_check.specs.Descent.{HasTree}
-use Rattle.prolly_check.specs.Way.{Clash}
+use Rattle.prolly_look_up.specs.Descent.{HasTree}
+use Rattle.prolly_look_up.specs.Way.{Clash}
 
 -- A chunk that has the reference of a tree's top is that, or shows a clash.
 pub top_or_clash : (version : Version) (cs : List (List ℕ)) (level : ℕ) (t : Tree level)

@@ -16,13 +16,13 @@ use Rattle.prolly_entry.specs.lemmas.Spellings.{pair_spellings_apart, found_key}
 use Rattle.prolly_entry.specs.lemmas.Spellings.{key_there, after_two, child_spellings_apart}
 use Rattle.prolly_tree.specs.RecordFile.{record_file}
 use Rattle.prolly_tree.specs.Tree.{last_key}
-use Rattle.prolly_check.specs.Entries.{BeginsWith, entries_in, NoLeaf}
-use Rattle.prolly_check.specs.Entries.{first_pair, behind_pair, pairs_in, NoNode, Child, IsChild}
-use Rattle.prolly_check.specs.Entries.{IsNode, entry_of, first_count, first_child, behind_child}
-use Rattle.prolly_check.specs.Entries.{children_in, IsSomeLeaf}
-pub use Rattle.prolly_check.specs.lemmas.ReadEntries.{leaf_pairs}
-use Rattle.prolly_check.specs.lemmas.ReadEntries.{drop_front, pair_reads, pair_shrinks, reads_all}
-use Rattle.prolly_check.specs.lemmas.ReadEntries.{reads_on, Reads, Shrinks}
+use Rattle.prolly_look_up.specs.Entries.{BeginsWith, entries_in, NoLeaf}
+use Rattle.prolly_look_up.specs.Entries.{first_pair, behind_pair, pairs_in, NoNode, Child, IsChild}
+use Rattle.prolly_look_up.specs.Entries.{IsNode, entry_of, first_count, first_child, behind_child}
+use Rattle.prolly_look_up.specs.Entries.{children_in, IsSomeLeaf}
+pub use Rattle.prolly_look_up.specs.lemmas.ReadEntries.{leaf_pairs}
+use Rattle.prolly_look_up.specs.lemmas.ReadEntries.{drop_front, pair_reads, pair_shrinks, reads_all}
+use Rattle.prolly_look_up.specs.lemmas.ReadEntries.{reads_on, Reads, Shrinks}
 
 -- ---- lawful entries and nothing else
 

@@ -18,18 +18,19 @@ use Rattle.prolly_tree.specs.lemmas.Maps.{Rises, rises, rises_front, rises_back}
 use Rattle.prolly_tree.specs.lemmas.Maps.{Above, HasKey, above_key, above_last, has_last}
 use Rattle.prolly_tree.specs.lemmas.Trees.{in_front, in_back, Full, full_pairs}
 use Rattle.prolly_laws.specs.Trees.{tree_full, pairs_are}
-use Rattle.prolly_file.specs.Scratch.{keys_in}
-use Rattle.prolly_check.specs.Content.{Content}
-use Rattle.prolly_check.specs.Descent.{HasTree, IsTreeOf, NodeFull, child_of, TopIsRead}
-use Rattle.prolly_check.specs.Descent.{entries_below}
-use Rattle.prolly_check.specs.Entries.{pairs_in, children_in}
-use Rattle.prolly_check.specs.FirstFault.{chunk_bytes}
-use Rattle.prolly_check.specs.Kinds.{kind_of}
-use Rattle.prolly_check.specs.Way.{entry_keys}
-use Rattle.prolly_check.specs.Kinds.Entries.{Leaf, Node}
-use Rattle.prolly_check.proofs.EntryLists.{as_read, children_read, leaf_pairs}
-use Rattle.prolly_check.proofs.HeldPairs.{all_children, child_below, entries_are, top_is_whole}
-use Rattle.prolly_check.proofs.PairsFrom.{rising_is}
+use Rattle.prolly_tree.specs.Difference.{IsMap}
+use Rattle.prolly_look_up.specs.Content.{Content}
+use Rattle.prolly_look_up.specs.Descent.{HasTree, IsTreeOf, NodeFull, child_of, TopIsRead}
+use Rattle.prolly_look_up.specs.Descent.{entries_below}
+use Rattle.prolly_look_up.specs.Entries.{pairs_in, children_in}
+use Rattle.prolly_look_up.specs.Content.{chunk_bytes}
+use Rattle.prolly_look_up.specs.Kinds.{kind_of}
+use Rattle.prolly_look_up.specs.Way.{entry_keys}
+use Rattle.prolly_look_up.specs.Kinds.Entries.{Leaf, Node}
+use Rattle.prolly_look_up.specs.lemmas.EntryLists.{as_read, children_read, leaf_pairs}
+use Rattle.prolly_look_up.specs.lemmas.HeldPairs.{all_children, child_below, entries_are}
+use Rattle.prolly_look_up.specs.lemmas.HeldPairs.{top_is_whole}
+use Rattle.prolly_look_up.specs.lemmas.PairsFrom.{rising_is}
 
 -- ---- the trees of a map
 
@@ -57,7 +58,7 @@ root_full version bits [] = tt
 root_full version bits (p ∷ m) = search (rules, node_full, tree_full)
 
 pub root_is : (version : Version) (bits : ℕ) (m : List Pair) → AllByRecursion IsPair m →
-    Rising (keys_in m) →
+    IsMap m →
     IsTreeOf version (chunk_bytes version bits m) (tree_of (sha512_cut bits) version m).level
     (tree_of (sha512_cut bits) version m).tree
 root_is version bits m lawful rising = grind (arith, pairs_are, in_bytes, root_full)

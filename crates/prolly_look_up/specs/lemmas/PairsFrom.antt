@@ -1,7 +1,7 @@
 -- What is found among the pairs of a map: at a key, from a key on, at a number.
 use mathlib.Core.List.{cons≢nil}
 use Rattle.std.proofs.Common.{rules, ◌≡◌, ℕ, zero, suc, ◌<◌, false, cond, List, [], ◌∷◌, ◌++◌}
-use Rattle.std.proofs.Common.{length, Ordering, refl, sym, ap, ◌∙◌, subst, arith, ◌≤◌, Bool}
+use Rattle.std.proofs.Common.{length, map, Ordering, refl, sym, ap, ◌∙◌, subst, arith, ◌≤◌, Bool}
 use Rattle.std.proofs.Common.{true, not, take, inl, inr, ◌⊎◌, append_assoc, append-nil, drop, ◌-◌}
 use Rattle.std.proofs.Math.Seq.{drop-append_seam}
 use Rattle.std.proofs.lemmas.List.{length-append}
@@ -12,7 +12,7 @@ use Rattle.std.specs.declared.cmp.Ordering.TheVariants.{Less, Equal, Greater}
 use Rattle.std.proofs.lemmas.Bool.{cases_Bool, cond_both}
 use Rattle.std.proofs.lemmas.Cmp.{nat_cmp_total}
 use Rattle.std.proofs.lemmas.Grind.{common_steps}
-use Rattle.prolly_entry.specs.Keys.{key_order, KeyBelow, Rising, RisingFrom}
+use Rattle.prolly_entry.specs.Keys.{key_order, KeyBelow, RisingFrom}
 use Rattle.prolly_entry.specs.Pair.{IsPair, Pair}
 use Rattle.prolly_entry.specs.Spelling.{pair_spelling}
 use Rattle.prolly_entry.specs.declared.version.Version.{Version}
@@ -23,16 +23,16 @@ use Rattle.prolly_tree.specs.RecordFile.{record_file}
 use Rattle.prolly_tree.specs.Tree.{last_key}
 use Rattle.prolly_tree.specs.lemmas.Maps.{Above, Rises, rises_front, rises_back}
 use Rattle.prolly_tree.specs.lemmas.Maps.{above_last, find_above}
-use Rattle.prolly_file.specs.Scratch.{keys_in}
-use Rattle.prolly_check.specs.Entries.{IsLeaf, IsWhole}
-use Rattle.prolly_check.specs.HeldPairs.{pairs_held}
-use Rattle.prolly_check.specs.Leaves.{IsLeft, pairs_from}
-use Rattle.prolly_check.specs.ScanWay.{next_key, AreFirstFrom}
-use Rattle.prolly_check.specs.lemmas.Held.{held_lawful}
-pub use Rattle.prolly_check.specs.lemmas.PairLists.{above_not, find_first, find_over, from_all}
-pub use Rattle.prolly_check.specs.lemmas.PairLists.{from_first, none_from, nth_back, nth_front}
-pub use Rattle.prolly_check.specs.lemmas.PairLists.{pairs_from-append}
-use Rattle.prolly_check.proofs.RisingKeys.{is_less}
+use Rattle.prolly_tree.specs.Difference.{IsMap}
+use Rattle.prolly_look_up.specs.Entries.{IsLeaf, IsWhole}
+use Rattle.prolly_look_up.specs.HeldPairs.{pairs_held}
+use Rattle.prolly_look_up.specs.Leaves.{IsLeft, pairs_from}
+use Rattle.prolly_look_up.specs.ScanWay.{next_key, AreFirstFrom}
+use Rattle.prolly_look_up.specs.lemmas.HeldPairs.{held_lawful}
+pub use Rattle.prolly_look_up.specs.lemmas.PairLists.{above_not, find_first, find_over, from_all}
+pub use Rattle.prolly_look_up.specs.lemmas.PairLists.{from_first, none_from, nth_back, nth_front}
+pub use Rattle.prolly_look_up.specs.lemmas.PairLists.{pairs_from-append}
+use Rattle.prolly_look_up.specs.lemmas.RisingKeys.{is_less}
 
 -- ---- keys
 
@@ -42,11 +42,12 @@ all_below [] key h k = tt
 all_below (p ∷ []) key h k = (k, tt)
 all_below (p ∷ q ∷ ps) key h k = search (rules, order_trans, all_below (q ∷ ps) key h.1 k)
 
-from_rises : (p : Pair) (ps : List Pair) → Above p.key ps → Rises ps → RisingFrom p.key (keys_in ps)
+from_rises : (p : Pair) (ps : List Pair) → Above p.key ps → Rises ps →
+    RisingFrom p.key (map (λ q. q.key) ps)
 from_rises p [] h k = tt
 from_rises p (q ∷ ps) h k = (h.0, from_rises q ps k.0 k.1)
 
-pub rising_is : (ps : List Pair) → Rises ps → Rising (keys_in ps)
+pub rising_is : (ps : List Pair) → Rises ps → IsMap ps
 rising_is [] h = tt
 rising_is (p ∷ ps) h = from_rises p ps h.0 h.1
 

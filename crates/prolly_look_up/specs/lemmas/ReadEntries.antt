@@ -8,8 +8,8 @@ use Rattle.std.proofs.lemmas.List.{length-append, length-drop, take_at, drop-dro
 use Rattle.prolly_entry.specs.Pair.{Pair, IsPair}
 use Rattle.prolly_entry.specs.Spelling.{key_spelling, pair_spelling, value_spelling}
 use Rattle.prolly_entry.specs.lemmas.Spellings.{numbers, key_size}
-use Rattle.prolly_check.specs.Entries.{IsLeaf, behind_pair, entries_in, entries_up_to, first_pair}
-use Rattle.prolly_check.specs.Entries.{pairs_in}
+use Rattle.prolly_look_up.specs.Entries.{IsLeaf, behind_pair, entries_in, entries_up_to, first_pair}
+use Rattle.prolly_look_up.specs.Entries.{pairs_in}
 
 -- what stands behind the first of two lists
 pub drop_front : (xs ys : List ℕ) (n : ℕ) → n ≡ length xs → drop n (xs ++ ys) ≡ ys

@@ -20,23 +20,23 @@ use Rattle.prolly_tree.specs.Tree.{Tree, pairs_below, bytes_of, tree_of}
 use Rattle.prolly_tree.specs.lemmas.Maps.{Rises, rises}
 use Rattle.prolly_tree.specs.lemmas.Trees.{in_back, in_front}
 use Rattle.prolly_laws.specs.Trees.{pairs_are}
-use Rattle.prolly_check.specs.Descent.{IsTreeOf}
-use Rattle.prolly_check.specs.HeldPairs.{pairs_held}
-use Rattle.prolly_check.specs.FirstFault.{chunk_bytes}
-use Rattle.prolly_check.specs.Kinds.{kind_of}
-use Rattle.prolly_check.specs.Leaves.{pairs_from}
-use Rattle.prolly_check.specs.ScanWay.{AreFirstFrom, ScansAreRight, HaveFirstFrom, ScansGoOn}
-use Rattle.prolly_check.specs.ScanWay.{from_behind, joined}
-use Rattle.prolly_check.specs.Sought.{Sought, EndsAt, LeadsOn, child_sought, reference_and_sought}
-use Rattle.prolly_check.specs.Sought.Sought.{Key, Number}
-use Rattle.prolly_check.specs.Way.{nth_sought, Clash, CountWaysAreRight, IsNamed, IsWayTo, Lead}
-use Rattle.prolly_check.specs.Way.{WaysAreRight}
-use Rattle.prolly_check.specs.lemmas.Clashes.{top_or_clash}
-use Rattle.prolly_check.proofs.Chosen.{AllPast, CanCount, ChosenIn, Has, IsPast, chosen}
-use Rattle.prolly_check.proofs.Chosen.{none_chosen, past_more, past_none}
-use Rattle.prolly_check.proofs.MapTree.{child_is, root_is, children_are, own_pairs}
-use Rattle.prolly_check.proofs.PairsFrom.{find_in_part, first_in_part, find_over, nth_back}
-use Rattle.prolly_check.proofs.PairsFrom.{nth_front, none_from}
+use Rattle.prolly_look_up.specs.Descent.{IsTreeOf}
+use Rattle.prolly_look_up.specs.HeldPairs.{pairs_held}
+use Rattle.prolly_look_up.specs.Content.{chunk_bytes}
+use Rattle.prolly_look_up.specs.Kinds.{kind_of}
+use Rattle.prolly_look_up.specs.Leaves.{pairs_from}
+use Rattle.prolly_look_up.specs.ScanWay.{AreFirstFrom, ScansAreRight, HaveFirstFrom, ScansGoOn}
+use Rattle.prolly_look_up.specs.ScanWay.{from_behind, joined}
+use Rattle.prolly_look_up.specs.Sought.{Sought, EndsAt, LeadsOn, child_sought, reference_and_sought}
+use Rattle.prolly_look_up.specs.Sought.Sought.{Key, Number}
+use Rattle.prolly_look_up.specs.Way.{nth_sought, Clash, CountWaysAreRight, IsNamed, IsWayTo, Lead}
+use Rattle.prolly_look_up.specs.Way.{WaysAreRight}
+use Rattle.prolly_look_up.specs.lemmas.Clashes.{top_or_clash}
+use Rattle.prolly_look_up.specs.lemmas.Chosen.{AllPast, CanCount, ChosenIn, Has, IsPast, chosen}
+use Rattle.prolly_look_up.specs.lemmas.Chosen.{none_chosen, past_more, past_none}
+use Rattle.prolly_look_up.specs.lemmas.MapTree.{child_is, root_is, children_are, own_pairs}
+use Rattle.prolly_look_up.specs.lemmas.PairsFrom.{find_in_part, first_in_part, find_over, nth_back}
+use Rattle.prolly_look_up.specs.lemmas.PairsFrom.{nth_front, none_from}
 
 -- ---- what a look-up seeks in a map, and below a tree to which it has come
 

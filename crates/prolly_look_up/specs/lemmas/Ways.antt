@@ -2,15 +2,15 @@
 use Rattle.std.proofs.Common.{rules, arith, ◌≡◌, ℕ, List, [], ◌∷◌, ◌++◌, Option}
 use Rattle.prolly_entry.specs.Reference.{reference_of}
 use Rattle.prolly_entry.specs.declared.version.Version.{Version}
-use Rattle.prolly_check.specs.Kinds.{Entries as EntriesOf, kind_of}
-use Rattle.prolly_check.specs.Sought.{Sought, EndsAt, IsChildOf, LeadsOn, sought_of}
-use Rattle.prolly_check.specs.Step.{IsFlawedChunk}
-use Rattle.prolly_check.specs.Way.{FallsTo, IsNamed, IsOrdered, Lead}
-use Rattle.prolly_check.specs.Kinds.Entries.{Leaf, Node}
-use Rattle.prolly_check.specs.declared.look_up.sought.ChildSought.{ChildSought}
-use Rattle.prolly_check.specs.declared.look_up.step.ChunkFlaw.{ChunkFlaw}
-use Rattle.prolly_check.specs.declared.look_up.step.ChunkFlaw.TheVariants.{Entries, Level, Order}
-use Rattle.prolly_check.specs.declared.look_up.step.ChunkFlaw.TheVariants.{Reference}
+use Rattle.prolly_look_up.specs.Kinds.{Entries as EntriesOf, kind_of}
+use Rattle.prolly_look_up.specs.Sought.{Sought, EndsAt, IsChildOf, LeadsOn, sought_of}
+use Rattle.prolly_look_up.specs.Step.{IsFlawedChunk}
+use Rattle.prolly_look_up.specs.Way.{FallsTo, IsNamed, IsOrdered, Lead}
+use Rattle.prolly_look_up.specs.Kinds.Entries.{Leaf, Node}
+use Rattle.prolly_look_up.specs.declared.sought.ChildSought.{ChildSought}
+use Rattle.prolly_look_up.specs.declared.step.ChunkFlaw.{ChunkFlaw}
+use Rattle.prolly_look_up.specs.declared.step.ChunkFlaw.TheVariants.{Entries, Level, Order}
+use Rattle.prolly_look_up.specs.declared.step.ChunkFlaw.TheVariants.{Reference}
 
 -- A look-up that ends at entries does not go on from them.
 pub no_way_on : (sought : Sought) (entries : EntriesOf) (reference : List ℕ) (next : Sought) →

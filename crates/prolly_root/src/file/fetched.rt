@@ -1,7 +1,7 @@
 //! Leaves of a chunk file that are read before they are asked for.
 ghost use Rattle.std.specs.Prelude.{◌≡◌, IfOk, IfErr, IfSome};
 ghost use Rattle.std.specs.List.{AllByRecursion};
-ghost use Rattle.prolly_check.specs.Content.{Content};
+ghost use Rattle.prolly_look_up.specs.Content.{Content};
 ghost use Rattle.prolly_root.specs.ReadAhead.{IsPartOf, file_of};
 ghost use Rattle.prolly_root.specs.RootFault.{OnlyRead};
 ghost use Rattle.prolly_root.specs.Walk.{HasRead, HoldsFile};
@@ -10,9 +10,9 @@ use crate::file::file_chunks::read_chunk;
 use crate::file::walk::{Frame, Walk};
 use crate::given_chunk::GivenChunk;
 use crate::root_fault::RootFault;
-use prolly_check::{LEAF, ManyThreads};
 use prolly_entry::Version;
 use prolly_file::Device;
+use prolly_look_up::{LEAF, ManyThreads};
 use std::alloc::Global;
 use std::thread::{Threads, for_each_mut};
 

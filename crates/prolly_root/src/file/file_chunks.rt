@@ -1,8 +1,8 @@
 //! The chunks of a file, of which no more is read than is asked for.
 ghost use Rattle.std.specs.Prelude.{◌≡◌, ℕ, drop, take, true, IfOk, IfSome, List, None};
 ghost use Rattle.std.specs.List.{AllByRecursion};
-ghost use Rattle.prolly_check.specs.Content.{Content};
-ghost use Rattle.prolly_check.specs.FileWays.{nth_chunk};
+ghost use Rattle.prolly_look_up.specs.Content.{Content};
+ghost use Rattle.prolly_look_up.specs.Content.{nth_chunk};
 ghost use Rattle.prolly_root.specs.ReadAhead.{IsPartOf};
 ghost use Rattle.prolly_root.specs.RootFault.{IsOrFails, MayFail};
 ghost use Rattle.prolly_root.specs.Walk.{HasRead, HoldsFile, IsFrame};
@@ -15,9 +15,9 @@ use crate::file::walk::{Frame, Walk};
 use crate::given_chunk::GivenChunk;
 use crate::read_ahead::ReadAhead;
 use crate::root_fault::RootFault;
-use prolly_check::{CHUNK_LIMIT, LEAF, ManyThreads};
 use prolly_entry::Version;
 use prolly_file::Device;
+use prolly_look_up::{CHUNK_LIMIT, LEAF, ManyThreads};
 use std::alloc::Global;
 use std::thread::Threads;
 

@@ -1,6 +1,6 @@
 //! What the header of a chunk file says.
 ghost use Rattle.std.specs.Prelude.{◌≡◌, true};
-ghost use Rattle.prolly_check.specs.Content.{Content};
+ghost use Rattle.prolly_look_up.specs.Content.{Content};
 ghost use Rattle.prolly_root.specs.NamedRoot.{SaysHeaderOf, TellsHeader};
 ghost use Rattle.prolly_root.specs.RootFault.{IsOrFails, OnlyRead};
 ghost use Rattle.prolly_root.specs.Walk.{HasRead, HoldsFile};

@@ -1,6 +1,6 @@
 //! Places that are remembered while the root is sought, and from which look-ups set out.
 ghost use Rattle.std.specs.Prelude.{◌≡◌, ◌≤◌, ◌+◌, ◌<◌, IfSome, true};
-ghost use Rattle.prolly_check.specs.Content.{Content};
+ghost use Rattle.prolly_look_up.specs.Content.{Content};
 ghost use Rattle.prolly_root.specs.Marks.{AreMarks, AreRuns, IsPlaceMark};
 ghost use Rattle.prolly_root.specs.Walk.{IsBehind, IsFrame, IsWalk};
 

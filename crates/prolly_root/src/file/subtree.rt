@@ -33,7 +33,7 @@ pub(crate) struct LastChild {
 }
 
 impl Subtree {
-    ghost use Rattle.prolly_check.specs.Content.{Content};
+    ghost use Rattle.prolly_look_up.specs.Content.{Content};
     ghost use Rattle.prolly_root.specs.Marks.{AreMarks};
     ghost use Rattle.prolly_root.specs.Subtree.{FindsNth, HasChunksOf, KeepsLastChild};
     ghost use Rattle.prolly_root.specs.Walk.{HasRead, IsBehind, IsWalk};

@@ -36,8 +36,8 @@ pub(crate) struct Walk {
 }
 
 impl Walk {
-    ghost use Rattle.prolly_check.specs.Chunks.{chunks_of};
-    ghost use Rattle.prolly_check.specs.Content.{Content};
+    ghost use Rattle.prolly_look_up.specs.Content.{chunks_of};
+    ghost use Rattle.prolly_look_up.specs.Content.{Content};
     ghost use Rattle.prolly_root.specs.Marks.{AreMarks};
     ghost use Rattle.prolly_root.specs.RootFault.{IsOrFails, OnlyRead};
     ghost use Rattle.prolly_root.specs.Walk.{GoesOver, GoesToLevel, HasRead, HoldsFile, IsFrame};

@@ -1,22 +1,23 @@
 //! A chunk on the way of a look-up by the root.
 ghost use Rattle.std.specs.Prelude.{◌≡◌, ◌<◌, ◌↔◌, length, Ok, IfNone, IfOk, IfSome, IsTrue};
-ghost use Rattle.prolly_check.specs.Content.{Content};
-ghost use Rattle.prolly_check.specs.HeldPairs.{pairs_held};
-ghost use Rattle.prolly_check.specs.Kinds.{kind_of};
-ghost use Rattle.prolly_check.specs.Leaves.{IsLeft, pairs_from};
-ghost use Rattle.prolly_check.specs.Sought.{EndsAt, IsChildOf, IsMark, sought_of};
-ghost use Rattle.prolly_check.specs.Way.{FallsTo};
+ghost use Rattle.prolly_look_up.specs.Content.{Content};
+ghost use Rattle.prolly_look_up.specs.HeldPairs.{pairs_held};
+ghost use Rattle.prolly_look_up.specs.Kinds.{kind_of};
+ghost use Rattle.prolly_look_up.specs.Leaves.{IsLeft, pairs_from};
+ghost use Rattle.prolly_look_up.specs.Sought.{EndsAt, IsChildOf, IsMark, sought_of};
+ghost use Rattle.prolly_look_up.specs.Way.{FallsTo};
 ghost use Rattle.prolly_root.specs.ChunkSource.{HasAsked};
-ghost use Rattle.prolly_root.specs.Descent.{IsAtDue, IsTested, IsOnward, StandsBelow, StandsInPlace};
+ghost use Rattle.prolly_root.specs.Descent.{IsAtDue, IsTested, IsOnward, StandsBelow};
+ghost use Rattle.prolly_root.specs.Descent.{StandsInPlace};
 ghost use Rattle.prolly_root.specs.Descent.{StepsDown};
 ghost use Rattle.prolly_root.specs.RootFault.{IsOrFails, MayFail};
 
 use crate::chunk_source::ChunkSource;
 use crate::root_fault::RootFault;
 use crate::tested::tested_chunk;
-use prolly_check::laws::tops_are_read;
-use prolly_check::{ChildSought, Due, Mark, Pairs, Sought, falls_to, rest_from, step_of};
 use prolly_entry::{Ref, Version};
+use prolly_look_up::laws::tops_are_read;
+use prolly_look_up::{ChildSought, Due, Mark, Pairs, Sought, falls_to, rest_from, step_of};
 use std::alloc::Global;
 
 /// What a look-up comes to at a chunk.

@@ -1,10 +1,10 @@
 //! Copies of what a look-up found.
 ghost use Rattle.std.specs.Prelude.{◌≡◌, ◌≤◌, length, option_map, IfOk, IfSome, take};
-ghost use Rattle.prolly_check.specs.FoundPairs.{pair_found};
+ghost use Rattle.prolly_look_up.specs.FoundPairs.{pair_found};
 ghost use Rattle.prolly_tree.specs.LookUp.{find};
 
-use prolly_check::Pairs;
 use prolly_entry::{Pair, key_order};
+use prolly_look_up::Pairs;
 use std::alloc::{AllocError, Global};
 
 /// A copy of the value of the key, where the first of these pairs has it.

@@ -1,8 +1,8 @@
 //! Going down by the root, from each chunk to the one that it refers to.
 ghost use Rattle.std.specs.Prelude.{◌≡◌, [], ◌∷◌, ◌++◌, map, IfOk, OnOk};
 ghost use Rattle.std.specs.List.{AllByRecursion};
-ghost use Rattle.prolly_check.specs.Content.{Content};
-ghost use Rattle.prolly_check.specs.Sought.{sought_of};
+ghost use Rattle.prolly_look_up.specs.Content.{Content};
+ghost use Rattle.prolly_look_up.specs.Sought.{sought_of};
 ghost use Rattle.prolly_root.specs.ChunkSource.{HasAsked};
 ghost use Rattle.prolly_root.specs.Descent.{IsDescent, IsTested, StandsAt};
 ghost use Rattle.prolly_root.specs.Descent.{StandsInPlace, chunks_on_way};
@@ -11,8 +11,8 @@ ghost use Rattle.prolly_root.specs.RootFault.{IsOrFails, MayFail};
 use crate::chunk_source::ChunkSource;
 use crate::look_up::chunk_on_way::{ChunkOnWay, Onward, chunk_at};
 use crate::root_fault::RootFault;
-use prolly_check::{Due, Sought};
 use prolly_entry::{Ref, Version};
+use prolly_look_up::{Due, Sought};
 use std::alloc::{AllocError, Global};
 
 /// The way down from the root to the chunk at which a look-up ends.

@@ -2,12 +2,12 @@
 ghost use Rattle.std.specs.Prelude.{◌≡◌, ◌<◌, ℕ, [], ◌∷◌, ◌++◌, List, length, option_map, IfOk};
 ghost use Rattle.std.specs.Prelude.{Err, IfErr, Ok, OnErr, OnOk};
 ghost use Rattle.std.specs.List.{AllByRecursion};
-ghost use Rattle.prolly_check.specs.Content.{Content};
-ghost use Rattle.prolly_check.specs.HeldPairs.{pairs_held};
-ghost use Rattle.prolly_check.specs.Leaves.{pairs_from};
-ghost use Rattle.prolly_check.specs.Sought.{sought_of};
-ghost use Rattle.prolly_check.specs.Sought.Sought.{Key};
-ghost use Rattle.prolly_check.specs.Way.{IsCountWay, IsWay, IsWayTo};
+ghost use Rattle.prolly_look_up.specs.Content.{Content};
+ghost use Rattle.prolly_look_up.specs.HeldPairs.{pairs_held};
+ghost use Rattle.prolly_look_up.specs.Leaves.{pairs_from};
+ghost use Rattle.prolly_look_up.specs.Sought.{sought_of};
+ghost use Rattle.prolly_look_up.specs.Sought.Sought.{Key};
+ghost use Rattle.prolly_look_up.specs.Way.{IsCountWay, IsWay, IsWayTo};
 ghost use Rattle.prolly_entry.specs.Cut.{sha512_cut};
 ghost use Rattle.prolly_entry.specs.declared.version.Version.TheVariants.{Two};
 ghost use Rattle.prolly_file.specs.Frame.{IsSmall};
@@ -24,9 +24,9 @@ use crate::look_up::descent::{chunks_of, go_down};
 use crate::proof::proof_of;
 use crate::read_ahead::ReadAhead;
 use crate::root_fault::RootFault;
-use prolly_check::laws::tops_are_read;
-use prolly_check::{ManyThreads, Pairs, Sought, first_pairs, pair_sought};
 use prolly_entry::{Pair, Ref, Version};
+use prolly_look_up::laws::tops_are_read;
+use prolly_look_up::{ManyThreads, Pairs, Sought, first_pairs, pair_sought};
 use std::alloc::{AllocError, Global};
 use std::marker::Model;
 use std::mem;
@@ -36,7 +36,7 @@ use std::thread::Threads;
 /// [`ChunkSource`], which is lent to each call.
 ///
 /// What is answered is what any map with this root has, unless a chunk of the way and another one
-/// have one reference: see [`laws::ways_are_right`](prolly_check::laws::ways_are_right). That holds
+/// have one reference: see [`laws::ways_are_right`](prolly_look_up::laws::ways_are_right). That holds
 /// whatever the source does, for nothing of it is believed: each chunk is compared with the
 /// reference in the one above it, and the first with the root.
 ///
@@ -171,9 +171,8 @@ impl<T: Copy + Drop> Reader<T> {
     }
 
     /// The proof of what the tree with the reader's root has at the key: of its value, or that it
-    /// has none. It is the one that [`prove`](crate::prove) makes of a map with this root, unless
-    /// two chunks have one reference: see
-    /// [`laws::proofs_are_right`](crate::laws::proofs_are_right).
+    /// has none. A root and a key have one proof, whoever makes it, unless two chunks have one
+    /// reference: see [`laws::proofs_are_right`](crate::laws::proofs_are_right).
     pub fn prove<S: ChunkSource<Place = T>>(
         &mut self,
         alloc: Global,

@@ -1,8 +1,8 @@
 //! Why bytes prove nothing.
 ghost use Rattle.prolly_root.specs.ProofFault.{proof_fault};
 
-use prolly_check::ChunkFlaw;
 use prolly_entry::FaultText;
+use prolly_look_up::ChunkFlaw;
 use std::error::Error;
 use std::fmt;
 use std::fmt::{Display, Formatter};

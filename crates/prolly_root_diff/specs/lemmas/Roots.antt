@@ -1,7 +1,7 @@
 -- Walks that begin at the roots of lawful trees.
 use Rattle.std.proofs.Common.{◌≡◌, ℕ, List, [], ◌∷◌, map, refl, sym, ap, ◌∙◌, subst}
 use Rattle.std.specs.List.{AllByRecursion}
-use Rattle.prolly_check.specs.Content.{Content}
+use Rattle.prolly_look_up.specs.Content.{Content}
 use Rattle.prolly_entry.specs.Cut.{sha512_cut}
 use Rattle.prolly_entry.specs.declared.version.Version.{Version}
 use Rattle.prolly_tree.specs.File.{root_reference}

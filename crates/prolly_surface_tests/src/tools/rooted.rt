@@ -1,5 +1,6 @@
 //! What `prolly_tool` answers to who names the root.
-use prolly_check::{ManyThreads, OneThread};
+use prolly_check::OneThread;
+use prolly_look_up::ManyThreads;
 use prolly_entry::{Pair, Ref, Version};
 use prolly_file::{Device, Sink, Source};
 use prolly_range::KeySet;

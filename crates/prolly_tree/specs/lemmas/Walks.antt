@@ -16,8 +16,8 @@ use Rattle.prolly_tree.specs.LookUp.{find}
 use Rattle.prolly_tree.specs.lemmas.Differences.{differ_nowhere, shared_first, removed_first}
 use Rattle.prolly_tree.specs.lemmas.Differences.{added_first, changed_first}
 use Rattle.prolly_tree.specs.lemmas.Maps.{Above, find_above, map_behind, rises}
-use Rattle.prolly_diff.specs.Differences.{Maps, AreMaps, AreAlike, IsWalkEnd, IsFirstChange}
-use Rattle.prolly_diff.specs.Differences.{TakesLeast}
+use Rattle.prolly_tree.specs.Walks.{Maps, AreMaps, AreAlike, IsWalkEnd, IsFirstChange}
+use Rattle.prolly_tree.specs.Walks.{TakesLeast}
 
 -- Maps begin like themselves.
 pub alike_none : (maps : Maps) → AreAlike maps maps

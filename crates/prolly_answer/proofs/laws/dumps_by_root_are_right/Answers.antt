@@ -1,7 +1,7 @@
 use Rattle.std.proofs.Common.{[], ◌⊎◌, inl, inr, sym, ◌∙◌}
-use Rattle.prolly_check.specs.FirstFault.{chunk_bytes}
-use Rattle.prolly_check.specs.ScanWay.{HaveFirstFrom, joined}
-use Rattle.prolly_check.specs.Way.{Clash}
+use Rattle.prolly_look_up.specs.Content.{chunk_bytes}
+use Rattle.prolly_look_up.specs.ScanWay.{HaveFirstFrom, joined}
+use Rattle.prolly_look_up.specs.Way.{Clash}
 use Rattle.prolly_answer.specs.RootDumps.{HaveFirst}
 use Rattle.prolly_answer.proofs.RootSteps.{from_least}
 use Rattle.prolly_answer.proofs.laws.dumps_by_root_are_right.Goals as goal

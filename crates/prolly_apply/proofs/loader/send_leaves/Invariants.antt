@@ -1,5 +1,5 @@
 use Rattle.std.proofs.Common.{◌≡◌, None}
-use Rattle.prolly_check.specs.Content.{Content}
+use Rattle.prolly_look_up.specs.Content.{Content}
 use Rattle.prolly_entry.specs.Cut.{sha512_cut}
 use Rattle.prolly_root_diff.specs.LeafWalk.{WalksIn, due_of_walk}
 use Rattle.prolly_root_diff.specs.ToGo.{weights}

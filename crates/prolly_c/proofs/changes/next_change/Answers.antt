@@ -1,7 +1,7 @@
 use Rattle.std.proofs.Common.{[], refl, subst}
-use Rattle.prolly_diff.specs.Differences.{Maps}
-use Rattle.prolly_diff.specs.lemmas.Walks.{added, alike_more, alike_one, changed, differ}
-use Rattle.prolly_diff.specs.lemmas.Walks.{maps_behind, no_change, removed, same}
+use Rattle.prolly_tree.specs.Walks.{Maps}
+use Rattle.prolly_tree.specs.lemmas.Walks.{added, alike_more, alike_one, changed, differ}
+use Rattle.prolly_tree.specs.lemmas.Walks.{maps_behind, no_change, removed, same}
 use Rattle.prolly_c.specs.Changes.{TakesAs, pair_is}
 use Rattle.prolly_c.proofs.changes.next_change.Goals as goal
 

@@ -1,5 +1,5 @@
 use Rattle.std.proofs.Common.{◌+◌}
-use Rattle.prolly_diff.specs.Differences.{AreAlike, AreMaps, Maps}
+use Rattle.prolly_tree.specs.Walks.{AreAlike, AreMaps, Maps}
 use Rattle.prolly_c.specs.Changes.{AreAt}
 use Rattle.prolly_c.specs.Cursor.{weight}
 use Rattle.prolly_c.proofs.changes.next_change.Given as goal

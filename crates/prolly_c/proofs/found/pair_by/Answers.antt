@@ -1,7 +1,7 @@
 use Rattle.std.proofs.Common.{◌≡◌, sym, subst, arith}
-use Rattle.prolly_check.specs.Entries.{IsLeaf}
-use Rattle.prolly_check.specs.FoundPairs.{pair_found}
-use Rattle.prolly_check.specs.Sought.Sought.{Number}
+use Rattle.prolly_look_up.specs.Entries.{IsLeaf}
+use Rattle.prolly_look_up.specs.FoundPairs.{pair_found}
+use Rattle.prolly_look_up.specs.Sought.Sought.{Number}
 use Rattle.prolly_c.proofs.RunLists.{none_at, nth_there, some_run}
 use Rattle.prolly_c.specs.Runs.{Answers, AreUpTo}
 use Rattle.prolly_c.proofs.found.pair_by.Goals as goal

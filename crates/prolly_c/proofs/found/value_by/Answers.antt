@@ -1,7 +1,7 @@
 use Rattle.std.proofs.Common.{◌≡◌, sym, subst, arith}
 use Rattle.std.specs.Option.{option_copied}
-use Rattle.prolly_check.specs.Entries.{IsLeaf}
-use Rattle.prolly_check.specs.Sought.Sought.{Key}
+use Rattle.prolly_look_up.specs.Entries.{IsLeaf}
+use Rattle.prolly_look_up.specs.Sought.Sought.{Key}
 use Rattle.prolly_tree.specs.lemmas.Maps.{find_above}
 use Rattle.prolly_c.proofs.RunLists.{all_above, around, found_there, some_run}
 use Rattle.prolly_c.specs.Runs.{Answers, AreUpTo}

@@ -1,5 +1,5 @@
 use Rattle.std.proofs.Common.{◌-◌, ◌<◌, ◌≤◌, get_or, length}
-use Rattle.prolly_check.specs.Sought.{sought_of}
+use Rattle.prolly_look_up.specs.Sought.{sought_of}
 use Rattle.prolly_c.specs.Runs.{StartsBehind, StartsUpTo}
 use Rattle.prolly_c.specs.declared.run.Run.{Run}
 use Rattle.prolly_c.proofs.run.count_up_to.Given as goal

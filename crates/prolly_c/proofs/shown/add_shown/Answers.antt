@@ -2,7 +2,7 @@ use Rattle.std.proofs.Common.{◌∙◌, ◌++◌, arith, subst, sym}
 use Rattle.std.proofs.lemmas.Grind.{common_steps}
 use Rattle.std.proofs.lemmas.List.{length-append}
 use Rattle.std.specs.Option.{option_copied}
-use Rattle.prolly_check.specs.Entries.{IsLeaf}
+use Rattle.prolly_look_up.specs.Entries.{IsLeaf}
 use Rattle.prolly_entry.specs.lemmas.Lists.{rest_is}
 use Rattle.prolly_range.specs.KeySet.{pairs_wanted}
 use Rattle.prolly_range.specs.KeySet.KeySet.{Range}

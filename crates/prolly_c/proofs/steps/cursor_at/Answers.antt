@@ -1,5 +1,5 @@
 use Rattle.std.proofs.Common.{sym, subst, arith}
-use Rattle.prolly_check.specs.Entries.{IsLeaf}
+use Rattle.prolly_look_up.specs.Entries.{IsLeaf}
 use Rattle.prolly_c.proofs.Cursors.{at_first, at_found}
 use Rattle.prolly_c.proofs.RunLists.{around, some_run}
 use Rattle.prolly_c.proofs.steps.cursor_at.Goals as goal

@@ -2,7 +2,7 @@ use Rattle.std.proofs.lemmas.Grind.{common_steps}
 use Rattle.std.proofs.Common.{◌≡◌, ◌+◌, [], length, get_or, sym, ap, ◌∙◌, subst, arith}
 use Rattle.std.specs.Prelude.{not}
 use Rattle.prolly_entry.specs.Reference.{reference_of}
-use Rattle.prolly_check.specs.Numbers.{has_reference}
+use Rattle.prolly_chunk.specs.Missing.{has_reference}
 use Rattle.prolly_check.proofs.IndexSteps.{as_many, reference_at}
 use Rattle.prolly_check.proofs.TreeNumbers.{CountedTo, Tells, counted, passed, search_tells}
 use Rattle.prolly_check.proofs.TreeNumbers.{size_up_to}

@@ -1,5 +1,5 @@
 use Rattle.std.proofs.Common.{◌+◌, length}
-use Rattle.prolly_diff.specs.Differences.{AreAlike}
+use Rattle.prolly_tree.specs.Walks.{AreAlike}
 use Rattle.prolly_diff.proofs.differences.next_change.Given as goal
 
 abbrev pub invariant-loop-key : goal.invariant-loop-key

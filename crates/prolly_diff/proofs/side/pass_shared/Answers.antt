@@ -1,4 +1,4 @@
-use Rattle.prolly_diff.specs.lemmas.Walks.{alike_none, alike_more}
+use Rattle.prolly_tree.specs.lemmas.Walks.{alike_none, alike_more}
 use Rattle.prolly_diff.proofs.side.pass_shared.Goals as goal
 
 pub loop-init : goal.loop-init

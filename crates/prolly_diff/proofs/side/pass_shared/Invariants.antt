@@ -1,5 +1,5 @@
 use Rattle.std.proofs.Common.{length}
-use Rattle.prolly_diff.specs.Differences.{AreAlike}
+use Rattle.prolly_tree.specs.Walks.{AreAlike}
 use Rattle.prolly_diff.proofs.side.pass_shared.Given as goal
 
 abbrev pub invariant-loop : goal.invariant-loop

@@ -1,6 +1,6 @@
 use Rattle.std.proofs.Common.{◌++◌, length}
-use Rattle.prolly_check.proofs.PairsFrom.{IsCopiedTo}
-use Rattle.prolly_check.proofs.look_up.scan.copy_pairs.Given as goal
+use Rattle.prolly_look_up.specs.lemmas.PairsFrom.{IsCopiedTo}
+use Rattle.prolly_look_up.proofs.copies.copy_pairs.Given as goal
 
 abbrev pub invariant-loop-key : goal.invariant-loop-key
 invariant-loop-key l = IsCopiedTo l.limit (l.fn.pairs.items ++ l.fn.leaf) l.pairs.items l.leaf

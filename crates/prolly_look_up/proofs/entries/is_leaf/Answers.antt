@@ -1,6 +1,6 @@
 use Rattle.std.proofs.Common.{arith}
-use Rattle.prolly_check.proofs.EntryLists.{leaf_more, leaf_less, leaf_left}
-use Rattle.prolly_check.proofs.entries.is_leaf.Goals as goal
+use Rattle.prolly_look_up.specs.lemmas.EntryLists.{leaf_more, leaf_less, leaf_left}
+use Rattle.prolly_look_up.proofs.entries.is_leaf.Goals as goal
 
 pub loop-rest-preserved : goal.loop-rest-preserved
 loop-rest-preserved c = (

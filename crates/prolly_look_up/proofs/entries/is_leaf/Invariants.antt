@@ -1,6 +1,6 @@
 use Rattle.std.proofs.Common.{◌↔◌, length}
-use Rattle.prolly_check.specs.Entries.{IsSomeLeaf}
-use Rattle.prolly_check.proofs.entries.is_leaf.Given as goal
+use Rattle.prolly_look_up.specs.Entries.{IsSomeLeaf}
+use Rattle.prolly_look_up.proofs.entries.is_leaf.Given as goal
 
 abbrev pub invariant-loop-rest : goal.invariant-loop-rest
 invariant-loop-rest l = IsSomeLeaf l.fn.entries ↔ IsSomeLeaf l.entries

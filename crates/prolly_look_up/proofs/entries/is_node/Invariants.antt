@@ -1,6 +1,6 @@
 use Rattle.std.proofs.Common.{◌↔◌, [], length}
-use Rattle.prolly_check.specs.Entries.{IsNode}
-use Rattle.prolly_check.proofs.entries.is_node.Given as goal
+use Rattle.prolly_look_up.specs.Entries.{IsNode}
+use Rattle.prolly_look_up.proofs.entries.is_node.Given as goal
 
 abbrev pub invariant-loop-rest : goal.invariant-loop-rest
 invariant-loop-rest l = IsNode l.version l.fn.entries [] ↔ IsNode l.version l.entries []

@@ -1,6 +1,6 @@
 use Rattle.std.proofs.Common.{ap, arith, length, ◌∙◌}
-use Rattle.prolly_check.proofs.CheckedFile.{few_in_one, leaf_event_is}
-use Rattle.prolly_check.proofs.entries.leaf_event.Goals as goal
+use Rattle.prolly_look_up.specs.lemmas.LeafEvents.{few_in_one, leaf_event_is}
+use Rattle.prolly_look_up.proofs.entries.leaf_event.Goals as goal
 
 pub last_key_and_count-count-requires : goal.last_key_and_count-count-requires
 last_key_and_count-count-requires c =

@@ -1,9 +1,9 @@
 use Rattle.std.proofs.Common.{◌∙◌, ap, sym}
 use Rattle.prolly_entry.specs.lemmas.Lists.{rest_is}
-use Rattle.prolly_check.specs.Entries.{pairs_in}
-use Rattle.prolly_check.proofs.EntryLists.{no_pairs}
-use Rattle.prolly_check.proofs.HeldPairs.{of_children, of_pairs, some_byte}
-use Rattle.prolly_check.proofs.entries.pairs_of.Goals as goal
+use Rattle.prolly_look_up.specs.Entries.{pairs_in}
+use Rattle.prolly_look_up.specs.lemmas.EntryLists.{no_pairs}
+use Rattle.prolly_look_up.specs.lemmas.HeldPairs.{of_children, of_pairs, some_byte}
+use Rattle.prolly_look_up.proofs.entries.pairs_of.Goals as goal
 
 pub bounds-chunk-0 : goal.bounds-chunk-0
 bounds-chunk-0 c = some_byte c.args.version c.args.chunk.now c.requires

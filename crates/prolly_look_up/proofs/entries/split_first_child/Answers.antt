@@ -1,8 +1,8 @@
 use Rattle.std.proofs.Common.{rules}
-use Rattle.prolly_check.specs.Entries.{IsChild, entry_of}
-use Rattle.prolly_check.proofs.EntryLists.{shorter, child_behind, next_child, no_next_child}
-use Rattle.prolly_check.proofs.EntryLists.{node_apart, node_less}
-use Rattle.prolly_check.proofs.entries.split_first_child.Goals as goal
+use Rattle.prolly_look_up.specs.Entries.{IsChild, entry_of}
+use Rattle.prolly_look_up.specs.lemmas.EntryLists.{shorter, child_behind, next_child, no_next_child}
+use Rattle.prolly_look_up.specs.lemmas.EntryLists.{node_apart, node_less}
+use Rattle.prolly_look_up.proofs.entries.split_first_child.Goals as goal
 
 pub returns : goal.returns
 returns c =

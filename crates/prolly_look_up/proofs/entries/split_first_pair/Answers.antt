@@ -1,8 +1,9 @@
 use Rattle.std.proofs.Common.{rules}
 use Rattle.prolly_entry.specs.Pair.{IsPair}
 use Rattle.prolly_entry.specs.Spelling.{pair_spelling}
-use Rattle.prolly_check.proofs.EntryLists.{behind_first, leaf_apart, leaf_less, next_pair, no_next}
-use Rattle.prolly_check.proofs.entries.split_first_pair.Goals as goal
+use Rattle.prolly_look_up.specs.lemmas.EntryLists.{behind_first, leaf_apart, leaf_less, next_pair}
+use Rattle.prolly_look_up.specs.lemmas.EntryLists.{no_next}
+use Rattle.prolly_look_up.proofs.entries.split_first_pair.Goals as goal
 
 pub returns : goal.returns
 returns c =

@@ -1,6 +1,6 @@
 use Rattle.std.proofs.Common.{◌≡◌, length}
 use Rattle.prolly_tree.specs.LookUp.{find}
-use Rattle.prolly_check.proofs.look_up.found.value_in.Given as goal
+use Rattle.prolly_look_up.proofs.found.value_in.Given as goal
 
 abbrev pub invariant-loop-found : goal.invariant-loop-found
 invariant-loop-found l = find l.fn.pairs l.key ≡ find l.pairs l.key

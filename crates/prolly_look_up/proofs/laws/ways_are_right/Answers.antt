@@ -1,6 +1,6 @@
-use Rattle.prolly_check.proofs.TreeWays.{scans_go_on, count_ways_are_right, scans_are_right}
-use Rattle.prolly_check.proofs.TreeWays.{ways_are_right}
-use Rattle.prolly_check.proofs.laws.ways_are_right.Goals as goal
+use Rattle.prolly_look_up.specs.lemmas.TreeWays.{scans_go_on, count_ways_are_right, scans_are_right}
+use Rattle.prolly_look_up.specs.lemmas.TreeWays.{ways_are_right}
+use Rattle.prolly_look_up.proofs.laws.ways_are_right.Goals as goal
 
 pub returns : goal.returns
 returns c = record {

@@ -2,13 +2,13 @@ use Rattle.std.proofs.Common.{◌++◌, ◌-◌, ap, length, subst, sym, ◌∙�
 use Rattle.prolly_entry.specs.lemmas.Lists.{rest_is}
 use Rattle.prolly_tree.specs.Difference.{IsMap}
 use Rattle.prolly_tree.specs.lemmas.Maps.{map_behind, rises}
-use Rattle.prolly_check.specs.Entries.{pairs_in}
-use Rattle.prolly_check.specs.Leaves.{pairs_from}
-use Rattle.prolly_check.specs.lemmas.Held.{held_rise}
-use Rattle.prolly_check.specs.lemmas.ReadEntries.{leaf_pairs}
-use Rattle.prolly_check.proofs.PairsFrom.{from_behind, left_leaf}
-use Rattle.prolly_check.proofs.RisingKeys.{is_less}
-use Rattle.prolly_check.proofs.look_up.leaves.begin.Goals as goal
+use Rattle.prolly_look_up.specs.Entries.{pairs_in}
+use Rattle.prolly_look_up.specs.Leaves.{pairs_from}
+use Rattle.prolly_look_up.specs.lemmas.HeldPairs.{held_rise}
+use Rattle.prolly_look_up.specs.lemmas.ReadEntries.{leaf_pairs}
+use Rattle.prolly_look_up.specs.lemmas.PairsFrom.{from_behind, left_leaf}
+use Rattle.prolly_look_up.specs.lemmas.RisingKeys.{is_less}
+use Rattle.prolly_look_up.proofs.rest.begin.Goals as goal
 
 pub new-marked-requires : goal.new-marked-requires
 new-marked-requires c = rw (rest_is _ _) (record {

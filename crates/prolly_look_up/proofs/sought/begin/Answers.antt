@@ -1,8 +1,8 @@
 use Rattle.std.proofs.Common.{sym, ◌∙◌}
-use Rattle.prolly_check.specs.Sought.{value_of}
-use Rattle.prolly_check.proofs.Chosen.{begins_there}
-use Rattle.prolly_check.proofs.RisingKeys.{is_less}
-use Rattle.prolly_check.proofs.look_up.sought.begin.Goals as goal
+use Rattle.prolly_look_up.specs.Sought.{value_of}
+use Rattle.prolly_look_up.specs.lemmas.Chosen.{begins_there}
+use Rattle.prolly_look_up.specs.lemmas.RisingKeys.{is_less}
+use Rattle.prolly_look_up.proofs.sought.begin.Goals as goal
 
 pub returns-in-Some-clause-same : goal.returns-in-Some-clause-same
 returns-in-Some-clause-same c = rw c.in-Key.is

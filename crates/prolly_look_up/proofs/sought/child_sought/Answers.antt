@@ -1,8 +1,8 @@
 use Rattle.std.proofs.Common.{◌++◌, ◌∙◌, ap, drop, refl}
-use Rattle.prolly_check.specs.Entries.{children_in}
-use Rattle.prolly_check.specs.Sought.{child_sought, sought_of, value_of}
-use Rattle.prolly_check.proofs.Chosen.{none_left}
-use Rattle.prolly_check.proofs.look_up.sought.child_sought.Goals as goal
+use Rattle.prolly_look_up.specs.Entries.{children_in}
+use Rattle.prolly_look_up.specs.Sought.{child_sought, sought_of, value_of}
+use Rattle.prolly_look_up.specs.lemmas.Chosen.{none_left}
+use Rattle.prolly_look_up.proofs.sought.child_sought.Goals as goal
 
 pub returns-in_default-behind-clause-some : goal.returns-in_default-behind-clause-some
 returns-in_default-behind-clause-some c =

@@ -1,7 +1,7 @@
 use Rattle.std.proofs.Common.{◌≡◌, ◌-◌, drop, length}
-use Rattle.prolly_check.specs.Entries.{children_in}
-use Rattle.prolly_check.specs.Sought.{IsMark, child_sought, sought_of}
-use Rattle.prolly_check.proofs.look_up.sought.child_sought.Given as goal
+use Rattle.prolly_look_up.specs.Entries.{children_in}
+use Rattle.prolly_look_up.specs.Sought.{IsMark, child_sought, sought_of}
+use Rattle.prolly_look_up.proofs.sought.child_sought.Given as goal
 
 abbrev pub invariant-loop-child : goal.invariant-loop-child
 invariant-loop-child l = record {

@@ -1,9 +1,9 @@
 use Rattle.std.proofs.Common.{◌↔◌, [], length, map}
 use Rattle.std.specs.Option.{option_copied}
 use Rattle.prolly_entry.specs.Keys.{Rising}
-use Rattle.prolly_check.specs.Entries.{IsNode, children_in}
-use Rattle.prolly_check.proofs.RisingKeys.{RisesOn}
-use Rattle.prolly_check.proofs.look_up.step.children_rise.Given as goal
+use Rattle.prolly_look_up.specs.Entries.{IsNode, children_in}
+use Rattle.prolly_look_up.specs.lemmas.RisingKeys.{RisesOn}
+use Rattle.prolly_look_up.proofs.step.children_rise.Given as goal
 
 abbrev pub invariant-loop-child : goal.invariant-loop-child
 invariant-loop-child l = record {

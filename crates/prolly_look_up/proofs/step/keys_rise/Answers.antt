@@ -1,7 +1,7 @@
 use Rattle.std.proofs.Common.{◌∙◌}
 use Rattle.prolly_entry.specs.lemmas.Lists.{rest_is}
-use Rattle.prolly_check.proofs.HeldPairs.{of_children, of_pairs, some_byte}
-use Rattle.prolly_check.proofs.look_up.step.keys_rise.Goals as goal
+use Rattle.prolly_look_up.specs.lemmas.HeldPairs.{of_children, of_pairs, some_byte}
+use Rattle.prolly_look_up.proofs.step.keys_rise.Goals as goal
 
 pub bounds-chunk-0 : goal.bounds-chunk-0
 bounds-chunk-0 c = some_byte c.args.version c.args.chunk.now c.requires

@@ -1,8 +1,8 @@
 use Rattle.std.proofs.Common.{◌↔◌, length, map}
 use Rattle.std.specs.Option.{option_copied}
 use Rattle.prolly_entry.specs.Keys.{Rising}
-use Rattle.prolly_check.proofs.RisingKeys.{RisesOn}
-use Rattle.prolly_check.proofs.look_up.step.pairs_rise.Given as goal
+use Rattle.prolly_look_up.specs.lemmas.RisingKeys.{RisesOn}
+use Rattle.prolly_look_up.proofs.step.pairs_rise.Given as goal
 
 abbrev pub invariant-loop-key : goal.invariant-loop-key
 invariant-loop-key l = Rising (map (λ p. p.key) l.fn.leaf) ↔

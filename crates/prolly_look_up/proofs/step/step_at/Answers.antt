@@ -1,9 +1,9 @@
 use Rattle.std.proofs.Common.{refl}
-use Rattle.prolly_check.specs.Kinds.{kind_of}
-use Rattle.prolly_check.specs.Sought.{sought_of}
-use Rattle.prolly_check.specs.lemmas.Ways.{child_leads}
-use Rattle.prolly_check.proofs.HeldPairs.{some_byte}
-use Rattle.prolly_check.proofs.look_up.step.step_at.Goals as goal
+use Rattle.prolly_look_up.specs.Kinds.{kind_of}
+use Rattle.prolly_look_up.specs.Sought.{sought_of}
+use Rattle.prolly_look_up.specs.lemmas.Ways.{child_leads}
+use Rattle.prolly_look_up.specs.lemmas.HeldPairs.{some_byte}
+use Rattle.prolly_look_up.proofs.step.step_at.Goals as goal
 
 pub step_of-requires-clause-mark : goal.step_of-requires-clause-mark
 step_of-requires-clause-mark c = c.first.ensures.first c.args.version c.args.chunk.now

@@ -1,8 +1,8 @@
 use Rattle.std.proofs.Common.{subst}
 use Rattle.prolly_entry.specs.Keys.{Rising}
-use Rattle.prolly_check.specs.Way.{entry_keys}
-use Rattle.prolly_check.proofs.HeldPairs.{of_children, of_pairs}
-use Rattle.prolly_check.proofs.look_up.step.step_of.Goals as goal
+use Rattle.prolly_look_up.specs.Way.{entry_keys}
+use Rattle.prolly_look_up.specs.lemmas.HeldPairs.{of_children, of_pairs}
+use Rattle.prolly_look_up.proofs.step.step_of.Goals as goal
 
 pub returns-then-chunk-eq-LEAF-clause-ends : goal.returns-then-chunk-eq-LEAF-clause-ends
 returns-then-chunk-eq-LEAF-clause-ends c = rw (of_pairs c.args.version c.args.chunk.now

@@ -1,5 +1,5 @@
 use Rattle.std.proofs.Common.{rules}
-use Rattle.prolly_check.proofs.look_up.step.test_chunk.Goals as goal
+use Rattle.prolly_look_up.proofs.step.test_chunk.Goals as goal
 
 pub returns-in_err-test_named-clause-err : goal.returns-in_err-test_named-clause-err
 returns-in_err-test_named-clause-err c =

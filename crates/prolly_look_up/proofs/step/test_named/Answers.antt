@@ -1,7 +1,7 @@
 use Rattle.std.proofs.Common.{◌∙◌, arith, sym}
 use Rattle.std.proofs.lemmas.List.{get_or_default}
-use Rattle.prolly_check.proofs.CheckedFile.{equal}
-use Rattle.prolly_check.proofs.look_up.step.test_named.Goals as goal
+use Rattle.prolly_look_up.specs.lemmas.SameBytes.{equal}
+use Rattle.prolly_look_up.proofs.step.test_named.Goals as goal
 
 pub returns-clause-ok : goal.returns-clause-ok
 returns-clause-ok c =

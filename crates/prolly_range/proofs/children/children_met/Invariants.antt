@@ -1,5 +1,5 @@
 use Rattle.std.proofs.Common.{◌≡◌, ◌≤◌, ◌+◌, ◌++◌, [], Some, length, map, option_map}
-use Rattle.prolly_check.specs.Entries.{IsNode, children_in}
+use Rattle.prolly_look_up.specs.Entries.{IsNode, children_in}
 use Rattle.prolly_range.specs.Children.{met_of, seen_met}
 use Rattle.prolly_range.specs.KeySet.{met_in, set_of}
 use Rattle.prolly_range.proofs.children.children_met.Given as goal

@@ -1,5 +1,5 @@
 use Rattle.std.proofs.Common.{◌≡◌, ◌++◌, length, map}
-use Rattle.prolly_check.specs.Way.{level_of}
+use Rattle.prolly_look_up.specs.Way.{level_of}
 use Rattle.prolly_range.specs.Children.{met_of}
 use Rattle.prolly_range.specs.Dues.{due_of, seen_due}
 use Rattle.prolly_range.proofs.due.put_below.Given as goal

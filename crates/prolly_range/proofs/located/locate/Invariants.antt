@@ -1,6 +1,6 @@
 use Rattle.std.proofs.Common.{◌≡◌, ◌-◌, ◌++◌, length, map}
 use Rattle.std.specs.List.{AllByRecursion}
-use Rattle.prolly_check.specs.Content.{Content}
+use Rattle.prolly_look_up.specs.Content.{Content}
 use Rattle.prolly_range.specs.Children.{met_of}
 use Rattle.prolly_range.specs.Dues.{seen_due}
 use Rattle.prolly_range.specs.Prover.{AreChildrenThere, IsLocated, located_due}

@@ -1,6 +1,6 @@
 use Rattle.std.proofs.Common.{◌≡◌, map}
 use Rattle.std.specs.List.{AllByRecursion}
-use Rattle.prolly_check.specs.Content.{Content}
+use Rattle.prolly_look_up.specs.Content.{Content}
 use Rattle.prolly_range.specs.Prover.{IsLocated, located_due}
 use Rattle.prolly_range.specs.ToGo.{to_go}
 use Rattle.prolly_range.proofs.Writing.{HaveWritten}

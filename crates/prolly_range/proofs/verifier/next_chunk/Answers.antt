@@ -1,6 +1,7 @@
-use Rattle.std.proofs.Common.{◌≡◌, ◌-◌, ◌++◌, ◌∷◌, ◌∙◌, ap, sym, subst, length, map, drop, take, rules, inr, []}
-use Rattle.prolly_check.specs.Kinds.{kind_of}
-use Rattle.prolly_check.specs.Way.{FallsTo, IsNamed, level_of}
+use Rattle.std.proofs.Common.{◌≡◌, ◌-◌, ◌++◌, ◌∷◌, ◌∙◌, ap, sym, subst, length, map, drop, take}
+use Rattle.std.proofs.Common.{rules, inr, []}
+use Rattle.prolly_look_up.specs.Kinds.{kind_of}
+use Rattle.prolly_look_up.specs.Way.{FallsTo, IsNamed, level_of}
 use Rattle.prolly_root.specs.ProofFault.{IsChunkFault}
 use Rattle.prolly_range.specs.Dues.{due_of}
 use Rattle.prolly_range.specs.KeySet.{set_of}

@@ -1,6 +1,6 @@
 use Rattle.std.proofs.Common.{◌≡◌, ◌⊎◌, inl, inr}
-use Rattle.prolly_check.specs.FirstFault.{chunk_bytes}
-use Rattle.prolly_check.specs.Way.{Clash}
+use Rattle.prolly_look_up.specs.Content.{chunk_bytes}
+use Rattle.prolly_look_up.specs.Way.{Clash}
 use Rattle.prolly_tree.specs.LookUp.{find}
 use Rattle.prolly_root.specs.ProofFile.{ShowsClash}
 use Rattle.prolly_root.proofs.OneProof.{proofs_are_one}

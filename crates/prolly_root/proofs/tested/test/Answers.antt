@@ -1,4 +1,4 @@
-use Rattle.prolly_check.specs.lemmas.Ways.{no_flaw}
+use Rattle.prolly_look_up.specs.lemmas.Ways.{no_flaw}
 use Rattle.prolly_root.proofs.tested.test.Goals as goal
 
 pub returns-in-Err-clause-fits : goal.returns-in-Err-clause-fits

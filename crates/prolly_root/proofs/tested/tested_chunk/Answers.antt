@@ -1,7 +1,7 @@
 use Rattle.std.proofs.Common.{◌≡◌, ◌∙◌, ap, subst, sym}
 use Rattle.std.proofs.lemmas.Bool.{false≢true}
-use Rattle.prolly_check.specs.Chunks.{chunks_of}
-use Rattle.prolly_check.specs.Way.{FallsTo}
+use Rattle.prolly_look_up.specs.Content.{chunks_of}
+use Rattle.prolly_look_up.specs.Way.{FallsTo}
 use Rattle.prolly_entry.specs.Reference.{reference_of}
 use Rattle.prolly_tree.specs.Tree.{bytes_of}
 use Rattle.prolly_root.proofs.tested.tested_chunk.Goals as goal

@@ -1,6 +1,6 @@
 use Rattle.std.proofs.Common.{◌≡◌, ◌<◌, ◌^◌, [], drop, length, refl, rules, subst, sym}
-use Rattle.prolly_check.specs.Entries.{children_in}
-use Rattle.prolly_check.specs.Way.{level_of}
+use Rattle.prolly_look_up.specs.Entries.{children_in}
+use Rattle.prolly_look_up.specs.Way.{level_of}
 use Rattle.std.specs.List.{AllByRecursion}
 use Rattle.prolly_root_diff.specs.Sides.{AreChildrenOf, AreSiblingsOf}
 use Rattle.prolly_root_diff.proofs.Subtrees.{behind_leaf, behind_none, children_lawful, put_lawful}

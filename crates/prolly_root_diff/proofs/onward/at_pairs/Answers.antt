@@ -1,4 +1,4 @@
-use Rattle.prolly_diff.specs.lemmas.Walks.{differ, same}
+use Rattle.prolly_tree.specs.lemmas.Walks.{differ, same}
 use Rattle.prolly_entry.specs.lemmas.Orders.{greater_below, order_same}
 use Rattle.prolly_root_diff.proofs.onward.at_pairs.Goals as goal
 

@@ -1,6 +1,6 @@
 use Rattle.std.proofs.Common.{◌≡◌, ◌==◌, ◌<◌, ◌∙◌, [], ap, arith, length, rules, sym}
 use Rattle.std.proofs.lemmas.List.{nil_from_length}
-use Rattle.prolly_check.specs.HeldPairs.{pairs_held}
+use Rattle.prolly_look_up.specs.HeldPairs.{pairs_held}
 use Rattle.prolly_root_diff.specs.DueTrees.{all_due}
 use Rattle.prolly_root_diff.proofs.Lists.{some_due}
 use Rattle.prolly_root_diff.proofs.LeafSteps.{gives_leaf, leaves_end, no_pairs, reads_lighter}

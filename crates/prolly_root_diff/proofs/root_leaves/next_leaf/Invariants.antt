@@ -1,5 +1,5 @@
 use Rattle.std.proofs.Common.{◌≡◌, ◌≤◌}
-use Rattle.prolly_check.specs.Content.{Content}
+use Rattle.prolly_look_up.specs.Content.{Content}
 use Rattle.prolly_root_diff.specs.DueTrees.{AreDueIn, all_due}
 use Rattle.prolly_root_diff.specs.ToGo.{weights}
 use Rattle.prolly_root_diff.proofs.LeafSteps.{LeavesStay}

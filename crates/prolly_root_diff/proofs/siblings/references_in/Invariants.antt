@@ -1,5 +1,5 @@
 use Rattle.std.proofs.Common.{◌≡◌, [], ◌++◌, map, length}
-use Rattle.prolly_check.specs.Entries.{IsNode, children_in}
+use Rattle.prolly_look_up.specs.Entries.{IsNode, children_in}
 use Rattle.prolly_root_diff.proofs.siblings.references_in.Given as goal
 
 abbrev pub invariant-loop-child : goal.invariant-loop-child

@@ -1,6 +1,6 @@
 use Rattle.std.proofs.Common.{[], inr, refl}
 use Rattle.std.proofs.lemmas.Result.{err_from_is_err_and}
-use Rattle.prolly_check.specs.ScanWay.{EndsEmpty}
+use Rattle.prolly_look_up.specs.ScanWay.{EndsEmpty}
 use Rattle.prolly_answer.specs.RootDumps.{written_pairs}
 use Rattle.prolly_answer.specs.RootOutcomes.{RefusesNone, RefusesNoneOf}
 use Rattle.prolly_answer.proofs.RootSteps.{flushed_told, root_refused}

@@ -1,6 +1,6 @@
 use Rattle.std.proofs.Common.{[], refl, sym, ap, ◌∙◌, subst}
 use Rattle.std.proofs.lemmas.Result.{err_from_is_err_and}
-use Rattle.prolly_check.specs.ScanWay.{EndsEmpty, next_key}
+use Rattle.prolly_look_up.specs.ScanWay.{EndsEmpty, next_key}
 use Rattle.prolly_root.specs.Reader.{way_of}
 use Rattle.prolly_answer.specs.RootDumps.{written_pairs}
 use Rattle.prolly_answer.specs.RootOutcomes.{RefusesNoneOf}

@@ -1,6 +1,6 @@
 use Rattle.std.proofs.Common.{◌≡◌, []}
-use Rattle.prolly_check.specs.Content.{Content}
-use Rattle.prolly_check.specs.ScanWay.{EndsEmpty}
+use Rattle.prolly_look_up.specs.Content.{Content}
+use Rattle.prolly_look_up.specs.ScanWay.{EndsEmpty}
 use Rattle.prolly_root.specs.Reader.{IsReaderOf}
 use Rattle.prolly_answer.specs.RootDumps.{written_pairs}
 use Rattle.prolly_answer.proofs.KeyRanks.{AreBytes, room_above}

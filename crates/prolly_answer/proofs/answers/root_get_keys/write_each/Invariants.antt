@@ -1,5 +1,5 @@
 use Rattle.std.proofs.Common.{◌≡◌}
-use Rattle.prolly_check.specs.Content.{Content}
+use Rattle.prolly_look_up.specs.Content.{Content}
 use Rattle.prolly_root.specs.Reader.{IsReaderOf}
 use Rattle.prolly_answer.proofs.KeySteps.{IsAsking}
 use Rattle.prolly_answer.proofs.answers.root_get_keys.write_each.Given as goal

@@ -1,12 +1,13 @@
 use Rattle.std.proofs.Common.{inr, ◌∙◌, arith, refl, ap, take}
 use Rattle.std.proofs.lemmas.Result.{err_from_is_err_and}
-use Rattle.prolly_check.specs.ScanWay.{next_key}
+use Rattle.prolly_look_up.specs.ScanWay.{next_key}
 use Rattle.prolly_root.specs.Reader.{way_of}
 use Rattle.prolly_answer.specs.LookUps.{pair_lines}
 use Rattle.prolly_answer.specs.RootOutcomes.{RefusesNoneOf}
 use Rattle.prolly_answer.specs.RootScans.{AreEnough, limited_lines}
 use Rattle.prolly_answer.proofs.RootSteps.{begins, goes_on, leaf_fills, leaf_found, leaf_unwritten}
-use Rattle.prolly_answer.proofs.RootSteps.{leaf_wants, none_behind, seek_ends, seek_fails, some_behind}
+use Rattle.prolly_answer.proofs.RootSteps.{leaf_wants, none_behind, seek_ends, seek_fails}
+use Rattle.prolly_answer.proofs.RootSteps.{some_behind}
 use Rattle.prolly_answer.proofs.RootSteps.{wants_first}
 use Rattle.prolly_answer.proofs.ScanSteps.{all_left, are_enough, are_left, are_wanted, lines_more}
 use Rattle.prolly_answer.proofs.ScanSteps.{none_yet, take_none}

@@ -1,6 +1,6 @@
 use Rattle.std.proofs.Common.{◌≡◌, ◌-◌, ◌<◌, length}
-use Rattle.prolly_check.specs.Content.{Content}
-use Rattle.prolly_check.specs.ScanWay.{joined}
+use Rattle.prolly_look_up.specs.Content.{Content}
+use Rattle.prolly_look_up.specs.ScanWay.{joined}
 use Rattle.prolly_root.specs.Reader.{IsReaderOf}
 use Rattle.prolly_answer.specs.RootScans.{AreEnough, limited_lines}
 use Rattle.prolly_answer.proofs.RootSteps.{IsUnderWay}

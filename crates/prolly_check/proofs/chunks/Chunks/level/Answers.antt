@@ -1,7 +1,7 @@
 use Rattle.std.proofs.Common.{◌<◌, ◌∙◌, [], ap, get_or, length, subst, sym, arith}
 use Rattle.std.proofs.lemmas.List.{get_or-map, length-map}
 use Rattle.prolly_check.specs.Frames.{chunk_in, chunks_in}
-use Rattle.prolly_check.proofs.HeldPairs.{each_whole, some_byte}
+use Rattle.prolly_look_up.specs.lemmas.HeldPairs.{each_whole, some_byte}
 use Rattle.prolly_check.proofs.chunks.Chunks.level.Goals as goal
 
 pub bounds-chunk_at-0 : goal.bounds-chunk_at-0

@@ -1,5 +1,6 @@
 use Rattle.std.proofs.Common.{sym, ap, ◌∙◌, subst}
-use Rattle.prolly_check.specs.Chunks.{HasReference, chunks_of}
+use Rattle.prolly_check.specs.Chunks.{HasReference}
+use Rattle.prolly_look_up.specs.Content.{chunks_of}
 use Rattle.prolly_check.proofs.CheckedFile.{number_of}
 use Rattle.prolly_check.proofs.file.CheckedFile.child.Goals as goal
 

@@ -1,6 +1,6 @@
 use Rattle.std.proofs.Common.{ap, arith}
 use Rattle.prolly_check.specs.Chunks.{content_of}
-use Rattle.prolly_check.specs.Numbers.{chunks_size}
+use Rattle.prolly_chunk.specs.Missing.{chunks_size}
 use Rattle.prolly_check.proofs.CheckedFile.{few_bytes}
 use Rattle.prolly_check.proofs.file.CheckedFile.chunks.Goals as goal
 

@@ -1,10 +1,10 @@
 use Rattle.std.proofs.Common.{All, subst}
 use Rattle.prolly_entry.specs.Byte.{IsByte}
-use Rattle.prolly_check.specs.FileWays.{nth_chunk}
-use Rattle.prolly_check.specs.Kinds.{kind_of}
-use Rattle.prolly_check.specs.Sought.{sought_of}
-use Rattle.prolly_check.specs.lemmas.Ways.{child_leads}
-use Rattle.prolly_check.proofs.HeldPairs.{some_byte}
+use Rattle.prolly_look_up.specs.Content.{nth_chunk}
+use Rattle.prolly_look_up.specs.Kinds.{kind_of}
+use Rattle.prolly_look_up.specs.Sought.{sought_of}
+use Rattle.prolly_look_up.specs.lemmas.Ways.{child_leads}
+use Rattle.prolly_look_up.specs.lemmas.HeldPairs.{some_byte}
 use Rattle.prolly_check.proofs.FileDescents.{is_ordered, is_there_below, named_at, next_is}
 use Rattle.prolly_check.proofs.look_up.descent.below.Goals as goal
 

@@ -1,6 +1,6 @@
 use Rattle.std.proofs.Common.{arith, [], ◌∷◌, ◌++◌}
-use Rattle.prolly_check.specs.FileWays.{nth_chunk}
-use Rattle.prolly_check.specs.Sought.{sought_of}
+use Rattle.prolly_look_up.specs.Content.{nth_chunk}
+use Rattle.prolly_look_up.specs.Sought.{sought_of}
 use Rattle.prolly_check.proofs.FileDescents.{way_begins, way_ends, way_goes_on}
 use Rattle.prolly_check.proofs.look_up.descent.descend.Goals as goal
 

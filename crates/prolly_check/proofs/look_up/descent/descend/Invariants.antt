@@ -1,6 +1,6 @@
-use Rattle.prolly_check.specs.FileWays.{nth_chunk}
-use Rattle.prolly_check.specs.Sought.{sought_of}
-use Rattle.prolly_check.specs.Way.{level_of}
+use Rattle.prolly_look_up.specs.Content.{nth_chunk}
+use Rattle.prolly_look_up.specs.Sought.{sought_of}
+use Rattle.prolly_look_up.specs.Way.{level_of}
 use Rattle.prolly_check.proofs.FileDescents.{IsOnWay}
 use Rattle.prolly_check.proofs.look_up.descent.descend.Given as goal
 

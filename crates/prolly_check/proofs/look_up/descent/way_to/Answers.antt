@@ -1,8 +1,8 @@
 use Rattle.std.proofs.Common.{map, refl, sym}
 use Rattle.prolly_entry.specs.Reference.{reference_of}
-use Rattle.prolly_check.specs.FileWays.{nth_chunk}
-use Rattle.prolly_check.specs.Sought.{sought_of}
-use Rattle.prolly_check.specs.Sought.Sought.{Key}
+use Rattle.prolly_look_up.specs.Content.{nth_chunk}
+use Rattle.prolly_look_up.specs.Sought.{sought_of}
+use Rattle.prolly_look_up.specs.Sought.Sought.{Key}
 use Rattle.prolly_check.proofs.FileDescents.{end_tells, pushed, way_begins, way_ends, way_goes_on}
 use Rattle.prolly_check.proofs.look_up.descent.way_to.Goals as goal
 

@@ -1,8 +1,8 @@
 use Rattle.std.proofs.Common.{map}
-use Rattle.prolly_check.specs.FileWays.{nth_chunk}
-use Rattle.prolly_check.specs.Sought.{sought_of}
-use Rattle.prolly_check.specs.Sought.Sought.{Key}
-use Rattle.prolly_check.specs.Way.{level_of}
+use Rattle.prolly_look_up.specs.Content.{nth_chunk}
+use Rattle.prolly_look_up.specs.Sought.{sought_of}
+use Rattle.prolly_look_up.specs.Sought.Sought.{Key}
+use Rattle.prolly_look_up.specs.Way.{level_of}
 use Rattle.prolly_check.proofs.FileDescents.{OnWay}
 use Rattle.prolly_check.proofs.look_up.descent.way_to.Given as goal
 

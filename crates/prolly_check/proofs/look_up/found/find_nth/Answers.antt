@@ -1,7 +1,7 @@
 use Rattle.std.proofs.Common.{ap, ◌∙◌}
-use Rattle.prolly_check.specs.Sought.{sought_of}
-use Rattle.prolly_check.specs.Sought.Sought.{Number}
-use Rattle.prolly_check.specs.Way.{nth_sought}
+use Rattle.prolly_look_up.specs.Sought.{sought_of}
+use Rattle.prolly_look_up.specs.Sought.Sought.{Number}
+use Rattle.prolly_look_up.specs.Way.{nth_sought}
 use Rattle.prolly_check.proofs.FileDescents.{end_tells}
 use Rattle.prolly_check.proofs.look_up.found.find_nth.Goals as goal
 

@@ -1,6 +1,6 @@
 use Rattle.std.proofs.Common.{ap, ◌∙◌}
 use Rattle.prolly_tree.specs.LookUp.{find}
-use Rattle.prolly_check.specs.Sought.Sought.{Key}
+use Rattle.prolly_look_up.specs.Sought.Sought.{Key}
 use Rattle.prolly_check.proofs.FileDescents.{end_tells}
 use Rattle.prolly_check.proofs.look_up.found.find_value.Goals as goal
 

@@ -1,6 +1,6 @@
 use Rattle.std.proofs.Common.{arith}
 use Rattle.std.proofs.lemmas.Grind.{common_steps}
-use Rattle.prolly_check.proofs.PairsFrom.{copied_on}
+use Rattle.prolly_look_up.specs.lemmas.PairsFrom.{copied_on}
 use Rattle.prolly_check.proofs.look_up.scan.scan_pairs.Goals as goal
 
 pub loop-leaf-preserved : goal.loop-leaf-preserved

@@ -1,5 +1,5 @@
 use Rattle.std.proofs.Common.{length}
-use Rattle.prolly_check.proofs.PairsFrom.{IsCopiedTo}
+use Rattle.prolly_look_up.specs.lemmas.PairsFrom.{IsCopiedTo}
 use Rattle.prolly_check.proofs.look_up.scan.scan_pairs.Given as goal
 
 abbrev pub invariant-loop-leaf : goal.invariant-loop-leaf

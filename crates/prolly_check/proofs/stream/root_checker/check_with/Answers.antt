@@ -1,6 +1,6 @@
 use Rattle.std.proofs.Common.{rules, ◌≡◌, ◌≤◌, ◌++◌, length, refl, sym, ◌∙◌}
 use Rattle.std.proofs.lemmas.Result.{err_from_is_err_and}
-use Rattle.prolly_check.proofs.CheckedFile.{equal, unequal}
+use Rattle.prolly_look_up.specs.lemmas.SameBytes.{equal, unequal}
 use Rattle.prolly_check.proofs.MapFiles.{good_body, refused_body}
 use Rattle.prolly_check.proofs.Sources.{header_other, read_on, read_other, read_told, stream_failed}
 use Rattle.prolly_check.specs.declared.stream.fault.StreamFault.TheVariants as stream

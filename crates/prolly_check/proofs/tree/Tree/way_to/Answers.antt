@@ -2,8 +2,8 @@ use Rattle.std.proofs.Common.{map, subst}
 use Rattle.std.proofs.lemmas.Result.{IfOk-weaker}
 use Rattle.prolly_entry.specs.Reference.{reference_of}
 use Rattle.prolly_tree.specs.LookUp.{find}
-use Rattle.prolly_check.specs.Content.{root_bytes}
-use Rattle.prolly_check.specs.Way.{IsWay}
+use Rattle.prolly_look_up.specs.Content.{root_bytes}
+use Rattle.prolly_look_up.specs.Way.{IsWay}
 use Rattle.prolly_check.proofs.tree.Tree.way_to.Goals as goal
 
 pub returns : goal.returns

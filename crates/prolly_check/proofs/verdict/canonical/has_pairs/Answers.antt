@@ -1,5 +1,5 @@
 use Rattle.std.proofs.Common.{[], arith, get_or, sym, ◌∙◌}
-use Rattle.prolly_check.specs.HeldPairs.{pairs_held}
+use Rattle.prolly_look_up.specs.HeldPairs.{pairs_held}
 use Rattle.prolly_check.proofs.Canonical.{held_from}
 use Rattle.prolly_check.proofs.FollowerSteps.{some_there}
 use Rattle.prolly_check.proofs.verdict.canonical.has_pairs.Goals as goal

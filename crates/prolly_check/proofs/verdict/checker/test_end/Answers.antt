@@ -1,5 +1,6 @@
 use Rattle.std.proofs.Common.{arith}
-use Rattle.prolly_check.proofs.CheckedFile.{ends_so, equal, unequal}
+use Rattle.prolly_check.proofs.CheckedFile.{ends_so}
+use Rattle.prolly_look_up.specs.lemmas.SameBytes.{equal, unequal}
 use Rattle.prolly_check.proofs.verdict.checker.test_end.Goals as goal
 
 pub returns-then-ne-clause-err : goal.returns-then-ne-clause-err

@@ -1,6 +1,6 @@
 use Rattle.std.proofs.lemmas.Result.{on_ok_weaker}
 use Rattle.prolly_check.specs.Follower.{ClosedPasses}
-use Rattle.prolly_check.specs.HeldPairs.{bytes_in}
+use Rattle.prolly_look_up.specs.HeldPairs.{bytes_in}
 use Rattle.prolly_check.proofs.Followed.{one_above}
 use Rattle.prolly_check.proofs.verdict.levels.+pass_on.Goals as goal
 

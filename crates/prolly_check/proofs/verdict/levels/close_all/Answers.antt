@@ -1,7 +1,7 @@
 use Rattle.std.proofs.Common.{◌≡◌, ◌∷◌, ap, arith, length, subst, sym, ◌∙◌}
 use Rattle.std.proofs.lemmas.List.{with_items_is}
 use Rattle.prolly_check.specs.Follower.{ClosesAll}
-use Rattle.prolly_check.specs.HeldPairs.{bytes_in}
+use Rattle.prolly_look_up.specs.HeldPairs.{bytes_in}
 use Rattle.prolly_check.proofs.Followed.{one_closed}
 use Rattle.prolly_check.proofs.OpenLevels.{taken_out}
 use Rattle.prolly_check.proofs.verdict.levels.close_all.Goals as goal

@@ -1,6 +1,6 @@
 use Rattle.std.proofs.Common.{ℕ, List, vec_len}
 use Rattle.prolly_check.specs.Follower.{ClosesAll}
-use Rattle.prolly_check.specs.HeldPairs.{bytes_in}
+use Rattle.prolly_look_up.specs.HeldPairs.{bytes_in}
 use Rattle.prolly_check.proofs.verdict.levels.close_all.Given as goal
 
 abbrev pub invariant-loop-alloc : goal.invariant-loop-alloc

@@ -1,7 +1,7 @@
 use Rattle.std.proofs.Common.{ap, length, sym, ◌∙◌, ◌≡◌}
 use Rattle.std.proofs.lemmas.List.{with_items_is}
 use Rattle.std.proofs.lemmas.Result.{on_ok_weaker}
-use Rattle.prolly_check.specs.HeldPairs.{bytes_in}
+use Rattle.prolly_look_up.specs.HeldPairs.{bytes_in}
 use Rattle.prolly_check.proofs.Followed.{closes_empty, closes_leaves}
 use Rattle.prolly_check.proofs.verdict.levels.close_behind.Goals as goal
 

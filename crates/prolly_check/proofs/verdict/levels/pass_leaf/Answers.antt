@@ -1,7 +1,7 @@
 use Rattle.std.proofs.Common.{◌∷◌, [], ap}
 use Rattle.std.proofs.lemmas.Result.{on_ok_weaker}
 use Rattle.prolly_check.specs.Follower.{ClosedPasses}
-use Rattle.prolly_check.specs.HeldPairs.{bytes_in}
+use Rattle.prolly_look_up.specs.HeldPairs.{bytes_in}
 use Rattle.prolly_check.proofs.Followed.{one_above, passes_behind}
 use Rattle.prolly_check.proofs.verdict.levels.pass_leaf.Goals as goal
 

@@ -1,8 +1,8 @@
 use Rattle.std.proofs.Common.{length, arith, sym, ap, ◌∙◌}
 use Rattle.prolly_entry.specs.Pair.{Pair}
 use Rattle.prolly_tree.specs.Tree.{last_key}
-use Rattle.prolly_check.proofs.EntryLists.{at_end, key_at_end, none_behind, one_behind}
-use Rattle.prolly_check.proofs.entries.Pairs.last_key.Goals as goal
+use Rattle.prolly_look_up.specs.lemmas.EntryLists.{at_end, key_at_end, none_behind, one_behind}
+use Rattle.prolly_look_up.proofs.entries.Pairs.last_key.Goals as goal
 
 pub loop-key-init : goal.loop-key-init
 loop-key-init c =

@@ -1,7 +1,7 @@
 use Rattle.std.proofs.Common.{◌≡◌, ◌<◌, ◌≤◌, length}
 use Rattle.prolly_tree.specs.Tree.{last_key}
-use Rattle.prolly_check.proofs.EntryLists.{key_at_end}
-use Rattle.prolly_check.proofs.entries.Pairs.last_key.Given as goal
+use Rattle.prolly_look_up.specs.lemmas.EntryLists.{key_at_end}
+use Rattle.prolly_look_up.proofs.entries.Pairs.last_key.Given as goal
 
 abbrev pub invariant-loop-key : goal.invariant-loop-key
 invariant-loop-key l = record {

@@ -1,6 +1,6 @@
 use Rattle.std.proofs.Common.{rules, arith, sym, ◌∙◌}
-use Rattle.prolly_check.proofs.EntryLists.{next_pair, no_next, leaf_less, spelling_is}
-use Rattle.prolly_check.proofs.entries.Pairs.next_spelling.Goals as goal
+use Rattle.prolly_look_up.specs.lemmas.EntryLists.{next_pair, no_next, leaf_less, spelling_is}
+use Rattle.prolly_look_up.proofs.entries.Pairs.next_spelling.Goals as goal
 
 pub invariant_of-self : goal.invariant_of-self
 invariant_of-self c = leaf_less c.self.inside.entries.now c.in_ok-rest.rest.now _

@@ -1,7 +1,7 @@
 use Rattle.std.proofs.Common.{◌≡◌, ◌<◌, ◌∙◌, Some, drop, map, rules, subst}
 use Rattle.std.proofs.lemmas.Result.{IfOk-weaker}
-use Rattle.prolly_check.specs.Entries.{children_in}
-use Rattle.prolly_check.specs.Way.{level_of}
+use Rattle.prolly_look_up.specs.Entries.{children_in}
+use Rattle.prolly_look_up.specs.Way.{level_of}
 use Rattle.prolly_range.specs.Children.{met_of, seen_met}
 use Rattle.prolly_range.specs.KeySet.{met_in, set_of}
 use Rattle.prolly_range.proofs.Below.{behind_first, below_node}

@@ -1,6 +1,6 @@
 use Rattle.std.proofs.Common.{Ok}
 use Rattle.std.specs.List.{AllByRecursion}
-use Rattle.prolly_check.specs.Content.{Content}
+use Rattle.prolly_look_up.specs.Content.{Content}
 use Rattle.prolly_root.specs.ReadAhead.{IsPartOf, file_of}
 use Rattle.prolly_root.specs.Walk.{HasRead, HoldsFile}
 use Rattle.prolly_root.proofs.file.fetched.fetch_in_order.Given as goal

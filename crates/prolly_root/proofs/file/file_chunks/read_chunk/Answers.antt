@@ -1,6 +1,6 @@
 use Rattle.std.proofs.Common.{◌≡◌, length, ap, arith}
 use Rattle.std.proofs.lemmas.List.{length-take-le}
-use Rattle.prolly_check.specs.FileWays.{nth_chunk}
+use Rattle.prolly_look_up.specs.Content.{nth_chunk}
 use Rattle.prolly_root.proofs.Subtrees.{chunk_there, read_whole}
 use Rattle.prolly_root.proofs.file.file_chunks.read_chunk.Goals as goal
 

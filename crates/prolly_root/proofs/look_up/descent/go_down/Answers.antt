@@ -1,7 +1,7 @@
 use Rattle.std.proofs.Common.{Err, Ok, [], ◌∷◌, ◌++◌, inl, refl, sym, subst, ◌∙◌, ap}
 use Rattle.std.specs.List.{AllByRecursion}
-use Rattle.prolly_check.specs.Sought.{sought_of}
-use Rattle.prolly_check.specs.Way.{IsNamed}
+use Rattle.prolly_look_up.specs.Sought.{sought_of}
+use Rattle.prolly_look_up.specs.Way.{IsNamed}
 use Rattle.prolly_entry.specs.lemmas.Lists.{all_append}
 use Rattle.prolly_root.specs.Descent.{IsOnward, IsTested, StandsInPlace, StepsDown, chunks_on_way}
 use Rattle.prolly_root.specs.declared.root_fault.RootFault.TheVariants.{Memory}

@@ -1,8 +1,8 @@
 use Rattle.std.proofs.Common.{◌≡◌, Ok}
 use Rattle.std.specs.List.{AllByRecursion}
 use Rattle.std.specs.Vec.Iter.{into_iter_items}
-use Rattle.prolly_check.specs.Content.{Content}
-use Rattle.prolly_check.specs.Sought.{sought_of}
+use Rattle.prolly_look_up.specs.Content.{Content}
+use Rattle.prolly_look_up.specs.Sought.{sought_of}
 use Rattle.prolly_root.specs.ChunkSource.{HasAsked}
 use Rattle.prolly_root.specs.Descent.{IsTested, StandsAt, StandsInPlace, chunks_on_way}
 use Rattle.prolly_root.proofs.Descending.{Descended, GoesOnLawful, room_below}

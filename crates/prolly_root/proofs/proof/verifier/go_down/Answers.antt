@@ -3,8 +3,8 @@ use Rattle.std.proofs.lemmas.Bool.{false≢true}
 use Rattle.std.proofs.lemmas.Bool.Decides.{Decides-eqb}
 use Rattle.std.proofs.lemmas.List.{nil_from_length}
 use Rattle.prolly_tree.specs.LookUp.{find}
-use Rattle.prolly_check.specs.Sought.{sought_of}
-use Rattle.prolly_check.specs.Step.{IsStep}
+use Rattle.prolly_look_up.specs.Sought.{sought_of}
+use Rattle.prolly_look_up.specs.Step.{IsStep}
 use Rattle.prolly_root.specs.ProofFile.{IsProof, proof_start}
 use Rattle.prolly_root.proofs.Passing.{ends_here, goes_on, has_more}
 use Rattle.prolly_root.proofs.proof.verifier.go_down.Goals as goal

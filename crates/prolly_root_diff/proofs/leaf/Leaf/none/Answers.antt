@@ -1,4 +1,4 @@
-use Rattle.prolly_check.specs.Entries.{pairs_in}
+use Rattle.prolly_look_up.specs.Entries.{pairs_in}
 use Rattle.std.proofs.Common.{drop, ap}
 use Rattle.prolly_root_diff.proofs.leaf.Leaf.none.Goals as goal
 

@@ -1,6 +1,6 @@
 use Rattle.std.proofs.Common.{◌≡◌, ap, sym, ◌∙◌, rules, refl, map, drop, length, take, ◌-◌, arith}
 use Rattle.std.proofs.lemmas.List.{length-drop, length-map, take_all}
-use Rattle.prolly_check.specs.Entries.{children_in}
+use Rattle.prolly_look_up.specs.Entries.{children_in}
 use Rattle.prolly_root_diff.proofs.siblings.Siblings.below.Goals as goal
 
 pub returns : goal.returns

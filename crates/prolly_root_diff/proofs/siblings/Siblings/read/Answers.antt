@@ -1,5 +1,5 @@
 use Rattle.std.proofs.Common.{ap, rules, subst, ◌∙◌}
-use Rattle.prolly_check.specs.Way.{FallsTo}
+use Rattle.prolly_look_up.specs.Way.{FallsTo}
 use Rattle.prolly_root.specs.RootFault.{MayFail}
 use Rattle.prolly_root_diff.proofs.Subtrees.{same_level, stands_below}
 use Rattle.prolly_root_diff.proofs.siblings.Siblings.read.Goals as goal

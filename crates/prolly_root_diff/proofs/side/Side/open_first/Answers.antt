@@ -1,5 +1,5 @@
 use Rattle.std.proofs.Common.{◌≡◌, ◌<◌, ap, length, refl, rules, sym, ◌∙◌}
-use Rattle.prolly_check.specs.Way.{level_of}
+use Rattle.prolly_look_up.specs.Way.{level_of}
 use Rattle.prolly_root_diff.specs.Left.{opened}
 use Rattle.prolly_root_diff.proofs.Subtrees.{node_pairs, reads_so}
 use Rattle.prolly_root_diff.proofs.side.Side.open_first.Goals as goal

@@ -3,13 +3,13 @@ use Rattle.std.specs.List.{flat_map}
 use Rattle.std.proofs.lemmas.Bool.{false≢true}
 use Rattle.std.proofs.lemmas.Bool.Decides.{Decides-eqb}
 use Rattle.std.proofs.lemmas.List.{nil_from_length}
-use Rattle.prolly_check.specs.Chunks.{chunks_of}
-use Rattle.prolly_check.specs.HeldPairs.{pairs_held}
-use Rattle.prolly_check.specs.Leaves.{pairs_from}
-use Rattle.prolly_check.specs.ScanWay.{AreFirstFrom}
-use Rattle.prolly_check.specs.Sought.Sought.{Key}
-use Rattle.prolly_check.specs.Way.{IsOrdered}
-use Rattle.prolly_check.specs.lemmas.PairLists.{none_left}
+use Rattle.prolly_look_up.specs.Content.{chunks_of}
+use Rattle.prolly_look_up.specs.HeldPairs.{pairs_held}
+use Rattle.prolly_look_up.specs.Leaves.{pairs_from}
+use Rattle.prolly_look_up.specs.ScanWay.{AreFirstFrom}
+use Rattle.prolly_look_up.specs.Sought.Sought.{Key}
+use Rattle.prolly_look_up.specs.Way.{IsOrdered}
+use Rattle.prolly_look_up.specs.lemmas.PairLists.{none_left}
 use Rattle.prolly_check.proofs.FileDescents.{end_tells}
 use Rattle.prolly_check.proofs.LeafRests.{from_leaf, from_none}
 use Rattle.prolly_check.proofs.look_up.leaves.Leaves.from_key.Goals.{then-is_empty, else-is_empty}

@@ -2,9 +2,9 @@ use Rattle.std.proofs.Common.{◌==◌, ◌++◌, ◌∙◌, ap, arith, drop, le
 use Rattle.std.specs.List.{flat_map}
 use Rattle.std.proofs.lemmas.Bool.{false≢true}
 use Rattle.std.proofs.lemmas.List.{drop_all}
-use Rattle.prolly_check.specs.Chunks.{chunks_of}
-use Rattle.prolly_check.specs.HeldPairs.{pairs_held}
-use Rattle.prolly_check.proofs.EntryLists.{no_pairs}
+use Rattle.prolly_look_up.specs.Content.{chunks_of}
+use Rattle.prolly_look_up.specs.HeldPairs.{pairs_held}
+use Rattle.prolly_look_up.specs.lemmas.EntryLists.{no_pairs}
 use Rattle.prolly_check.proofs.look_up.leaves.Leaves.next.Goals.{then-loop-self-test+else-self-len}
 use Rattle.prolly_check.proofs.look_up.leaves.Leaves.next.Goals.{else-loop-self-test}
 use Rattle.prolly_check.proofs.look_up.leaves.Leaves.next.Goals as goal

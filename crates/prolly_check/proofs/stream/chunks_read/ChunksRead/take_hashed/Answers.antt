@@ -6,7 +6,7 @@ use Rattle.prolly_check.specs.ChunksRead.{AreRead}
 use Rattle.prolly_check.specs.Frames.{chunk_in, chunks_in}
 use Rattle.prolly_check.proofs.ChunkSteps.{few_before, few_next, few_part, flaw_next, next_is}
 use Rattle.prolly_check.proofs.DigestLists.{digests_whole}
-use Rattle.prolly_check.proofs.HeldPairs.{each_whole}
+use Rattle.prolly_look_up.specs.lemmas.HeldPairs.{each_whole}
 use Rattle.prolly_check.proofs.stream.chunks_read.ChunksRead.take_hashed.Goals as goal
 
 pub returns-in_err-take_one-clause-over : goal.returns-in_err-take_one-clause-over

@@ -3,8 +3,9 @@ use Rattle.std.proofs.Math.Logic.{⊎_map}
 use Rattle.std.proofs.lemmas.Result.{err_from_is_err_and}
 use Rattle.prolly_entry.specs.Overlay.{or_else}
 use Rattle.prolly_check.specs.FirstFlaw.{end_flaw}
-use Rattle.prolly_check.proofs.CheckedFile.{equal, unequal}
-use Rattle.prolly_check.proofs.ChunkSteps.{ends_as_difference, none_differs, is_bad, is_cut, is_right}
+use Rattle.prolly_look_up.specs.lemmas.SameBytes.{equal, unequal}
+use Rattle.prolly_check.proofs.ChunkSteps.{ends_as_difference, none_differs, is_bad, is_cut}
+use Rattle.prolly_check.proofs.ChunkSteps.{is_right}
 use Rattle.prolly_check.proofs.ChunkSteps.{is_trailing, record_is, root_is, taken_record}
 use Rattle.prolly_check.proofs.stream.chunks_read.ChunksRead.test_end_record.Goals as goal
 

@@ -2,7 +2,7 @@ use Rattle.std.proofs.Common.{◌<◌, ◌∙◌, [], ap, arith, length, sym}
 use Rattle.std.proofs.lemmas.List.{get_or-map, length-map}
 use Rattle.prolly_entry.specs.Reference.{reference_of}
 use Rattle.prolly_check.specs.Frames.{chunk_in, chunks_in}
-use Rattle.prolly_check.proofs.CheckedFile.{equal}
+use Rattle.prolly_look_up.specs.lemmas.SameBytes.{equal}
 use Rattle.prolly_check.proofs.verdict.chunks_ahead.ChunksAhead.reference_of.Goals as goal
 
 pub returns : goal.returns

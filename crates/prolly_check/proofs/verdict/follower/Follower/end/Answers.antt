@@ -1,7 +1,7 @@
 use Rattle.std.proofs.Common.{◌≡◌, Some, ap, arith, length, refl, sym, ◌∙◌}
 use Rattle.std.proofs.lemmas.List.{nil_from_length, with_items_is}
 use Rattle.prolly_entry.specs.Cut.{sha512_cut}
-use Rattle.prolly_check.specs.HeldPairs.{bytes_in, pairs_held}
+use Rattle.prolly_look_up.specs.HeldPairs.{bytes_in, pairs_held}
 use Rattle.prolly_check.proofs.FollowerSteps.{all_behind, expected_first, leaf_closes, leaf_ends}
 use Rattle.prolly_check.proofs.NextLeaf.{open_not_whole}
 use Rattle.prolly_check.proofs.verdict.follower.Follower.end.Goals as goal

@@ -2,7 +2,7 @@ use Rattle.std.proofs.Common.{◌≡◌, ap, inr, length, sym, ◌∙◌, true}
 use Rattle.std.proofs.lemmas.List.{with_items_is}
 use Rattle.prolly_entry.specs.Cut.{sha512_cut}
 use Rattle.prolly_chunk.specs.LeafLevel.{is_whole_leaf}
-use Rattle.prolly_check.specs.HeldPairs.{pairs_held}
+use Rattle.prolly_look_up.specs.HeldPairs.{pairs_held}
 use Rattle.prolly_check.proofs.FollowerSteps.{leaf_is_cut, leaf_taken, some_held}
 use Rattle.prolly_check.proofs.verdict.follower.Follower.go_on.Goals as goal
 

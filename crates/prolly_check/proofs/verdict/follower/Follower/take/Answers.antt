@@ -1,6 +1,6 @@
 use Rattle.std.proofs.Common.{rules, ◌≡◌, [], ap, arith, inr, length}
 use Rattle.std.proofs.lemmas.List.{nil_from_length}
-use Rattle.prolly_check.specs.HeldPairs.{pairs_held}
+use Rattle.prolly_look_up.specs.HeldPairs.{pairs_held}
 use Rattle.prolly_check.proofs.FollowerSteps.{expected_ending, expected_going, leaf_behind_end}
 use Rattle.prolly_check.proofs.verdict.follower.Follower.take.Goals as goal
 

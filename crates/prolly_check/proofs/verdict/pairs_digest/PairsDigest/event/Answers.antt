@@ -2,8 +2,8 @@ use Rattle.std.proofs.Common.{◌≡◌, ◌∙◌, ℕ, List, Option, Some, Non
 use Rattle.std.specs.Option.{option_copied, unwrap_or}
 use Rattle.prolly_tree.specs.Tree.{last_key}
 use Rattle.prolly_tree.specs.lemmas.Maps.{last_key_short}
-use Rattle.prolly_check.specs.HeldPairs.{pairs_held}
-use Rattle.prolly_check.proofs.CheckedFile.{leaf_event_is}
+use Rattle.prolly_look_up.specs.HeldPairs.{pairs_held}
+use Rattle.prolly_look_up.specs.lemmas.LeafEvents.{leaf_event_is}
 use Rattle.prolly_check.proofs.FollowerSteps.{held_lawful}
 use Rattle.prolly_check.proofs.PairCounts.{last_some}
 use Rattle.prolly_check.proofs.verdict.pairs_digest.PairsDigest.event.Goals as goal

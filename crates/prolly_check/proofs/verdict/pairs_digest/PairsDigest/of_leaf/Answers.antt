@@ -1,11 +1,12 @@
 use Rattle.std.proofs.Common.{Some, length, arith, ap, sym, ◌∙◌}
 use Rattle.std.proofs.Math.Bool.{and-true}
 use Rattle.std.proofs.lemmas.List.{nil_from_length}
-use Rattle.prolly_check.proofs.EntryLists.{leaf_apart, shorter, spelling_is}
+use Rattle.prolly_look_up.specs.lemmas.EntryLists.{leaf_apart, shorter, spelling_is}
 use Rattle.prolly_entry.specs.Pair.{IsPair}
 use Rattle.prolly_entry.specs.Position.{is_before}
 use Rattle.prolly_entry.specs.Spelling.{pair_spelling}
-use Rattle.prolly_check.proofs.PairCounts.{few_read, read_begins, read_leaf, read_more, read_none, read_tells}
+use Rattle.prolly_check.proofs.PairCounts.{few_read, read_begins, read_leaf, read_more, read_none}
+use Rattle.prolly_check.proofs.PairCounts.{read_tells}
 use Rattle.prolly_check.proofs.verdict.pairs_digest.PairsDigest.of_leaf.Goals as goal
 
 pub loop-key-init : goal.loop-key-init

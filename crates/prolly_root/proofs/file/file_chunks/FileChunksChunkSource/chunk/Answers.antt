@@ -1,5 +1,5 @@
 use Rattle.std.proofs.Common.{◌∙◌, subst, rules}
-use Rattle.prolly_check.specs.Verdict.{IsFileOf}
+use Rattle.prolly_look_up.specs.Content.{IsFileOf}
 use Rattle.prolly_root.specs.ReadAhead.{file_of}
 use Rattle.prolly_root.specs.Walk.{HoldsFile}
 use Rattle.prolly_root.proofs.Subtrees.{chunk_is, frame_there}

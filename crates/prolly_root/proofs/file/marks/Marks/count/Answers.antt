@@ -1,5 +1,5 @@
 use Rattle.std.proofs.Common.{◌≡◌, ◌+◌, ◌<◌, set, arith, sym, subst}
-use Rattle.prolly_check.specs.Content.{Content}
+use Rattle.prolly_look_up.specs.Content.{Content}
 use Rattle.prolly_root.specs.Marks.{AreRuns, IsRun}
 use Rattle.prolly_root.specs.Walk.{IsFrame}
 use Rattle.prolly_root.proofs.Marking.{Begun, all_begun, all_counted, fresh, one_behind}

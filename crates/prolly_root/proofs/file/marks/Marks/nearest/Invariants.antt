@@ -1,5 +1,5 @@
 use Rattle.std.proofs.Common.{◌≤◌}
-use Rattle.prolly_check.specs.Content.{Content}
+use Rattle.prolly_look_up.specs.Content.{Content}
 use Rattle.prolly_root.specs.Marks.{AreMarks}
 use Rattle.prolly_root.specs.Walk.{IsBehind, IsWalk}
 use Rattle.prolly_root.proofs.file.marks.Marks.nearest.Given as goal

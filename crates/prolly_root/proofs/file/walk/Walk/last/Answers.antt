@@ -1,5 +1,5 @@
 use Rattle.std.proofs.Common.{◌≡◌, length, Ok, refl, arith, subst}
-use Rattle.prolly_check.specs.Chunks.{chunks_of}
+use Rattle.prolly_look_up.specs.Content.{chunks_of}
 use Rattle.prolly_root.specs.Walk.{GoesOver}
 use Rattle.prolly_root.proofs.Walking.{CameTo, holds_still, some_chunk}
 use Rattle.prolly_root.proofs.file.walk.Walk.last.Goals as goal

@@ -1,5 +1,5 @@
 use Rattle.std.proofs.Common.{◌-◌, Ok}
-use Rattle.prolly_check.specs.Content.{Content}
+use Rattle.prolly_look_up.specs.Content.{Content}
 use Rattle.prolly_root.specs.Marks.{AreMarks, AreRuns}
 use Rattle.prolly_root.specs.Walk.{HasRead, HoldsFile, IsWalk}
 use Rattle.prolly_root.proofs.Walking.{CameTo}

@@ -1,5 +1,5 @@
 use Rattle.std.proofs.Common.{◌≤◌, ◌-◌, Ok}
-use Rattle.prolly_check.specs.Content.{Content}
+use Rattle.prolly_look_up.specs.Content.{Content}
 use Rattle.prolly_root.specs.Walk.{HasRead, HoldsFile, IsWalk, NoneBetween}
 use Rattle.prolly_root.proofs.file.walk.Walk.next_of_level.Given as goal
 

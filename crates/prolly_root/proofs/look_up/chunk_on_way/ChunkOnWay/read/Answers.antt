@@ -1,5 +1,5 @@
 use Rattle.std.proofs.Common.{rules}
-use Rattle.prolly_check.specs.lemmas.PairLists.{none_left}
+use Rattle.prolly_look_up.specs.lemmas.PairLists.{none_left}
 use Rattle.prolly_root.specs.RootFault.{MayFail}
 use Rattle.prolly_root.proofs.look_up.chunk_on_way.ChunkOnWay.read.Goals as goal
 

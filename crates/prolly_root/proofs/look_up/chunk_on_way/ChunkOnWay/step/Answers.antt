@@ -1,5 +1,5 @@
 use Rattle.std.proofs.Common.{Ok, Err, refl, rules}
-use Rattle.prolly_check.specs.Sought.{sought_of}
+use Rattle.prolly_look_up.specs.Sought.{sought_of}
 use Rattle.prolly_root.proofs.LawfulSteps.{level_read, steps_down}
 use Rattle.prolly_root.proofs.look_up.chunk_on_way.ChunkOnWay.step.Goals as goal
 

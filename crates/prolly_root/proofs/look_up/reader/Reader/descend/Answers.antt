@@ -1,5 +1,5 @@
 use Rattle.std.proofs.Common.{ap, rules, subst, sym}
-use Rattle.prolly_check.specs.Sought.{sought_of}
+use Rattle.prolly_look_up.specs.Sought.{sought_of}
 use Rattle.prolly_root.specs.Descent.{IsWayDown, chunks_on_way}
 use Rattle.prolly_root.specs.Reader.{IsReaderOf}
 use Rattle.prolly_root.proofs.Descending.{look_up_fails}

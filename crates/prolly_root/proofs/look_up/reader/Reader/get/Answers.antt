@@ -1,6 +1,6 @@
 use Rattle.std.proofs.Common.{ap, option_map, take, ◌∙◌}
-use Rattle.prolly_check.specs.Way.{IsWay}
-use Rattle.prolly_check.specs.lemmas.Held.{held_rise}
+use Rattle.prolly_look_up.specs.Way.{IsWay}
+use Rattle.prolly_look_up.specs.lemmas.HeldPairs.{held_rise}
 use Rattle.prolly_tree.specs.LookUp.{find}
 use Rattle.prolly_tree.specs.lemmas.Maps.{rises}
 use Rattle.prolly_root.proofs.Descending.{find_from, finds, hands_on, looks_up_so, some_way}

@@ -1,8 +1,8 @@
 use Rattle.std.proofs.Common.{◌≡◌, ap, subst, sym, ◌∙◌}
-use Rattle.prolly_check.specs.HeldPairs.{pairs_held}
-use Rattle.prolly_check.specs.Sought.{sought_of}
-use Rattle.prolly_check.specs.Sought.Sought.{Number}
-use Rattle.prolly_check.specs.Way.{IsCountWay, IsWayTo, nth_sought}
+use Rattle.prolly_look_up.specs.HeldPairs.{pairs_held}
+use Rattle.prolly_look_up.specs.Sought.{sought_of}
+use Rattle.prolly_look_up.specs.Sought.Sought.{Number}
+use Rattle.prolly_look_up.specs.Way.{IsCountWay, IsWayTo, nth_sought}
 use Rattle.prolly_root.specs.Reader.{way_of}
 use Rattle.prolly_root.proofs.Descending.{all_from, finds, hands_on, looks_up_so, some_way}
 use Rattle.prolly_root.proofs.look_up.reader.Reader.nth.Goals as goal

@@ -1,5 +1,5 @@
 use Rattle.std.proofs.Common.{ap, refl, ◌∙◌}
-use Rattle.prolly_check.specs.HeldPairs.{pairs_held}
+use Rattle.prolly_look_up.specs.HeldPairs.{pairs_held}
 use Rattle.prolly_root.specs.ProofFile.{IsSomeProof, proof_file}
 use Rattle.prolly_root.specs.Reader.{way_of}
 use Rattle.prolly_tree.specs.LookUp.{find}

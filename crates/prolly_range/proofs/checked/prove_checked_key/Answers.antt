@@ -1,7 +1,7 @@
 use Rattle.std.proofs.Common.{map, ◌∙◌, ap}
 use Rattle.std.proofs.lemmas.Result.{IfOk-weaker}
 use Rattle.prolly_root.specs.ProofFile.{proof_file}
-use Rattle.prolly_root.proofs.proof.prover.prove.Goals as goal
+use Rattle.prolly_range.proofs.checked.prove_checked_key.Goals as goal
 
 pub returns : goal.returns
 returns c =
