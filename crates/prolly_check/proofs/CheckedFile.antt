@@ -108,10 +108,10 @@ only_memory bytes content fault short f (inr v) =
 
 -- ---- its chunks have no more pairs and no more bytes than the file has
 
-pub few_held : (version : Version) (bytes : List ℕ) (spans : List (Range ℕ)) (place : ℕ) →
-    FramesTo bytes 6 spans place → AreWhole version (chunks_in bytes spans) →
+pub few_held : (version : Version) (bytes : List ℕ) (spans : List (Range ℕ)) (offset : ℕ) →
+    FramesTo bytes 6 spans offset → AreWhole version (chunks_in bytes spans) →
     length (flat_map pairs_held (chunks_in bytes spans)) ≤ length bytes
-few_held version bytes spans place frames whole =
+few_held version bytes spans offset frames whole =
     search (rules, few_in_frames, length-append, length-drop)
 
 few_framed : (cs : List (List ℕ)) → chunks_size cs ≤ length (flat_map framed cs)
@@ -152,7 +152,7 @@ number_of (c ∷ cs) reference chunk (inr there) is =
 abbrev pub Refused : List ℕ → CheckFault → Type 0
 Refused bytes fault = UnlessMemory (λ fault. IsVerdict bytes (Err fault)) fault
 
-module _ (bytes : List ℕ) (header : Header) (spans : List (Range ℕ)) (place : ℕ) where
+module _ (bytes : List ℕ) (header : Header) (spans : List (Range ℕ)) (offset : ℕ) where
   abbrev cs : List (List ℕ)
   cs = chunks_in bytes spans
 
@@ -163,10 +163,10 @@ module _ (bytes : List ℕ) (header : Header) (spans : List (Range ℕ)) (place 
 
   module _ (lawful : header_fault header_tests bytes ≡ None)
       (version_is : header.version ≡ version_of (slice_index bytes 4))
-      (bits_are : header.bits ≡ slice_index bytes 5) (frames : FramesTo bytes 6 spans place)
-      (all : has_no_frame (drop place bytes) ≡ true) where
+      (bits_are : header.bits ≡ slice_index bytes 5) (frames : FramesTo bytes 6 spans offset)
+      (all : has_no_frame (drop offset bytes) ≡ true) where
     framed_so : (ending : Result (List ℕ) CheckFault) → ending_of (length spans)
-        (drop place bytes) ≡ ending → IsFramed (drop 6 bytes) cs ending
+        (drop offset bytes) ≡ ending → IsFramed (drop 6 bytes) cs ending
     framed_so ending e = grind (arith, length-map)
 
     verdict_so : (verdict : Result Content CheckFault) →
@@ -174,9 +174,9 @@ module _ (bytes : List ℕ) (header : Header) (spans : List (Range ℕ)) (place 
     verdict_so verdict f = grind arith
 
     -- what follows the frames, as the code has it
-    module _ (rest : List ℕ) (number : ℕ) (left : rest ≡ drop place bytes)
+    module _ (rest : List ℕ) (number : ℕ) (left : rest ≡ drop offset bytes)
         (count : number ≡ length spans) where
-      ending_is : ending_of (length spans) (drop place bytes) ≡ ending_of number rest
+      ending_is : ending_of (length spans) (drop offset bytes) ≡ ending_of number rest
       ending_is = search rules
 
       pub at_ending : (fault : CheckFault) → ending_of number rest ≡ Err fault →
@@ -208,11 +208,11 @@ module _ (bytes : List ℕ) (header : Header) (spans : List (Range ℕ)) (place 
         at_read fault = ⊎_map (λ memory. memory)
             (λ bad. read_so (Err fault) (Err fault) bad refl)
 
-        pub at_entries : AreWhole header.version cs → IsLaidOut bytes header spans place
+        pub at_entries : AreWhole header.version cs → IsLaidOut bytes header spans offset
         at_entries whole = record {
           within = frames.within;
           whole = whole;
-          few = few_held header.version bytes spans place frames whole;
+          few = few_held header.version bytes spans offset frames whole;
           bits = subst (λ n. n ≤ 24) (sym bits_are) (header_ok bytes lawful).bits;
           reached = frames.reached;
           ending = drop 1 rest;
@@ -222,9 +222,9 @@ module _ (bytes : List ℕ) (header : Header) (spans : List (Range ℕ)) (place 
 
   -- ---- the chunks of the pairs, and the references
 
-  module _ (l : IsLaidOut bytes header spans place) (chunks : List (List ℕ)) (are : chunks ≡ cs)
+  module _ (l : IsLaidOut bytes header spans offset) (chunks : List (List ℕ)) (are : chunks ≡ cs)
     where
-      module _ (cut : ℕ) (same : cut ≡ header.bits) (rest : List ℕ) (left : rest ≡ drop place bytes)
+      module _ (cut : ℕ) (same : cut ≡ header.bits) (rest : List ℕ) (left : rest ≡ drop offset bytes)
         where
           abbrev it : Content
           it = record { version = header.version; bits = header.bits; pairs = flat lists }
@@ -267,27 +267,27 @@ module _ (bytes : List ℕ) (header : Header) (spans : List (Range ℕ)) (place 
 
 -- ---- one more frame of a file
 
-pub one_more : (bytes : List ℕ) (from : ℕ) (spans : List (Range ℕ)) (place len : ℕ) →
-    FramesTo bytes from spans place →
-    BeginsFrame (drop place bytes) len →
-    FramesTo bytes from (spans ++ record { start = place + 9; end = place + 9 + len } ∷ []) (place + 9 + len)
-one_more bytes from spans place len f b =
-    let span : Range ℕ = record { start = place + 9; end = place + 9 + len } in
-    let rest = drop place bytes in
-    let long : length rest ≡ length bytes - place = length-drop place bytes in
+pub one_more : (bytes : List ℕ) (from : ℕ) (spans : List (Range ℕ)) (offset len : ℕ) →
+    FramesTo bytes from spans offset →
+    BeginsFrame (drop offset bytes) len →
+    FramesTo bytes from (spans ++ record { start = offset + 9; end = offset + 9 + len } ∷ []) (offset + 9 + len)
+one_more bytes from spans offset len f b =
+    let span : Range ℕ = record { start = offset + 9; end = offset + 9 + len } in
+    let rest = drop offset bytes in
+    let long : length rest ≡ length bytes - offset = length-drop offset bytes in
     let inside : 9 + len ≤ length rest = b.within in
-    let reached : place ≤ length bytes = f.reached in
+    let reached : offset ≤ length bytes = f.reached in
     let chunk : take len (drop 9 rest) ≡ chunk_in bytes span =
-    ap (take len) (drop-drop 9 place bytes) ∙
-    ap (λ n. take n (drop (place + 9) bytes)) (let e : len ≡ place + 9 + len - (place + 9) =
+    ap (take len) (drop-drop 9 offset bytes) ∙
+    ap (λ n. take n (drop (offset + 9) bytes)) (let e : len ≡ offset + 9 + len - (offset + 9) =
     omega arith in e) in
-    let behind : drop (9 + len) rest ≡ drop (place + 9 + len) bytes =
-    drop-drop (9 + len) place bytes ∙ ap (λ n. drop n bytes) (let e : place + (9 + len) ≡ place +
+    let behind : drop (9 + len) rest ≡ drop (offset + 9 + len) bytes =
+    drop-drop (9 + len) offset bytes ∙ ap (λ n. drop n bytes) (let e : offset + (9 + len) ≡ offset +
     9 + len = omega arith in e) in
     let cs = chunks_in bytes spans in
     let short : length (take len (drop 9 rest)) ≡ len =
     length-take-le len (drop 9 rest) (omega (arith, length-drop 9 rest)) in
-    let fits : place + 9 + len ≤ length bytes = omega arith in
+    let fits : offset + 9 + len ≤ length bytes = omega arith in
     record {
       reached = fits;
       spelled = f.spelled ∙ ap (λ x. flat_map framed cs ++ x) b.is ∙

@@ -423,13 +423,13 @@ record_decided bytes rest more e (inr filled) =
 -- ---- the bytes behind a header
 
 -- each frame has bytes
-pub few_spans : (bytes : List ℕ) (spans : List (Range ℕ)) (place : ℕ) →
-    FramesTo bytes 0 spans place → length spans ≤ place
-few_spans bytes spans place f =
+pub few_spans : (bytes : List ℕ) (spans : List (Range ℕ)) (offset : ℕ) →
+    FramesTo bytes 0 spans offset → length spans ≤ offset
+few_spans bytes spans offset f =
     let sum = ap length f.spelled ∙
-    length-append (flat_map framed (chunks_in bytes spans)) (drop place bytes) in
+    length-append (flat_map framed (chunks_in bytes spans)) (drop offset bytes) in
     let reached = f.reached in
-    let rest : length (drop place bytes) ≡ length bytes - place = length-drop place bytes in
+    let rest : length (drop offset bytes) ≡ length bytes - offset = length-drop offset bytes in
     let more = each_framed (chunks_in bytes spans) in
     let same = length-map spans (chunk_in bytes) in
     let all : length (drop 0 bytes) ≡ length bytes = refl in
@@ -443,43 +443,43 @@ few_spans bytes spans place f =
         let one : length (framed c) ≡ 9 + length c =
         length-append (0x43 ∷ to_be_bytes w64 (length c)) c in omega arith
 
-pub no_frame_there : (bytes : List ℕ) (place : ℕ) → FramesTo bytes 0 [] place →
-    has_no_frame (drop place bytes) ≡ true → has_no_frame bytes ≡ true
-no_frame_there bytes place f none = ap has_no_frame f.spelled ∙ none
+pub no_frame_there : (bytes : List ℕ) (offset : ℕ) → FramesTo bytes 0 [] offset →
+    has_no_frame (drop offset bytes) ≡ true → has_no_frame bytes ≡ true
+no_frame_there bytes offset f none = ap has_no_frame f.spelled ∙ none
 
 -- so many bytes the frames have with those at hand
 body_many : (body bytes left : List ℕ) (old : ChunksRead) (size : ℕ) (spans : List (Range ℕ))
-    (place : ℕ) (b : BodyRead body bytes left old size) → FramesTo bytes 0 spans place →
-    length (flat_map framed (b.chunks ++ chunks_in bytes spans)) ≡ size + place
-body_many body bytes left old size spans place b f =
+    (offset : ℕ) (b : BodyRead body bytes left old size) → FramesTo bytes 0 spans offset →
+    length (flat_map framed (b.chunks ++ chunks_in bytes spans)) ≡ size + offset
+body_many body bytes left old size spans offset b f =
     let taken = chunks_in bytes spans in
-    let sum = ap length f.spelled ∙ length-append (flat_map framed taken) (drop place bytes) in
+    let sum = ap length f.spelled ∙ length-append (flat_map framed taken) (drop offset bytes) in
     let reached = f.reached in
-    let rest : length (drop place bytes) ≡ length bytes - place = length-drop place bytes in
-    let here : length (flat_map framed taken) ≡ place = omega arith in
+    let rest : length (drop offset bytes) ≡ length bytes - offset = length-drop offset bytes in
+    let here : length (flat_map framed taken) ≡ offset = omega arith in
     ap length (flat_map-append framed b.chunks taken) ∙
     length-append (flat_map framed b.chunks) (flat_map framed taken) ∙
     ap (λ n. n + length (flat_map framed taken)) b.many ∙ ap (λ n. size + n) here
 
 -- the frames at hand were taken
 pub body_goes_on : (body bytes left : List ℕ) (old new : ChunksRead) (size : ℕ)
-    (spans : List (Range ℕ)) (place : ℕ) → BodyRead body bytes left old size →
-    FramesTo bytes 0 spans place →
+    (spans : List (Range ℕ)) (offset : ℕ) → BodyRead body bytes left old size →
+    FramesTo bytes 0 spans offset →
     ((chunks : List (List ℕ)) → AreRead chunks old →
     length (flat_map framed (chunks ++ chunks_in bytes spans)) < 2 ^ 64 →
-    AreRead (chunks ++ chunks_in bytes spans) new) → size + place < 2 ^ 64 →
-    BodyRead body (drop place bytes) left new (size + place)
-body_goes_on body bytes left old new size spans place b f over fits =
+    AreRead (chunks ++ chunks_in bytes spans) new) → size + offset < 2 ^ 64 →
+    BodyRead body (drop offset bytes) left new (size + offset)
+body_goes_on body bytes left old new size spans offset b f over fits =
     let taken = chunks_in bytes spans in
-    let many = body_many body bytes left old size spans place b f in
+    let many = body_many body bytes left old size spans offset b f in
     record {
       chunks = b.chunks ++ taken;
       spelled = b.spelled ∙ ap (λ bs. flat_map framed b.chunks ++ (bs ++ left)) f.spelled ∙
           ap (λ bs. flat_map framed b.chunks ++ bs)
-          (append_assoc (flat_map framed taken) (drop place bytes) left) ∙
+          (append_assoc (flat_map framed taken) (drop offset bytes) left) ∙
           sym (append_assoc (flat_map framed b.chunks) (flat_map framed taken)
-          (drop place bytes ++ left)) ∙
-          ap (λ bs. bs ++ (drop place bytes ++ left)) (sym (flat_map-append framed b.chunks taken));
+          (drop offset bytes ++ left)) ∙
+          ap (λ bs. bs ++ (drop offset bytes ++ left)) (sym (flat_map-append framed b.chunks taken));
       small = all_append IsSmall b.chunks taken b.small f.small;
       are = over b.chunks b.are (omega (arith, many));
       many = many;
@@ -499,41 +499,41 @@ body_filled body bytes left bytes' left' read size b e = record {
 
 -- the first flaw of the frames at hand is that of all bytes
 pub body_flaw : (body bytes left : List ℕ) (old : ChunksRead) (size : ℕ) (spans : List (Range ℕ))
-    (place : ℕ) (fault : CheckFault) → BodyRead body bytes left old size →
-    FramesTo bytes 0 spans place → size + place < 2 ^ 64 →
+    (offset : ℕ) (fault : CheckFault) → BodyRead body bytes left old size →
+    FramesTo bytes 0 spans offset → size + offset < 2 ^ 64 →
     ((chunks : List (List ℕ)) → AreRead chunks old →
     length (flat_map framed (chunks ++ chunks_in bytes spans)) < 2 ^ 64 →
     UnlessMemory (HasFlaw old chunks (chunks_in bytes spans)) fault) →
     IsBodyFault old.follower.version old.follower.cut body fault
-body_flaw body bytes left old size spans place fault b f fits over =
+body_flaw body bytes left old size spans offset fault b f fits over =
     go (over b.chunks b.are (omega (arith, many)))
   where
-    many : length (flat_map framed (b.chunks ++ chunks_in bytes spans)) ≡ size + place
-    many = body_many body bytes left old size spans place b f
+    many : length (flat_map framed (b.chunks ++ chunks_in bytes spans)) ≡ size + offset
+    many = body_many body bytes left old size spans offset b f
 
     go : UnlessMemory (HasFlaw old b.chunks (chunks_in bytes spans)) fault →
         IsBodyFault old.follower.version old.follower.cut body fault
     go (inl memory) = inl memory
     go (inr h) =
         let smalls = subst (AllByRecursion IsSmall) h.are f.small in
-        let behind = flat_map framed h.after ++ (drop place bytes ++ left) in
+        let behind = flat_map framed h.after ++ (drop offset bytes ++ left) in
         inr (inr (inr (inl (record {
           before = b.chunks ++ h.before;
           chunk = h.chunk;
           rest = behind;
           read = record {
             spelled = b.spelled ∙ ap (λ bs. flat_map framed b.chunks ++ (bs ++ left)) f.spelled ∙
-                ap (λ cs. flat_map framed b.chunks ++ ((flat_map framed cs ++ drop place bytes) ++
+                ap (λ cs. flat_map framed b.chunks ++ ((flat_map framed cs ++ drop offset bytes) ++
                 left)) h.are ∙
                 ap (λ bs. flat_map framed b.chunks ++ bs)
-                (append_assoc (flat_map framed (h.before ++ h.chunk ∷ h.after)) (drop place bytes)
-                left ∙ ap (λ bs. bs ++ (drop place bytes ++ left))
+                (append_assoc (flat_map framed (h.before ++ h.chunk ∷ h.after)) (drop offset bytes)
+                left ∙ ap (λ bs. bs ++ (drop offset bytes ++ left))
                 (flat_map-append framed h.before (h.chunk ∷ h.after)) ∙
                 append_assoc (flat_map framed h.before) (framed h.chunk ++ flat_map framed h.after)
-                (drop place bytes ++ left) ∙
+                (drop offset bytes ++ left) ∙
                 ap (λ bs. flat_map framed h.before ++ bs)
                 (append_assoc (framed h.chunk) (flat_map framed h.after)
-                (drop place bytes ++ left))) ∙
+                (drop offset bytes ++ left))) ∙
                 sym (append_assoc (flat_map framed b.chunks) (flat_map framed h.before)
                 (framed h.chunk ++ behind)) ∙
                 ap (λ bs. bs ++ (framed h.chunk ++ behind))

@@ -98,9 +98,9 @@ module _ (index : Index) (chunks : List (List ℕ)) (i : IsIndex index chunks) w
       }))
 
   -- each chunk has an entry
-  entry_of : (k : ℕ) → k < length chunks → (place : ℕ) × (place < length entries) ×
-      ((d : Ref × ℕ) → ((get_or entries place d).1 ≡ k) ×
-      ((get_or entries place d).0.0 ≡ reference_of (get_or chunks k [])))
+  entry_of : (k : ℕ) → k < length chunks → (offset : ℕ) × (offset < length entries) ×
+      ((d : Ref × ℕ) → ((get_or entries offset d).1 ≡ k) ×
+      ((get_or entries offset d).0.0 ≡ reference_of (get_or chunks k [])))
   entry_of k h =
       let within : k < length i.references = omega (arith, as_many chunks i.references i.are) in
       let inside : k < length i.numbered = omega (arith, i.in_turn.many) in
@@ -119,19 +119,19 @@ module _ (index : Index) (chunks : List (List ℕ)) (i : IsIndex index chunks) w
       )
 
   -- a search does not miss what is there
-  pub search_ends : (reference : List ℕ) (place number : ℕ) →
+  pub search_ends : (reference : List ℕ) (offset number : ℕ) →
       (IsNonDecreasingBy (λ e. ordering_index (slice_cmp nat_cmp e.0.0 reference)) entries →
       IsPartitionPoint (λ e. slice_cmp nat_cmp e.0.0 reference ≡ Less)
-      (λ e. slice_cmp nat_cmp e.0.0 reference ≡ Greater) entries place) →
+      (λ e. slice_cmp nat_cmp e.0.0 reference ≡ Greater) entries offset) →
       HasAt chunks number reference → ⊥
-  search_ends reference place number parted has =
+  search_ends reference offset number parted has =
       let at = entry_of number has.within in
       let points = parted (searchable_from_sorted nat_list_cmp_total (λ e. e.0.0) entries
       reference i.sorted) in
       let same : slice_cmp nat_cmp (get_or entries at.0 some_entry).0.0 reference ≡ Equal =
       ap (λ r. slice_cmp nat_cmp r reference) ((at.2 some_entry).1 ∙ has.is) ∙
       order_self reference in
-      elim (cases_lt at.0 place) [
+      elim (cases_lt at.0 offset) [
         | inl lt ↦
             let e : Less ≡ Equal = sym (points.0 at.0 some_entry (omega arith) lt) ∙ same in cc
         | inr le ↦

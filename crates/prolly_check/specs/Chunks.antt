@@ -56,17 +56,17 @@ content_of header chunks = record {
   pairs = flat_map pairs_held chunks;
 }
 
--- The header, the frames up to the place, the end record and the entries are as a file has them, so
+-- The header, the frames up to the offset, the end record and the entries are as a file has them, so
 -- the verdict on the bytes is what is judged of the chunks.
-pub record IsLaidOut (bytes : List ℕ) (header : Header) (spans : List (Range ℕ)) (place : ℕ)
+pub record IsLaidOut (bytes : List ℕ) (header : Header) (spans : List (Range ℕ)) (offset : ℕ)
     : Type 0 where
   pub within : AllByRecursion (IsWithin bytes) spans
   pub whole : AreWhole header.version (chunks_in bytes spans)
   pub few : length (flat_map pairs_held (chunks_in bytes spans)) ≤ length bytes
   pub bits : header.bits ≤ 24
-  pub reached : place ≤ length bytes
+  pub reached : offset ≤ length bytes
   pub ending : List ℕ
-  pub behind : drop place bytes ≡ 0x45 ∷ ending
+  pub behind : drop offset bytes ≡ 0x45 ∷ ending
   pub so : IsVerdict bytes (judged header.version header.bits (chunks_in bytes spans) ending
       (map pairs_held (chunks_in bytes spans)))
 

@@ -22,12 +22,12 @@ pub record AreCounted (bits : ℕ) (pairs : List Pair) (digest : PairsDigest) : 
   pub some : digest.has_boundary ≡ list_any (pair_is_boundary (sha512_cut bits)) pairs
   pub whole : digest.is_whole_leaf ≡ is_whole_leaf (sha512_cut bits) pairs
 
--- The last one of the pairs is all that the entries hold from this place on; none, if there is none.
-pub record LastBegins (entries : List ℕ) (pairs : List Pair) (place : ℕ) : Type 0 where
-  pub within : place ≤ length entries
-  pub leaf : IsSomeLeaf (drop place entries)
-  pub one : length (pairs_in (drop place entries)) ≤ 1
-  pub last : last_behind None (pairs_in (drop place entries)) ≡ last_behind None pairs
+-- The last one of the pairs is all that the entries hold from this offset on; none, if there is none.
+pub record LastBegins (entries : List ℕ) (pairs : List Pair) (offset : ℕ) : Type 0 where
+  pub within : offset ≤ length entries
+  pub leaf : IsSomeLeaf (drop offset entries)
+  pub one : length (pairs_in (drop offset entries)) ≤ 1
+  pub last : last_behind None (pairs_in (drop offset entries)) ≡ last_behind None pairs
 
 -- That is told of the pairs of these entries.
 pub record TellsOf (bits : ℕ) (entries : List ℕ) (pairs : List Pair) (digest : PairsDigest) : Type 0

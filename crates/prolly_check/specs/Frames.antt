@@ -20,10 +20,10 @@ chunks_in bytes spans = map (chunk_in bytes) spans
 abbrev pub IsWithin : List ℕ → Range ℕ → Type 0
 IsWithin bytes span = (span.start ≤ span.end) × (span.end ≤ length bytes)
 
--- From the one place on the frames of the chunks go up to the other.
-pub record FramesTo (bytes : List ℕ) (from : ℕ) (spans : List (Range ℕ)) (place : ℕ) : Type 0 where
-  pub reached : place ≤ length bytes
-  pub spelled : drop from bytes ≡ flat_map framed (chunks_in bytes spans) ++ drop place bytes
+-- From the one offset on the frames of the chunks go up to the other.
+pub record FramesTo (bytes : List ℕ) (from : ℕ) (spans : List (Range ℕ)) (offset : ℕ) : Type 0 where
+  pub reached : offset ≤ length bytes
+  pub spelled : drop from bytes ≡ flat_map framed (chunks_in bytes spans) ++ drop offset bytes
   pub small : AllByRecursion IsSmall (chunks_in bytes spans)
   pub within : AllByRecursion (IsWithin bytes) spans
 

@@ -135,7 +135,7 @@ impl Index {
             .entries
             .binary_search_by_key(reference, |entry| entry.0)
         {
-            Ok(place) => Some(self.entries[place].1),
+            Ok(offset) => Some(self.entries[offset].1),
             Err(_) => None,
         }
     }

@@ -94,8 +94,8 @@ fn write_bytes(mut number: u64, bytes: &mut [u8])
     ensures spelled { number_of 0 bytes.new ≡ number }
     ensures in_range { All IsByte bytes.new }
 {
-    for place in (0..bytes.len()).rev() {
-        bytes[place] = (number % 256) as u8;
+    for index in (0..bytes.len()).rev() {
+        bytes[index] = (number % 256) as u8;
         number /= 256;
     }
 }
@@ -104,8 +104,8 @@ fn write_bytes(mut number: u64, bytes: &mut [u8])
 fn write_characters(mut number: u64, text: &mut [u8])
     ensures { text.new ≡ characters (length text.old) number }
 {
-    for place in (0..text.len()).rev() {
-        text[place] = CHARACTERS[(number % 32) as usize];
+    for index in (0..text.len()).rev() {
+        text[index] = CHARACTERS[(number % 32) as usize];
         number /= 32;
     }
 }

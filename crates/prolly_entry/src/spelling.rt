@@ -130,10 +130,10 @@ pub(crate) fn number_of_two(bytes: &[u8]) -> u16
     BigEndian::read_u16(bytes)
 }
 
-/// The number in the four bytes from a place on.
-pub(crate) fn number_of_four(bytes: &[u8], place: usize) -> u32
-    requires { place + 4 ≤ length bytes.now }
-    ensures { result ≡ from_be_bytes w32 (take 4 (drop place bytes.now)) }
+/// The number in the four bytes from an offset on.
+pub(crate) fn number_of_four(bytes: &[u8], offset: usize) -> u32
+    requires { offset + 4 ≤ length bytes.now }
+    ensures { result ≡ from_be_bytes w32 (take 4 (drop offset bytes.now)) }
 {
-    BigEndian::read_u32(&bytes[place..place + 4])
+    BigEndian::read_u32(&bytes[offset..offset + 4])
 }

@@ -35,4 +35,14 @@ impl Version {
             Version::Two => 2,
         }
     }
+
+    /// The other version.
+    pub fn other(self) -> Version
+        ensures { result ≢ self }
+    {
+        match self {
+            Version::One => Version::Two,
+            Version::Two => Version::One,
+        }
+    }
 }

@@ -47,12 +47,12 @@ module _ (old new : Bool) (kept : ℕ) (block : List ℕ) (start : ℕ) (before 
 -- ---- what is served
 
 -- from the middle of what is kept
-pub kept_serve : (kept start place len : ℕ) (block bytes : List ℕ) → AreKept kept block start bytes →
-    start ≤ place → (place - start) + len ≤ kept →
-    take len (drop (place - start) block) ≡ take len (drop place bytes)
-kept_serve kept start place len block bytes are behind within =
-    let at = place - start in
-    let there : start + at ≡ place = omega (arith, behind) in
+pub kept_serve : (kept start offset len : ℕ) (block bytes : List ℕ) → AreKept kept block start bytes →
+    start ≤ offset → (offset - start) + len ≤ kept →
+    take len (drop (offset - start) block) ≡ take len (drop offset bytes)
+kept_serve kept start offset len block bytes are behind within =
+    let at = offset - start in
+    let there : start + at ≡ offset = omega (arith, behind) in
     sym (drop-take at len block) ∙
     ap (drop at) (sym (take-take (at + len) kept block within) ∙ ap (take (at + len)) are ∙
     take-take (at + len) kept (drop start bytes) within) ∙

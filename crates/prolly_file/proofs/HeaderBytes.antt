@@ -10,25 +10,25 @@ use Rattle.prolly_file.specs.Header.{header_fault}
 
 -- what is wrong from a place on
 abbrev pub at : List (ℕ → Bool) → List ℕ → ℕ → Option HeaderFault
-at tests bytes place = header_fault (drop place tests) (drop place bytes)
+at tests bytes offset = header_fault (drop offset tests) (drop offset bytes)
 
-module _ (tests : List (ℕ → Bool)) (bytes : List ℕ) (place : ℕ) (tested : place < length tests)
+module _ (tests : List (ℕ → Bool)) (bytes : List ℕ) (offset : ℕ) (tested : offset < length tests)
   where
     abbrev passes : Bool
-    passes = get_or tests place (λ b. true) (slice_index bytes place)
+    passes = get_or tests offset (λ b. true) (slice_index bytes offset)
 
-    next : place < length bytes → at tests bytes place ≡ cond passes (at tests bytes (place + 1))
+    next : offset < length bytes → at tests bytes offset ≡ cond passes (at tests bytes (offset + 1))
         (Some BadByte)
     next there =
-        let e : place + 1 ≡ suc place = omega arith in
-        rw (drop-cons tests place (λ b. true) tested, drop-cons bytes place 0 there, e)
+        let e : offset + 1 ≡ suc offset = omega arith in
+        rw (drop-cons tests offset (λ b. true) tested, drop-cons bytes offset 0 there, e)
 
-    pub goes_on : place < length bytes → passes ≡ true →
-        at tests bytes place ≡ at tests bytes (place + 1)
-    goes_on there e = next there ∙ cond-true passes (at tests bytes (place + 1)) (Some BadByte) e
+    pub goes_on : offset < length bytes → passes ≡ true →
+        at tests bytes offset ≡ at tests bytes (offset + 1)
+    goes_on there e = next there ∙ cond-true passes (at tests bytes (offset + 1)) (Some BadByte) e
 
-    pub stops : place < length bytes → passes ≡ false → at tests bytes place ≡ Some BadByte
-    stops there e = next there ∙ cond-false passes (at tests bytes (place + 1)) (Some BadByte) e
+    pub stops : offset < length bytes → passes ≡ false → at tests bytes offset ≡ Some BadByte
+    stops there e = next there ∙ cond-false passes (at tests bytes (offset + 1)) (Some BadByte) e
 
-    pub ends : length bytes ≤ place → at tests bytes place ≡ Some Truncated
-    ends past = rw (drop_all place bytes past, drop-cons tests place (λ b. true) tested)
+    pub ends : length bytes ≤ offset → at tests bytes offset ≡ Some Truncated
+    ends past = rw (drop_all offset bytes past, drop-cons tests offset (λ b. true) tested)

@@ -37,36 +37,36 @@ part_behind bytes start end count h =
     ap (take (end - (start + count))) (drop-drop count start bytes)))
 
 -- A part is the same in bytes that agree from a place before it on.
-pub same_behind : (bytes bytes' : List ℕ) (place : ℕ) (span : Span) → place ≤ span.start →
-    drop place bytes' ≡ drop place bytes →
+pub same_behind : (bytes bytes' : List ℕ) (offset : ℕ) (span : Span) → offset ≤ span.start →
+    drop offset bytes' ≡ drop offset bytes →
     part bytes' span ≡ part bytes span
-same_behind bytes bytes' place span h e =
-    let split : span.start ≡ place + (span.start - place) = omega arith in
+same_behind bytes bytes' offset span h e =
+    let split : span.start ≡ offset + (span.start - offset) = omega arith in
     let from : drop span.start bytes' ≡ drop span.start bytes =
     subst (λ n. drop n bytes' ≡ drop n bytes) (sym split)
-    (sym (drop-drop (span.start - place) place bytes') ∙ ap (drop (span.start - place)) e ∙
-    drop-drop (span.start - place) place bytes) in
+    (sym (drop-drop (span.start - offset) offset bytes') ∙ ap (drop (span.start - offset)) e ∙
+    drop-drop (span.start - offset) offset bytes) in
     ap (take (span.end - span.start)) from
 
 -- A part is the same in bytes that agree up to a place behind it.
-pub same_before : (bytes bytes' : List ℕ) (place : ℕ) (span : Span) → span.start ≤ span.end →
-    span.end ≤ place → take place bytes' ≡ take place bytes →
+pub same_before : (bytes bytes' : List ℕ) (offset : ℕ) (span : Span) → span.start ≤ span.end →
+    span.end ≤ offset → take offset bytes' ≡ take offset bytes →
     part bytes' span ≡ part bytes span
-same_before bytes bytes' place span o h e = sym (cut bytes') ∙ ap (λ xs. part xs span) e ∙ cut bytes
+same_before bytes bytes' offset span o h e = sym (cut bytes') ∙ ap (λ xs. part xs span) e ∙ cut bytes
   where
-    cut : (xs : List ℕ) → part (take place xs) span ≡ part xs span
+    cut : (xs : List ℕ) → part (take offset xs) span ≡ part xs span
     cut xs =
-        let split : place ≡ span.start + (place - span.start) = omega arith in
+        let split : offset ≡ span.start + (offset - span.start) = omega arith in
         ap (take (span.end - span.start)) (ap (λ n. drop span.start (take n xs)) split ∙
-        drop-take span.start (place - span.start) xs)
-        ∙ take-take (span.end - span.start) (place - span.start) (drop span.start xs) (omega arith)
+        drop-take span.start (offset - span.start) xs)
+        ∙ take-take (span.end - span.start) (offset - span.start) (drop span.start xs) (omega arith)
 
 -- So are kept ones before the place, if there are any.
-pub same_kept : (bytes bytes' : List ℕ) (most place end : ℕ) (kept : Option Span) →
-    IsKeptBefore most place kept → place ≤ end → take end bytes' ≡ take end bytes →
+pub same_kept : (bytes bytes' : List ℕ) (most offset end : ℕ) (kept : Option Span) →
+    IsKeptBefore most offset kept → offset ≤ end → take end bytes' ≡ take end bytes →
     option_map (part bytes') kept ≡ option_map (part bytes) kept
-same_kept bytes bytes' most place end None h k e = refl
-same_kept bytes bytes' most place end (Some kept) h k e =
+same_kept bytes bytes' most offset end None h k e = refl
+same_kept bytes bytes' most offset end (Some kept) h k e =
     ap Some (same_before bytes bytes' end kept h.0 (omega arith) e)
 
 -- Kept ones are the same where the bytes were lent and given back with the first ones as they were.

@@ -8,8 +8,8 @@ pub record DeviceView : Type 0 where
   pub bytes : List ℕ
   pub failures : ℕ
 
--- A read into a buffer that gave `Ok(n)` gave the first n bytes from this place on, and fewer than
+-- A read into a buffer that gave `Ok(n)` gave the first n bytes from this offset on, and fewer than
 -- the buffer has room for only where no more are there.
 abbrev pub GivesFrom : {E : Type 0} → List ℕ → ℕ → Result ℕ E → List ℕ → Type 0
-GivesFrom bytes place result buf =
-    IfOk result (λ n. take n buf ≡ take (length buf) (drop place bytes))
+GivesFrom bytes offset result buf =
+    IfOk result (λ n. take n buf ≡ take (length buf) (drop offset bytes))

@@ -11,9 +11,9 @@ abbrev pub header_tests : List (ℕ → Bool)
 header_tests = (λ b. b == 0x50) ∷ (λ b. b == 0x52) ∷ (λ b. b == 0x4C) ∷ (λ b. b == 0x59)
     ∷ (λ b. (b == 1) || (b == 2)) ∷ (λ b. nat_le b 24) ∷ []
 
--- Which bytes may stand at a place.
+-- Which bytes may stand at an offset.
 abbrev pub test_at : ℕ → ℕ → Bool
-test_at place = get_or header_tests place (λ b. true)
+test_at offset = get_or header_tests offset (λ b. true)
 
 -- What is wrong: a byte that may not stand at its place, or else that the bytes end before the last
 -- place.

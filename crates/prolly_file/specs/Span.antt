@@ -6,11 +6,11 @@ use Rattle.prolly_file.specs.declared.device.read_buffer.Span.{Span}
 abbrev pub part : List ℕ → Span → List ℕ
 part bytes span = take (span.end - span.start) (drop span.start bytes)
 
--- What is kept are at most so many of the bytes before a place; or there is none.
+-- What is kept are at most so many of the bytes before an offset; or there is none.
 abbrev pub IsKeptBefore : ℕ → ℕ → Option Span → Type 0
-IsKeptBefore most place None = Unit {0}
-IsKeptBefore most place (Some kept) = (kept.start ≤ kept.end) × (kept.end ≤ kept.start + most) ×
-    (kept.end ≤ place)
+IsKeptBefore most offset None = Unit {0}
+IsKeptBefore most offset (Some kept) = (kept.start ≤ kept.end) × (kept.end ≤ kept.start + most) ×
+    (kept.end ≤ offset)
 
 -- The bytes are so many, the unparsed ones are a part of them, and the kept ones lie before that
 -- part.

@@ -6,8 +6,8 @@ ghost use Rattle.prolly_range.specs.KeySet.{met_first, met_in, set_of};
 ghost use Rattle.prolly_range.specs.Children.{met_of, seen_met};
 
 use crate::key_set::KeySet;
-use prolly_look_up::split_first_child;
 use prolly_entry::{Child, Ref, Version};
+use prolly_look_up::split_first_child;
 use std::alloc::{AllocError, Global};
 use std::collections::VecDeque;
 

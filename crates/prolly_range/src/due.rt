@@ -10,8 +10,8 @@ ghost use Rattle.prolly_range.specs.SetProof.{due_below};
 
 use crate::children::{ChildMet, children_met};
 use crate::key_set::KeySet;
-use prolly_look_up::LEAF;
 use prolly_entry::{Ref, Version};
+use prolly_look_up::LEAF;
 use std::alloc::{AllocError, Global};
 use std::collections::VecDeque;
 

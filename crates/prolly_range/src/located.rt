@@ -16,9 +16,9 @@ ghost use Rattle.prolly_range.specs.SetProof.{due_below};
 
 use crate::children::{ChildMet, children_met};
 use crate::due::Due;
+use prolly_entry::Version;
 use prolly_look_up::LEAF;
 use prolly_look_up::laws::tops_are_read;
-use prolly_entry::Version;
 use prolly_root::{ChunkSource, RootFault, tested_chunk};
 use std::alloc::{AllocError, Global};
 use std::collections::VecDeque;

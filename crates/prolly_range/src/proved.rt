@@ -5,9 +5,9 @@ ghost use Rattle.prolly_look_up.specs.HeldPairs.{pairs_held};
 ghost use Rattle.prolly_range.specs.KeySet.{pairs_wanted, set_of};
 
 use crate::key_set::KeySet;
-use prolly_look_up::{Pairs, pairs_of};
 use prolly_entry::Version;
 use prolly_file::FRAME_START;
+use prolly_look_up::{Pairs, pairs_of};
 use std::marker::Model;
 
 /// A chunk of a proof that has its reference. Contracts see the pairs that it shows: those of a leaf

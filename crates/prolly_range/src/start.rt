@@ -1,5 +1,5 @@
 //! The bytes with which the proof of a set of keys begins.
-ghost use Rattle.std.specs.Prelude.{◌≡◌, ◌≢◌, ◌≤◌, length, OnOk, IfErr};
+ghost use Rattle.std.specs.Prelude.{◌≡◌, ◌≤◌, length, OnOk, IfErr};
 ghost use Rattle.prolly_range.specs.SetProof.{set_start};
 ghost use Rattle.prolly_range.specs.Start.{IsSetStartFault};
 
@@ -31,19 +31,9 @@ pub(crate) fn test_start(version: Version, front: &[u8]) -> Result<(), ProofFaul
         Ok(())
     } else if start.starts_with(front) {
         Err(ProofFault::Truncated)
-    } else if front == set_start(other_than(version)).as_slice() {
+    } else if front == set_start(version.other()).as_slice() {
         Err(ProofFault::Version)
     } else {
         Err(ProofFault::Header)
-    }
-}
-
-/// The other version.
-fn other_than(version: Version) -> Version
-    ensures { result ≢ version }
-{
-    match version {
-        Version::One => Version::Two,
-        Version::Two => Version::One,
     }
 }

@@ -56,11 +56,11 @@ impl LastRead {
 
     /// Notes the next read, and answers whether it and the one before it each begin near the end of
     /// the one before them.
-    fn goes_on(&mut self, place: u64, len: usize) -> bool {
+    fn goes_on(&mut self, offset: u64, len: usize) -> bool {
         let was_near = self.was_near;
-        self.was_near = place.saturating_add(AGAIN) >= self.end
-            && place.saturating_sub(self.end) <= NEAR;
-        self.end = place.saturating_add(len as u64);
+        self.was_near = offset.saturating_add(AGAIN) >= self.end
+            && offset.saturating_sub(self.end) <= NEAR;
+        self.end = offset.saturating_add(len as u64);
         was_near && self.was_near
     }
 }
@@ -82,15 +82,15 @@ impl<D: Device + Drop> Blocks<D> {
 }
 
 impl<D: Device> Blocks<D> {
-    /// The bytes from this place on, so many of them, where the block has them all.
-    fn kept_at(&self, place: u64, len: usize) -> Option<&[u8]>
-        ensures behind { IfSome result (λ bytes. self.now.start ≤ place) }
-        ensures within { IfSome result (λ bytes. (place - self.now.start) + len ≤ self.now.kept) }
+    /// The bytes from this offset on, so many of them, where the block has them all.
+    fn kept_at(&self, offset: u64, len: usize) -> Option<&[u8]>
+        ensures behind { IfSome result (λ bytes. self.now.start ≤ offset) }
+        ensures within { IfSome result (λ bytes. (offset - self.now.start) + len ≤ self.now.kept) }
         ensures len { IfSome result (λ bytes. length bytes.now ≡ len) }
         ensures bytes { IfSome result (λ bytes. bytes.now ≡
-            take len (drop (place - self.now.start) self.now.block.items)) }
+            take len (drop (offset - self.now.start) self.now.block.items)) }
     {
-        let at = usize::try_from(place.checked_sub(self.start)?).ok()?;
+        let at = usize::try_from(offset.checked_sub(self.start)?).ok()?;
         let end = at.checked_add(len)?;
         if end > self.kept {
             return None;
@@ -98,15 +98,15 @@ impl<D: Device> Blocks<D> {
         self.block.get(at..end)
     }
 
-    /// Reads the block that begins at this place. Nothing is kept where that fails.
-    fn read_block(&mut self, place: u64) -> Result<(), SourceFault>
-        ensures start { self.new.start ≡ place }
+    /// Reads the block that begins at this offset. Nothing is kept where that fails.
+    fn read_block(&mut self, offset: u64) -> Result<(), SourceFault>
+        ensures start { self.new.start ≡ offset }
         ensures none { OnErr result (self.new.kept ≡ 0) }
         ensures bound { OnOk result (self.new.kept ≤ length self.new.block.items) }
         ensures size { length self.new.block.items ≡ length self.old.block.items }
         ensures bytes { (D.seen self.old.device).is_honest ≡ true → OnOk result
             (take self.new.kept self.new.block.items ≡ take (length self.new.block.items)
-            (drop place (D.seen self.old.device).bytes)) }
+            (drop offset (D.seen self.old.device).bytes)) }
         ensures honest { (D.seen self.old.device).is_honest ≡ true →
             (D.seen self.new.device).is_honest ≡ true }
         ensures same { (D.seen self.old.device).is_honest ≡ true →
@@ -115,8 +115,8 @@ impl<D: Device> Blocks<D> {
             (D.seen self.new.device).failures result }
     {
         self.kept = 0;
-        self.start = place;
-        self.kept = self.device.read_at(place, &mut self.block)?;
+        self.start = offset;
+        self.kept = self.device.read_at(offset, &mut self.block)?;
         Ok(())
     }
 }
@@ -137,16 +137,16 @@ impl<D: Device> Device for Blocks<D> {
         self.device.len()
     }
 
-    fn read_at(&mut self, place: u64, buf: &mut [u8]) -> Result<usize, SourceFault> {
-        let goes_on = self.last.goes_on(place, buf.len());
-        if let Some(bytes) = self.kept_at(place, buf.len()) {
+    fn read_at(&mut self, offset: u64, buf: &mut [u8]) -> Result<usize, SourceFault> {
+        let goes_on = self.last.goes_on(offset, buf.len());
+        if let Some(bytes) = self.kept_at(offset, buf.len()) {
             buf.copy_from_slice(bytes);
             return Ok(buf.len());
         }
         if !goes_on || buf.len() > self.block.len() {
-            return self.device.read_at(place, buf);
+            return self.device.read_at(offset, buf);
         }
-        self.read_block(place)?;
+        self.read_block(offset)?;
         let count = buf.len().min(self.kept);
         buf[..count].copy_from_slice(&self.block[..count]);
         Ok(count)

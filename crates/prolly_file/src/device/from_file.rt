@@ -58,21 +58,21 @@ impl Device for FromFile {
         self.counted(end)
     }
 
-    fn read_at(&mut self, place: u64, buf: &mut [u8]) -> Result<usize, SourceFault> {
-        let filled = fill_from(&self.file, place, buf);
+    fn read_at(&mut self, offset: u64, buf: &mut [u8]) -> Result<usize, SourceFault> {
+        let filled = fill_from(&self.file, offset, buf);
         self.counted(filled)
     }
 }
 
-/// Reads from this place on, until the buffer is full or the file has no more.
-fn fill_from(file: &File, place: u64, buf: &mut [u8]) -> io::Result<usize>
+/// Reads from this offset on, until the buffer is full or the file has no more.
+fn fill_from(file: &File, offset: u64, buf: &mut [u8]) -> io::Result<usize>
     ensures { IfOk result (λ n. n ≤ length buf.new) }
 {
     let mut filled = 0;
     while filled < buf.len() {
         let count = read_again_at(
             file,
-            place.saturating_add(filled as u64),
+            offset.saturating_add(filled as u64),
             &mut buf[filled..],
         )?;
         if count == 0 {
@@ -83,15 +83,15 @@ fn fill_from(file: &File, place: u64, buf: &mut [u8]) -> io::Result<usize>
     Ok(filled)
 }
 
-/// Reads into the buffer from this place on, as often as the read is interrupted.
-fn read_again_at(file: &File, place: u64, buf: &mut [u8]) -> io::Result<usize>
+/// Reads into the buffer from this offset on, as often as the read is interrupted.
+fn read_again_at(file: &File, offset: u64, buf: &mut [u8]) -> io::Result<usize>
     ensures { ReadsAtMost result buf.new }
 {
     for _ in 1..MOST_TRIES {
-        match file.read_at(buf, place) {
+        match file.read_at(buf, offset) {
             Err(error) if error.kind() == ErrorKind::Interrupted => {}
             result => return result,
         }
     }
-    file.read_at(buf, place)
+    file.read_at(buf, offset)
 }

@@ -32,18 +32,18 @@ impl<'a> Device for InMemory<'a> {
         Ok(self.bytes.len() as u64)
     }
 
-    fn read_at(&mut self, place: u64, buf: &mut [u8]) -> Result<usize, SourceFault> {
-        Ok(copy_from(self.bytes, place, buf))
+    fn read_at(&mut self, offset: u64, buf: &mut [u8]) -> Result<usize, SourceFault> {
+        Ok(copy_from(self.bytes, offset, buf))
     }
 }
 
-/// Copies the bytes from this place on, and answers how many: as many as there are or have room.
-pub(crate) fn copy_from(bytes: &[u8], place: u64, buf: &mut [u8]) -> usize
+/// Copies the bytes from this offset on, and answers how many: as many as there are or have room.
+pub(crate) fn copy_from(bytes: &[u8], offset: u64, buf: &mut [u8]) -> usize
     ensures bound { result ≤ length buf.new }
     ensures size { length buf.new ≡ length buf.old }
-    ensures bytes { take result buf.new ≡ take (length buf.new) (drop place bytes.now) }
+    ensures bytes { take result buf.new ≡ take (length buf.new) (drop offset bytes.now) }
 {
-    let start = usize::try_from(place)
+    let start = usize::try_from(offset)
         .unwrap_or(usize::MAX)
         .min(bytes.len());
     let room = buf.len();

@@ -264,9 +264,9 @@ impl Device for ScriptDevice {
         Ok(self.bytes.len() as u64)
     }
 
-    fn read_at(&mut self, place: u64, buf: &mut [u8]) -> Result<usize, SourceFault>
+    fn read_at(&mut self, offset: u64, buf: &mut [u8]) -> Result<usize, SourceFault>
         ensures bound { IfOk result (λ n. n ≤ length buf.new) }
-        ensures bytes { GivesFrom self.old.bytes.items place result buf.new }
+        ensures bytes { GivesFrom self.old.bytes.items offset result buf.new }
         ensures same { self.new.bytes ≡ self.old.bytes }
         ensures failures { CountsFailure self.old.failures self.new.failures result }
 
@@ -275,7 +275,7 @@ impl Device for ScriptDevice {
         ensures counted { self.new.until_failure ≡ after_call self.old.until_failure }
     {
         self.call()?;
-        Ok(copy_from(&self.bytes, place, buf))
+        Ok(copy_from(&self.bytes, offset, buf))
     }
 }
 

@@ -51,11 +51,11 @@ pub fn read_header(bytes: &[u8]) -> Result<Header, HeaderFault>
     ensures room { IfOk result (λ r. HEADER_SIZE ≤ length bytes.now) }
     ensures err { IfErr result (λ fault. header_fault header_tests bytes.now ≡ Some fault) }
 {
-    for place in 0..HEADER_SIZE {
-        if place >= bytes.len() {
+    for offset in 0..HEADER_SIZE {
+        if offset >= bytes.len() {
             return Err(HeaderFault::Truncated);
         }
-        if !may_stand(place, bytes[place]) {
+        if !may_stand(offset, bytes[offset]) {
             return Err(HeaderFault::BadByte);
         }
     }
@@ -65,12 +65,12 @@ pub fn read_header(bytes: &[u8]) -> Result<Header, HeaderFault>
     })
 }
 
-/// Whether the byte may stand at the place.
-fn may_stand(place: usize, byte: u8) -> bool
-    requires { place < 6 }
-    ensures { result ≡ test_at place byte }
+/// Whether the byte may stand at the offset.
+fn may_stand(offset: usize, byte: u8) -> bool
+    requires { offset < 6 }
+    ensures { result ≡ test_at offset byte }
 {
-    match place {
+    match offset {
         0 => byte == b'P',
         1 => byte == b'R',
         2 => byte == b'L',

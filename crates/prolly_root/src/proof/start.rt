@@ -1,5 +1,5 @@
 //! The bytes with which a proof begins.
-ghost use Rattle.std.specs.Prelude.{◌≡◌, ◌≢◌, ◌++◌, IfOk, IfErr};
+ghost use Rattle.std.specs.Prelude.{◌≡◌, ◌++◌, IfOk, IfErr};
 ghost use Rattle.prolly_root.specs.ProofFault.{IsStartOf, IsProofStartFault};
 ghost use Rattle.prolly_root.specs.ProofFile.{proof_start};
 
@@ -31,19 +31,9 @@ fn start_fault(version: Version, proof: &[u8]) -> ProofFault
 {
     if proof_start(version).starts_with(proof) {
         ProofFault::Truncated
-    } else if proof.starts_with(&proof_start(other_than(version))) {
+    } else if proof.starts_with(&proof_start(version.other())) {
         ProofFault::Version
     } else {
         ProofFault::Header
-    }
-}
-
-/// The other version.
-fn other_than(version: Version) -> Version
-    ensures { result ≢ version }
-{
-    match version {
-        Version::One => Version::Two,
-        Version::Two => Version::One,
     }
 }

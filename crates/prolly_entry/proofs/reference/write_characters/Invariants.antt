@@ -2,6 +2,6 @@ use Rattle.std.proofs.Common.{◌≡◌, ◌++◌, length, drop}
 use Rattle.prolly_entry.specs.Reference.{characters}
 use Rattle.prolly_entry.proofs.reference.write_characters.Given as goal
 
-abbrev pub invariant-loop-place : goal.invariant-loop-place
-invariant-loop-place l = characters l.place l.number ++ drop l.place l.text ≡
+abbrev pub invariant-loop-index : goal.invariant-loop-index
+invariant-loop-index l = characters l.index l.number ++ drop l.index l.text ≡
     characters (length l.text) l.fn.number

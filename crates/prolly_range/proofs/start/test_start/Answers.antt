@@ -29,10 +29,10 @@ pub returns-else-eq-2-clause-err : goal.returns-else-eq-2-clause-err
 returns-else-eq-2-clause-err c =
     let start = c.set_start-start.result in
     let front = c.args.front.now in
-    begins_as_none c.args.version c.other_than.result front c.requires c.other_than.ensures
+    begins_as_none c.args.version c.other.result front c.requires c.other.ensures
     (differ front c.as_slice.result.now (set_start c.args.version) c.eq.result c.eq.ensures
     c.if-eq.false (c.as_slice.ensures ∙ c.set_start-start.ensures))
-    (differ front c.as_slice-else-starts_with.result.now (set_start c.other_than.result)
+    (differ front c.as_slice-else-starts_with.result.now (set_start c.other.result)
     c.eq-else-starts_with.result c.eq-else-starts_with.ensures c.if-eq-2.false
     (c.as_slice-else-starts_with.ensures ∙ c.set_start.ensures))
     (λ e. false≢true (sym c.if-starts_with.false ∙

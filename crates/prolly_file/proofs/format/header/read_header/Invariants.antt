@@ -3,6 +3,6 @@ use Rattle.prolly_file.specs.Header.{header_tests, header_fault}
 use Rattle.prolly_file.proofs.HeaderBytes.{at}
 use Rattle.prolly_file.proofs.format.header.read_header.Given as goal
 
-abbrev pub invariant-loop-place : goal.invariant-loop-place
-invariant-loop-place l = (header_fault header_tests l.bytes ≡ at header_tests l.bytes l.place) ×
-    (l.place ≤ length l.bytes)
+abbrev pub invariant-loop-offset : goal.invariant-loop-offset
+invariant-loop-offset l = (header_fault header_tests l.bytes ≡ at header_tests l.bytes l.offset) ×
+    (l.offset ≤ length l.bytes)
