@@ -26,8 +26,9 @@ ghost use Rattle.prolly_line.specs.GivenCommand.{IsWithinLimits};
 
 use crate::host::Host;
 use crate::refusal::{Refusal, told};
-use prolly_answer::{Answer, Command};
+use prolly_answer::Answer;
 use prolly_entry::Version;
+use prolly_line::Command;
 use std::alloc::AllocError;
 use std::sync::Wait;
 use std::thread::Threads;

@@ -27,7 +27,9 @@ use crate::host::Host;
 use crate::sinks::print;
 use crate::streams::ClosedStreams;
 use crate::words::read_words;
-use prolly_answer::{Answer, Fault, parse};
+use prolly_answer::{Answer, Fault};
+use prolly_line::parse;
+use prolly_tool::answer_refusal;
 use std::alloc::AllocError;
 use std::process::ExitCode;
 use std::sync::Wait;
@@ -55,7 +57,7 @@ fn answer<T: Wait + Threads + Clock + Sync>(host: &Host<'_, T>) -> Result<Answer
     };
     match parse(rt.alloc(), &words) {
         Ok(command) => answer_of(host, command),
-        Err(refusal) => Answer::of_refusal(rt.alloc(), refusal),
+        Err(refusal) => answer_refusal(rt.alloc(), refusal),
     }
 }
 

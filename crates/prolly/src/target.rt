@@ -4,7 +4,8 @@ use crate::found::Found;
 use crate::output_kind::{LookFault, OutputKind};
 use crate::refusal::Refusal;
 use crate::streams::Stream;
-use prolly_answer::{Fault, NameFault, WriteMode};
+use prolly_answer::{Fault, NameFault};
+use prolly_line::WriteMode;
 use std::fs;
 use std::io::ErrorKind;
 

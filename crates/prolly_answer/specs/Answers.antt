@@ -1,18 +1,9 @@
 -- What the program prints.
 use Rattle.std.specs.Prelude.{◌≡◌, ℕ, Bool, true, false, List, [], ◌∷◌, ◌++◌, string_bytes, codes}
-use Rattle.prolly_line.specs.declared.command.ParseFault.{ParseFault}
-use Rattle.prolly_line.specs.declared.command.ParseFault.TheVariants.{Memory, Usage, Help}
-use Rattle.prolly_line.specs.declared.command.ParseFault.TheVariants.{BadKey as BadKeyWord}
-use Rattle.prolly_line.specs.declared.command.ParseFault.TheVariants.{BadTextKey as BadTextKeyWord}
-use Rattle.prolly_line.specs.declared.command.ParseFault.TheVariants.{BadRoot as BadRootWord}
-use Rattle.prolly_line.specs.declared.command.ParseFault.TheVariants.{LoneRoot as LoneRootWord}
 use Rattle.prolly_text.specs.Names.{shown_name}
 use Rattle.prolly_answer.specs.declared.answers.answer.Answer.{Answer}
 use Rattle.prolly_answer.specs.declared.faults.fault.Fault.{Fault}
 use Rattle.prolly_answer.specs.declared.faults.name_fault.NameFault.{NameFault}
-use Rattle.prolly_answer.specs.declared.faults.fault.Fault.TheVariants.{BadKey, BadTextKey, BadRoot}
-use Rattle.prolly_answer.specs.declared.faults.fault.Fault.TheVariants.{LoneRoot}
-use Rattle.prolly_answer.specs.declared.faults.fault.Fault.TheVariants.{Memory as OutOfMemory}
 use Rattle.prolly_answer.specs.Faults.{fault_text, fault_status, fault_line}
 use Rattle.prolly_answer.specs.Names.{name_fault_text}
 
@@ -54,14 +45,3 @@ ShowsFileLine false answer text name = ShowsLine answer (text ++ codes "  " ++ s
 abbrev pub ShowsFileFault : Answer → Fault → List ℕ → Type 0
 ShowsFileFault answer fault name = Shows answer (fault_status fault) []
     (fault_line (shown_name name ++ codes ": " ++ fault_text fault))
-
--- The words give no command. What clap says of them is shown as it words it: help that was asked
--- for on standard output, and what is wrong with the words on standard error.
-abbrev pub ShowsRefusal : Answer → ParseFault → Type 0
-ShowsRefusal answer Memory = ShowsFault answer OutOfMemory
-ShowsRefusal answer BadKeyWord = ShowsFault answer BadKey
-ShowsRefusal answer BadTextKeyWord = ShowsFault answer BadTextKey
-ShowsRefusal answer BadRootWord = ShowsFault answer BadRoot
-ShowsRefusal answer LoneRootWord = ShowsFault answer LoneRoot
-ShowsRefusal answer (Usage text) = Shows answer 2 [] (string_bytes text)
-ShowsRefusal answer (Help text) = Shows answer 0 (string_bytes text) []

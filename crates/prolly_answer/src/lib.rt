@@ -23,7 +23,6 @@ pub use chunk_bytes::{ChosenBits, Sample, bits_note};
 pub use faults::{Fault, NameFault, OutputFault};
 pub use input::INPUT_LIMIT;
 pub use key_list::read_keys;
-pub use prolly_line::{Command, ParseFault, RootPair, Sought, WriteMode, parse};
 pub use prolly_text::{
     KeysFault, LineForm, LinesFault, Notation, PackFault, RecordForm, keys_of_lines, pack_lines,
     pack_lines_in,

@@ -1,7 +1,9 @@
 //! What the commands of the program are made of, by one name: the command line, what the commands
-//! answer, lines of text, and builds. Files and their chunks are those of `prolly_file` and
-//! `prolly_root`.
+//! answer, also to words that give none, lines of text, and builds. Files and their chunks are those
+//! of `prolly_file` and `prolly_root`.
 #![tactic(auto)]
+
+mod refusal;
 
 pub use prolly_answer::{
     Answer, ChosenBits, Fault, INPUT_LIMIT, NameFault, OutputFault, RootDiff, RootScan, Sample,
@@ -23,3 +25,4 @@ pub use prolly_text::{
     KeysFault, LineForm, LinesFault, Notation, PackFault, RecordForm, keys_of_lines, pack_lines,
     pack_lines_in,
 };
+pub use refusal::answer_refusal;

@@ -2,7 +2,8 @@
 use crate::found::Found;
 use crate::listed_keys::ListedKeys;
 use crate::refusal::Refusal;
-use prolly_answer::{Fault, Notation, Sought};
+use prolly_answer::{Fault, Notation};
+use prolly_line::Sought;
 use prolly_range::{KeySet, SortedKeys};
 
 /// What a proof is asked to show.

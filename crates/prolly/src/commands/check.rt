@@ -9,7 +9,8 @@ use crate::known_root::KnownRoot;
 use crate::refusal::{Refusal, told};
 use crate::sinks::print;
 use crate::streams::Stream;
-use prolly_answer::{Answer, Command, Fault, answer_check_by, answer_check_by_root};
+use prolly_answer::{Answer, Fault, answer_check_by, answer_check_by_root};
+use prolly_line::Command;
 use std::thread::Threads;
 
 /// The answer of a `check`.

@@ -15,12 +15,12 @@ use crate::sinks::buffered;
 use crate::streams::Stream;
 use crate::target::Target;
 use prolly_answer::{
-    Answer, Command, Fault, Notation, RecordForm, RootDiff, RootPair, answer_diff,
-    answer_diff_by_root,
+    Answer, Fault, Notation, RecordForm, RootDiff, answer_diff, answer_diff_by_root,
 };
 use prolly_check::CheckFault;
 use prolly_entry::Version;
 use prolly_file::{FromRead, ToWrite};
+use prolly_line::{Command, RootPair};
 use std::alloc::AllocError;
 use std::fs::File;
 use std::io::Write;

@@ -4,7 +4,8 @@ ghost use Rattle.prolly.specs.Kinds.{IsExplain};
 use crate::inputs::{Input, refuse_printed_input};
 use crate::patient::{stdin_source, tell_of_terminal};
 use crate::refusal::Refusal;
-use prolly_answer::{Answer, Command, LineForm, Notation, answer_explain, answer_explain_lines};
+use prolly_answer::{Answer, LineForm, Notation, answer_explain, answer_explain_lines};
+use prolly_line::Command;
 
 /// The answer of an `explain`.
 pub fn answer(rt: &HostRuntime, command: Command) -> Result<Answer, Refusal>

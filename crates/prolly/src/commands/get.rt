@@ -13,9 +13,10 @@ use crate::refusal::Refusal;
 use crate::sinks::stdout_sink;
 use crate::streams::Stream;
 use prolly_answer::{
-    Answer, Command, Notation, answer_found, answer_found_raw, answer_get_in, answer_get_keys,
+    Answer, Notation, answer_found, answer_found_raw, answer_get_in, answer_get_keys,
     answer_get_keys_by_root, answer_get_raw,
 };
+use prolly_line::Command;
 use prolly_root::{Reader, RootFault};
 use std::alloc::Global;
 use std::thread::Threads;

@@ -10,10 +10,9 @@ use crate::patient::{stdin_source, tell_of_terminal};
 use crate::refusal::Refusal;
 use crate::run_files::{RunFile, RunFiles};
 use crate::target::Target;
-use prolly_answer::{
-    Answer, Command, LineForm, SortedPack, WriteMode, answer_pack_in, answer_pack_sorted,
-};
+use prolly_answer::{Answer, LineForm, SortedPack, answer_pack_in, answer_pack_sorted};
 use prolly_file::ToWrite;
+use prolly_line::{Command, WriteMode};
 use std::sync::Wait;
 
 /// What memory a run is not given, in bytes: for the text that is read, and for readers of runs.

@@ -13,9 +13,10 @@ use crate::refusal::Refusal;
 use crate::sinks::buffered;
 use crate::target::Target;
 use prolly_answer::{
-    Answer, Command, answer_prove, answer_prove_by_root, answer_prove_set, answer_prove_set_by_root,
+    Answer, answer_prove, answer_prove_by_root, answer_prove_set, answer_prove_set_by_root,
 };
 use prolly_file::ToWrite;
+use prolly_line::Command;
 use prolly_range::KeySet;
 use std::alloc::AllocError;
 use std::io::Write;

@@ -9,7 +9,8 @@ use crate::named_tree::{NamedTree, OpenTree};
 use crate::refusal::Refusal;
 use crate::sinks::stdout_sink;
 use crate::streams::Stream;
-use prolly_answer::{Answer, Command, RootScan, answer_scan_by_root, answer_scan_in};
+use prolly_answer::{Answer, RootScan, answer_scan_by_root, answer_scan_in};
+use prolly_line::Command;
 use std::thread::Threads;
 
 /// `scan [--text] [--root ROOT] [--format V] FILE KEY LIMIT`. With a root it prints as it goes, so the

@@ -11,9 +11,10 @@ use crate::output_kind::OutputKind;
 use crate::patient::stdin_source;
 use crate::refusal::Refusal;
 use crate::target::Target;
-use prolly_answer::{Answer, Command, Fault, Sample, answer_scratch};
+use prolly_answer::{Answer, Fault, Sample, answer_scratch};
 use prolly_entry::Version;
 use prolly_file::{Rejoined, Sink, ToWrite};
+use prolly_line::Command;
 use std::alloc::AllocError;
 use std::fs::File;
 

@@ -5,7 +5,8 @@ use crate::host::Host;
 use crate::inputs::Input;
 use crate::output_kind::CHUNK_FILE_LETTERS;
 use crate::refusal::Refusal;
-use prolly_answer::{Answer, Command, StatForm, answer_stat};
+use prolly_answer::{Answer, StatForm, answer_stat};
+use prolly_line::Command;
 use std::thread::Threads;
 
 /// `stat [--json] [--text] FILE`. Of the two kinds of files a chunk file is read whole.

@@ -11,10 +11,9 @@ use crate::patient::{Patient, stdin_source};
 use crate::refusal::Refusal;
 use crate::sinks::stdout_sink;
 use crate::streams::Stream;
-use prolly_answer::{
-    Answer, Command, Fault, NameFault, Notation, Sought, answer_verify, answer_verify_set,
-};
+use prolly_answer::{Answer, Fault, NameFault, Notation, answer_verify, answer_verify_set};
 use prolly_file::FromRead;
+use prolly_line::{Command, Sought};
 use prolly_range::KeySet;
 use std::alloc::AllocError;
 use std::io::{BufReader, Read};

@@ -4,12 +4,10 @@ ghost use Rattle.std.specs.Option.{option_copied};
 ghost use Rattle.prolly_answer.specs.Answers.{Shows, ShowsNothing, ShowsLine, ShowsDone};
 ghost use Rattle.prolly_answer.specs.Answers.{ShowsFault};
 ghost use Rattle.prolly_answer.specs.Answers.{ShowsFileFault, ShowsFileLine, ShowsName};
-ghost use Rattle.prolly_answer.specs.Answers.{ShowsRefusal};
 ghost use Rattle.prolly_answer.specs.LookUps.{ShowsPair, ShowsRaw, ShowsValue};
 
 use crate::faults::{Fault, NameFault};
 use crate::lines::{append_named_fault, append_named_line, append_pair_text};
-use prolly_line::ParseFault;
 use prolly_text::{Notation, append_name};
 use std::alloc::{AllocError, Global};
 
@@ -164,29 +162,5 @@ impl Answer {
             out,
             err,
         })
-    }
-
-    /// The answer to words that give no command: help as it was asked for, or what is wrong with
-    /// them.
-    pub fn of_refusal(alloc: Global, refusal: ParseFault) -> Result<Answer, AllocError>
-        ensures { IfOk result (λ answer. ShowsRefusal answer refusal) }
-    {
-        match refusal {
-            ParseFault::Memory => Answer::of_fault(alloc, Fault::Memory),
-            ParseFault::BadKey => Answer::of_fault(alloc, Fault::BadKey),
-            ParseFault::BadTextKey => Answer::of_fault(alloc, Fault::BadTextKey),
-            ParseFault::BadRoot => Answer::of_fault(alloc, Fault::BadRoot),
-            ParseFault::LoneRoot => Answer::of_fault(alloc, Fault::LoneRoot),
-            ParseFault::Usage(text) => Ok(Answer {
-                status: 2,
-                out: Vec::new(alloc),
-                err: text.into_bytes(),
-            }),
-            ParseFault::Help(text) => Ok(Answer {
-                status: 0,
-                out: text.into_bytes(),
-                err: Vec::new(alloc),
-            }),
-        }
     }
 }

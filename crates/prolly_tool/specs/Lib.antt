@@ -1,0 +1,2 @@
+-- What is answered to words that give no command.
+pub mod Refusals
