@@ -3,9 +3,8 @@ use Rattle.std.proofs.Common.{◌≡◌, ◌≤◌, List, ℕ, length, ◌⊎◌
 use Rattle.std.specs.Prelude.{◌↔◌, IfOk, IsErrOf, OnErr}
 use Rattle.prolly_entry.specs.Record.{Record}
 use Rattle.prolly_check.specs.Chunks.{IsFile}
-use Rattle.prolly_look_up.specs.Content.{Content}
+use Rattle.prolly_look_up.specs.Content.{Content, IsFileOf}
 use Rattle.prolly_check.specs.Verdict.{IsRefusal}
-use Rattle.prolly_look_up.specs.Content.{IsFileOf}
 use Rattle.prolly_check.specs.declared.verdict.fault.CheckFault.{CheckFault}
 use Rattle.prolly_check.specs.declared.verdict.fault.CheckFault.TheVariants.{Read}
 use Rattle.prolly_answer.specs.Answers.{ShowsFault}

@@ -8,10 +8,8 @@ use Rattle.std.proofs.lemmas.List.Sums.{sum_by-cons}
 use Rattle.prolly_entry.specs.Pair.{Pair}
 use Rattle.prolly_entry.specs.Record.{Record}
 use Rattle.prolly_tree.specs.LookUp.{find}
-use Rattle.prolly_look_up.specs.Content.{chunks_of}
-use Rattle.prolly_look_up.specs.Content.{Content}
+use Rattle.prolly_look_up.specs.Content.{chunks_of, Content, IsFileOf}
 use Rattle.prolly_chunk.specs.Missing.{AreSo, lacking}
-use Rattle.prolly_look_up.specs.Content.{IsFileOf}
 use Rattle.prolly_chunk.specs.declared.missing.Missing.{Missing}
 use Rattle.prolly_answer.specs.Counts.{AreCounts, is_added, is_changed, is_removed, counts_line}
 use Rattle.prolly_answer.specs.Counts.{stat_text}

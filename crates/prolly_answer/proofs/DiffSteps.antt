@@ -23,8 +23,7 @@ use Rattle.prolly_file.specs.Writes.{Writes}
 use Rattle.prolly_tree.specs.Walks.{Maps, AreMaps, IsFirstChange}
 use Rattle.std.specs.Prelude.{IfOk, OnErr}
 use Rattle.prolly_check.specs.Chunks.{IsFile}
-use Rattle.prolly_look_up.specs.Content.{Content}
-use Rattle.prolly_look_up.specs.Content.{IsFileOf}
+use Rattle.prolly_look_up.specs.Content.{Content, IsFileOf}
 use Rattle.prolly_check.specs.lemmas.Sizes.{few_pairs}
 use Rattle.prolly_answer.specs.declared.faults.output_fault.OutputFault.TheVariants.{Memory, Write}
 use Rattle.prolly_answer.specs.declared.answers.answer.Answer.{Answer}

@@ -4,9 +4,8 @@ use Rattle.std.proofs.Common.{Option}
 use Rattle.std.proofs.Common.{Some, None, Result, Ok, Err, refl, sym, ap, ◌∙◌, subst, append-nil}
 use Rattle.std.proofs.lemmas.Bool.{false≢true}
 use Rattle.std.proofs.lemmas.List.Concat.{flat_map-append}
-use Rattle.prolly_look_up.specs.Content.{Content}
+use Rattle.prolly_look_up.specs.Content.{Content, chunk_bytes}
 use Rattle.prolly_entry.specs.Cut.{sha512_cut}
-use Rattle.prolly_look_up.specs.Content.{chunk_bytes}
 use Rattle.prolly_chunk.specs.Missing.{AreSo, lacking}
 use Rattle.prolly_entry.specs.Pair.{Pair}
 use Rattle.prolly_entry.specs.Record.{Record}
@@ -37,14 +36,12 @@ use Rattle.prolly_answer.specs.Counts.{AreCounts, are_some, counts_line}
 use Rattle.prolly_answer.specs.Diff.{AreStopped, AreWritten}
 use Rattle.prolly_answer.specs.Outputs.{IsSettledAs, TookAll, TookSoFar, TookUntil}
 use Rattle.prolly_answer.specs.RootDiffs.{Counts, GaveFirst, IsDoneDiff, IsEndedDiff, IsStatLine}
-use Rattle.prolly_answer.specs.RootDiffs.{IsStoppedDiff}
-use Rattle.prolly_answer.specs.RootDiffs.{OfRoots, TellsDiffReads, TellsNumbers, before_of}
-use Rattle.prolly_answer.specs.RootDiffs.{fault_of}
+use Rattle.prolly_answer.specs.RootDiffs.{IsStoppedDiff, OfRoots, TellsDiffReads, TellsNumbers}
+use Rattle.prolly_answer.specs.RootDiffs.{before_of, fault_of, WroteIn, record_of}
 use Rattle.std.specs.Prelude.{IfErr, IfOk}
 use Rattle.prolly_answer.specs.declared.answers.root_diff.Told.{Told}
 use Rattle.prolly_answer.specs.declared.answers.diff.ChangeCounts.{ChangeCounts}
 use Rattle.prolly_answer.specs.OutputFault.{told}
-use Rattle.prolly_answer.specs.RootDiffs.{WroteIn, record_of}
 use Rattle.prolly_answer.specs.declared.faults.output_fault.OutputFault.{OutputFault}
 use Rattle.prolly_answer.specs.declared.faults.output_fault.OutputFault.TheVariants as outputs
 use Rattle.prolly_answer.specs.RootOutcomes.{RefusesNone}

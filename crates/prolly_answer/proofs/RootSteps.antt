@@ -1,13 +1,12 @@
 -- Going over the pairs of a tree by its root, leaf by leaf.
 use Rattle.std.proofs.Common.{◌≡◌, ◌≢◌, ℕ, ◌<◌, ◌≤◌, inl, inr, true, false, Bool, List, [], ◌∷◌}
-use Rattle.std.proofs.Common.{◌++◌}
-use Rattle.std.proofs.Common.{length, Ok, Err, refl, sym, ap, ◌∙◌, subst, arith, append-nil}
+use Rattle.std.proofs.Common.{◌++◌, length, Ok, Err, refl, sym, ap, ◌∙◌, subst, arith, append-nil}
 use Rattle.std.proofs.lemmas.List.{map-append}
 use Rattle.std.proofs.lemmas.List.Concat.{flat_map-append}
 use Rattle.std.specs.List.{AllByRecursion}
 use Rattle.std.specs.Ordering.{is_lt}
 use Rattle.prolly_look_up.specs.HeldPairs.{pairs_held}
-use Rattle.prolly_look_up.specs.Leaves.{pairs_from}
+use Rattle.prolly_look_up.specs.PairsFrom.{pairs_from}
 use Rattle.prolly_look_up.specs.ScanWay.{AreScanned, EndsEmpty, IsScanWay, from_behind, joined}
 use Rattle.prolly_look_up.specs.ScanWay.{next_key}
 use Rattle.prolly_look_up.specs.Sought.Sought.{Key}
@@ -37,8 +36,7 @@ use Rattle.prolly_answer.specs.declared.faults.root_output_fault.RootOutputFault
 use Rattle.prolly_answer.proofs.DumpSteps.{put_of, record_files_are_dumped}
 use Rattle.prolly_answer.proofs.KeyRanks.{AreBytes, less_room_above, room_above}
 use Rattle.prolly_answer.proofs.ScanSteps.{all_flushed, all_unflushed, behind, behind_more}
-use Rattle.prolly_answer.proofs.ScanSteps.{ends_empty}
-use Rattle.prolly_answer.proofs.ScanSteps.{ends_full, joined_more, prefix_flushed}
+use Rattle.prolly_answer.proofs.ScanSteps.{ends_empty, ends_full, joined_more, prefix_flushed}
 use Rattle.prolly_answer.proofs.ScanSteps.{prefix_unflushed, scanned_more, so_told, took_also}
 use Rattle.prolly_answer.proofs.ScanSteps.{until_also}
 use Rattle.prolly_answer.proofs.Writing.{TookSoFar, took_front, took_none, wrote_part}

@@ -1,8 +1,7 @@
 -- Scans by a root, leaf by leaf.
 use Rattle.std.proofs.Common.{◌≡◌, ◌≢◌, ℕ, suc, zero, ◌-◌, ◌<◌, inl, inr, ◌⊎◌, true, List, [], ◌∷◌}
 use Rattle.std.proofs.Common.{◌++◌, length, take, refl, sym, ap, ◌∙◌, ◌+◌, subst, arith}
-use Rattle.std.proofs.Common.{append_assoc}
-use Rattle.std.proofs.Common.{Err, Result, append-nil}
+use Rattle.std.proofs.Common.{append_assoc, Err, Result, append-nil}
 use Rattle.std.proofs.Math.Seq.{take-append-add}
 use Rattle.std.proofs.lemmas.List.{length-append, take_all}
 use Rattle.std.proofs.lemmas.List.Concat.{flat_map-append}

@@ -1,5 +1,5 @@
 -- What the program prints.
-use Rattle.std.specs.Prelude.{◌≡◌, ℕ, Bool, true, false, List, [], ◌∷◌, ◌++◌, string_bytes, codes}
+use Rattle.std.specs.Prelude.{◌≡◌, ℕ, Bool, true, false, List, [], ◌∷◌, ◌++◌, codes}
 use Rattle.prolly_text.specs.Names.{shown_name}
 use Rattle.prolly_answer.specs.declared.answers.answer.Answer.{Answer}
 use Rattle.prolly_answer.specs.declared.faults.fault.Fault.{Fault}

@@ -6,8 +6,7 @@ use Rattle.std.specs.Prelude.{◌≡◌, ◌&&◌, ℕ, List, [], ◌∷◌, ◌
 use Rattle.prolly_entry.specs.Pair.{Pair}
 use Rattle.prolly_entry.specs.Record.{Record}
 use Rattle.prolly_tree.specs.LookUp.{find}
-use Rattle.prolly_look_up.specs.Content.{chunks_of}
-use Rattle.prolly_look_up.specs.Content.{Content}
+use Rattle.prolly_look_up.specs.Content.{chunks_of, Content}
 use Rattle.prolly_chunk.specs.Missing.{lacking, chunks_size}
 use Rattle.prolly_answer.specs.declared.answers.diff.ChangeCounts.{ChangeCounts}
 

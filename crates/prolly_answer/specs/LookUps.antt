@@ -14,10 +14,9 @@ use Rattle.prolly_tree.specs.Chunk.{chunks}
 use Rattle.prolly_tree.specs.File.{root_reference}
 use Rattle.prolly_tree.specs.LookUp.{find, nth, scan}
 use Rattle.prolly_file.specs.Source.{SourceView}
-use Rattle.prolly_look_up.specs.Content.{Content}
+use Rattle.prolly_look_up.specs.Content.{Content, IsFileOf}
 use Rattle.prolly_check.specs.FirstFlaw.{IsFileOfRoot, IsStreamFault}
 use Rattle.prolly_check.specs.Verdict.{IsRefusal}
-use Rattle.prolly_look_up.specs.Content.{IsFileOf}
 use Rattle.prolly_check.specs.declared.stream.fault.StreamFault.{StreamFault}
 use Rattle.prolly_check.specs.declared.stream.fault.StreamFault.TheVariants as streams
 use Rattle.prolly_check.specs.declared.stream.root_checker.RootReport.{RootReport}

@@ -2,14 +2,15 @@
 use Rattle.std.specs.Prelude.{◌≡◌, ◌≢◌, ℕ, ◌⊎◌, List, Ok, Err}
 use Rattle.prolly_look_up.specs.Content.{Content}
 use Rattle.prolly_check.specs.declared.verdict.fault.CheckFault.{CheckFault}
-use Rattle.prolly_check.specs.declared.verdict.fault.CheckFault.TheVariants.{Read, BadHeader, Truncated, BadEnd}
+use Rattle.prolly_check.specs.declared.verdict.fault.CheckFault.TheVariants.{Read, BadHeader}
+use Rattle.prolly_check.specs.declared.verdict.fault.CheckFault.TheVariants.{Truncated, BadEnd}
 use Rattle.prolly_entry.specs.Cut.{sha512_cut}
 use Rattle.prolly_entry.specs.Reference.{reference_text}
 use Rattle.prolly_entry.specs.declared.reference.Ref.{Ref}
 use Rattle.prolly_file.specs.Failures.{after_failure}
 use Rattle.prolly_root.specs.NamedRoot.{TellsEnd}
-use Rattle.prolly_root.specs.declared.file.end_record.NamedRootFault.{NamedRootFault}
-use Rattle.prolly_root.specs.declared.file.end_record.NamedRootFault.TheVariants as named
+use Rattle.prolly_root.specs.declared.file.named_root_fault.NamedRootFault.{NamedRootFault}
+use Rattle.prolly_root.specs.declared.file.named_root_fault.NamedRootFault.TheVariants as named
 use Rattle.prolly_tree.specs.File.{root_reference}
 use Rattle.prolly_answer.specs.Answers.{ShowsFault, ShowsLine}
 use Rattle.prolly_answer.specs.declared.answers.answer.Answer.{Answer}

@@ -2,8 +2,7 @@
 use Rattle.std.specs.Prelude.{◌≡◌, ◌⊎◌, ℕ, min, Bool, true, List, [], ◌∷◌, ◌++◌, length}
 use Rattle.std.specs.Prelude.{Option, Result, Ok, Err}
 use Rattle.std.specs.List.{AllByRecursion, filter}
-use Rattle.prolly_look_up.specs.Content.{Content}
-use Rattle.prolly_look_up.specs.Content.{chunk_bytes}
+use Rattle.prolly_look_up.specs.Content.{Content, chunk_bytes}
 use Rattle.prolly_look_up.specs.Way.{Clash}
 use Rattle.prolly_entry.specs.Cut.{sha512_cut}
 use Rattle.prolly_entry.specs.Pair.{Pair, IsPair}

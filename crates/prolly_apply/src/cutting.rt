@@ -5,8 +5,8 @@ ghost use Rattle.prolly_tree.specs.Tree.{pair_is_boundary};
 ghost use Rattle.prolly_apply.specs.Cutting.{Admits, NoneInside};
 
 use crate::old_leaf::OldLeaf;
-use prolly_look_up::Pairs;
 use prolly_entry::Cut;
+use prolly_look_up::Pairs;
 
 /// Of so many leaves each pair is tested. Where the tree has more bits than is said, a leaf of it
 /// has a boundary inside: one in two leaves, where it is one bit more.

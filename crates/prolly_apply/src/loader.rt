@@ -1,7 +1,6 @@
 //! Loading the leaves of an old tree.
 ghost use Rattle.std.specs.Prelude.{◌≡◌, ◌<◌, ◌∷◌, [], ◌++◌, None, Some, IfErr, IfOk, IfSome};
-ghost use Rattle.std.specs.Prelude.{OnErr};
-ghost use Rattle.std.specs.Prelude.{OnOk};
+ghost use Rattle.std.specs.Prelude.{OnErr, OnOk};
 ghost use Rattle.prolly_look_up.specs.Content.{Content};
 ghost use Rattle.prolly_look_up.specs.HeldPairs.{pairs_held};
 ghost use Rattle.prolly_entry.specs.Cut.{sha512_cut};
@@ -13,9 +12,9 @@ ghost use Rattle.prolly_tree.specs.File.{root_reference};
 ghost use Rattle.prolly_apply.specs.OldLoaded.{IsOldLoaded, TellsReadsOf, load_end};
 
 use crate::old_leaf::OldLeaf;
-use prolly_look_up::ManyThreads;
 use prolly_entry::{Ref, Version};
 use prolly_link::{End, Out, RunFault};
+use prolly_look_up::ManyThreads;
 use prolly_root::{ReadAhead, RootFault};
 use prolly_root_diff::laws::leaves_are_right;
 use prolly_root_diff::{LeafRead, RootLeaves};

@@ -7,9 +7,9 @@ ghost use Rattle.prolly_entry.specs.declared.version.Version.TheVariants.{One};
 ghost use Rattle.prolly_tree.specs.Chunk.{chunk_of};
 ghost use Rattle.prolly_tree.specs.Tree.{last_key};
 
-use prolly_look_up::{Pairs, leaf_event, pairs_of};
 use prolly_chunk::ChunkEvent;
 use prolly_entry::{Ref, Version};
+use prolly_look_up::{Pairs, leaf_event, pairs_of};
 use std::alloc::{AllocError, Global};
 use std::marker::Model;
 

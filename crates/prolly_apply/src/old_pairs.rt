@@ -13,10 +13,10 @@ ghost use Rattle.prolly_apply.specs.Taking.{closes_leaf};
 
 use crate::old_leaf::OldLeaf;
 use crate::stop::Stop;
-use prolly_look_up::Pairs;
 use prolly_chunk::{ChunkEvent, LeafLevel};
 use prolly_entry::{Cut, Pair, Record, key_order};
 use prolly_link::{End, In, Out, RunFault};
+use prolly_look_up::Pairs;
 use prolly_merge::{Head, Peeked};
 use prolly_stage::{send_event, take_decided_pair, take_pair};
 use std::alloc::{AllocError, Global};

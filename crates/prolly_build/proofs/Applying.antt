@@ -40,8 +40,7 @@ use Rattle.prolly_apply.specs.Cutting.{AreCut}
 use Rattle.prolly_apply.specs.OldLoaded.{AreLeavesOf, IsOldLoaded, load_end}
 use Rattle.prolly_apply.specs.Taking.{both, pairs_of}
 use Rattle.prolly_apply.specs.lemmas.OldLeaves.{first_are_cut, first_pairs, leaves_are_cut}
-use Rattle.prolly_apply.specs.lemmas.OldLeaves.{pairs_are}
-use Rattle.prolly_apply.specs.lemmas.OldLeaves.{rest_are_cut}
+use Rattle.prolly_apply.specs.lemmas.OldLeaves.{pairs_are, rest_are_cut}
 use Rattle.prolly_build.specs.Applied.{IsMapOf, IsOldFault}
 use Rattle.prolly_build.specs.BuiltFile.{AreRead, IsInputEnd, IsLoadFault, IsRunOf}
 use Rattle.prolly_build.specs.Config.{AreLawful, Settings}

@@ -1,11 +1,9 @@
 -- What applying changes to an old tree has answered, and what it has made of its sources and of the
 -- sink then.
 use Rattle.std.specs.Prelude.{◌≡◌, ◌≢◌, ◌<◌, ◌^◌, ◌⊎◌, ℕ, Bool, true, false, List, ◌∷◌, length}
-use Rattle.std.specs.Prelude.{Option}
-use Rattle.std.specs.Prelude.{Some, None, Result, IfOk, IfErr, IfSome, OnOk}
+use Rattle.std.specs.Prelude.{Option, Some, None, Result, IfOk, IfErr, IfSome, OnOk}
 use Rattle.std.specs.List.{AllByRecursion}
-use Rattle.prolly_look_up.specs.Content.{Content}
-use Rattle.prolly_look_up.specs.Content.{chunk_bytes}
+use Rattle.prolly_look_up.specs.Content.{Content, chunk_bytes}
 use Rattle.prolly_entry.specs.Cut.{sha512_cut}
 use Rattle.prolly_entry.specs.Overlay.{overlay}
 use Rattle.prolly_entry.specs.Pair.{IsPair, Pair}

@@ -7,7 +7,7 @@ use Rattle.prolly_entry.specs.Front.{NoPairAt}
 use Rattle.prolly_entry.specs.Pair.{Pair, IsPair}
 use Rattle.prolly_entry.specs.Spelling.{BeginsWith, pair_spelling}
 use Rattle.prolly_look_up.specs.Entries.{IsLeaf}
-use Rattle.prolly_look_up.specs.Leaves.{pairs_from}
+use Rattle.prolly_look_up.specs.PairsFrom.{pairs_from}
 use Rattle.prolly_look_up.specs.Sought.Sought.{Key}
 use Rattle.prolly_look_up.specs.lemmas.PairLists.{from_all}
 use Rattle.prolly_tree.specs.Difference.{IsMap}

@@ -1,8 +1,7 @@
 -- Reading the entries of a leaf, one pair after another.
 use Rattle.std.proofs.Common.{◌≡◌, ℕ, zero, suc, ◌-◌, ◌<◌, true, false, cond, not, List, [], ◌∷◌}
-use Rattle.std.proofs.Common.{◌++◌}
-use Rattle.std.proofs.Common.{length, take, drop, Some, None, refl, sym, ap, ◌∙◌, subst, arith}
-use Rattle.std.proofs.Common.{append_assoc}
+use Rattle.std.proofs.Common.{◌++◌, length, take, drop, Some, None, refl, sym, ap, ◌∙◌, subst}
+use Rattle.std.proofs.Common.{arith, append_assoc}
 use Rattle.std.specs.Int.{w16, to_be_bytes}
 use Rattle.std.specs.Ordering.{is_eq, is_lt}
 use Rattle.std.proofs.lemmas.List.{length-append}
@@ -15,7 +14,7 @@ use Rattle.prolly_entry.specs.Keys.{key_order}
 use Rattle.prolly_tree.specs.LookUp.{find, nth}
 use Rattle.prolly_tree.specs.lemmas.Maps.{Rises}
 use Rattle.prolly_look_up.specs.Entries.{IsLeaf}
-use Rattle.prolly_look_up.specs.Leaves.{pairs_from}
+use Rattle.prolly_look_up.specs.PairsFrom.{pairs_from}
 use Rattle.prolly_look_up.specs.lemmas.PairLists.{from_first}
 use Rattle.prolly_c.specs.Runs.{IsEnd}
 
@@ -183,7 +182,7 @@ seeks_on from whole left some none seeks pairs leaf rise =
 
 -- ---- the last of the bytes
 
--- What is left behind some of them is the last of the bytes, too.
+-- Where some bytes are the last of others, so is what is left behind a first part of them.
 pub end_behind : (bytes left rest spelled : List ℕ) → IsEnd bytes left → left ≡ spelled ++ rest →
     IsEnd bytes rest
 end_behind bytes left rest spelled end is = record {

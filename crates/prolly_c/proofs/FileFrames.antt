@@ -11,18 +11,14 @@ use Rattle.prolly_file.specs.Frame.{IsSmall, framed, has_no_frame}
 use Rattle.prolly_file.specs.FrameLaws.{begins_frame, one_front}
 use Rattle.prolly_file.specs.Header.{header_fault, header_tests}
 use Rattle.prolly_file.specs.declared.format.header.HeaderFault.{HeaderFault}
-use Rattle.prolly_look_up.specs.Content.{chunks_of}
-use Rattle.prolly_look_up.specs.Content.{Content}
+use Rattle.prolly_look_up.specs.Content.{chunks_of, Content, chunk_bytes, IsFileOf}
 use Rattle.prolly_check.specs.ReadChunks.{AllHold, IsRead}
 use Rattle.prolly_look_up.specs.Entries.{Holds}
 use Rattle.prolly_check.specs.FirstFault.{canonical_fault, difference, judged}
-use Rattle.prolly_look_up.specs.Content.{chunk_bytes}
 use Rattle.prolly_check.specs.FirstFault.{or_content, order_fault}
 use Rattle.prolly_check.specs.Frames.{IsFramed}
 use Rattle.prolly_look_up.specs.HeldPairs.{pairs_held}
-use Rattle.prolly_check.specs.Verdict.{EndVerdict, HeaderVerdict}
-use Rattle.prolly_check.specs.Verdict.{AcceptsFiles, ReadVerdict}
-use Rattle.prolly_look_up.specs.Content.{IsFileOf}
+use Rattle.prolly_check.specs.Verdict.{EndVerdict, HeaderVerdict, AcceptsFiles, ReadVerdict}
 use Rattle.prolly_check.specs.declared.verdict.fault.CheckFault.{CheckFault}
 use Rattle.prolly_check.specs.lemmas.Faults.{difference_ok, or_none}
 use Rattle.prolly_look_up.specs.lemmas.HeldPairs.{held_is}

@@ -20,5 +20,5 @@ pub mod Verifying
 pub mod RangeParts
 -- The pairs of a range that the chunks of its proof show.
 pub mod ShownPairs
--- What the index of a range's proof has, for who knows the root of a map.
-pub mod RangeRight
+-- How many runs the pairs of a range's proof need.
+pub mod RangeRuns

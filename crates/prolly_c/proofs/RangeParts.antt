@@ -1,15 +1,13 @@
 -- The pairs of a range among those of a leaf: they stand together.
-use Rattle.std.proofs.Common.{◌≡◌, ℕ, ◌+◌, ◌-◌, ◌<◌, Bool, true, false, not, ◌&&◌, List, []}
-use Rattle.std.proofs.Common.{◌∷◌, ◌++◌}
-use Rattle.std.proofs.Common.{length, drop, Option, Some, None, refl, sym, ap, ◌∙◌, subst, cond}
-use Rattle.std.proofs.Common.{arith}
-use Rattle.std.proofs.Common.{append_assoc, append-nil}
+use Rattle.std.proofs.Common.{◌≡◌, ℕ, ◌+◌, ◌-◌, ◌<◌, Bool, true, false, not, ◌&&◌, List, [], ◌∷◌}
+use Rattle.std.proofs.Common.{◌++◌, length, drop, Option, Some, None, refl, sym, ap, ◌∙◌, subst}
+use Rattle.std.proofs.Common.{cond, arith, append_assoc, append-nil}
 use Rattle.std.specs.List.{filter, flat_map, AllByRecursion}
 use Rattle.std.specs.Ordering.{is_lt}
 use Rattle.std.proofs.lemmas.List.{length-append}
 use Rattle.std.proofs.lemmas.List.Concat.{flat_map-append}
 use Rattle.prolly_look_up.specs.Entries.{IsLeaf}
-use Rattle.prolly_look_up.specs.Leaves.{pairs_from}
+use Rattle.prolly_look_up.specs.PairsFrom.{pairs_from}
 use Rattle.prolly_look_up.specs.lemmas.PairLists.{above_not, from_first}
 use Rattle.prolly_entry.specs.Keys.{key_order}
 use Rattle.prolly_entry.specs.Pair.{Pair, IsPair}

@@ -14,11 +14,10 @@ use Rattle.prolly_tree.specs.Difference.{IsMap}
 use Rattle.prolly_tree.specs.LookUp.{find, nth}
 use Rattle.prolly_tree.specs.lemmas.Maps.{Above, FirstAbove, Rises, above_first, find_above}
 use Rattle.prolly_tree.specs.lemmas.Maps.{map_behind, rises, rises_front}
-use Rattle.prolly_look_up.specs.Leaves.{pairs_from}
+use Rattle.prolly_look_up.specs.PairsFrom.{pairs_from}
 use Rattle.prolly_look_up.specs.Sought.Sought.{Key, Number}
 use Rattle.prolly_look_up.specs.lemmas.PairLists.{find_first, find_over, from_all, none_from}
-use Rattle.prolly_look_up.specs.lemmas.PairLists.{nth_back}
-use Rattle.prolly_look_up.specs.lemmas.PairLists.{nth_front, pairs_from-append}
+use Rattle.prolly_look_up.specs.lemmas.PairLists.{nth_back, nth_front, pairs_from-append}
 use Rattle.prolly_c.specs.Runs.{AreRuns, AreUpTo, IsRun}
 use Rattle.prolly_c.specs.declared.run.Run.{Run}
 

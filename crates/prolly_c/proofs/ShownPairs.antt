@@ -1,8 +1,7 @@
 -- The pairs of a range that the chunks of its proof show, one chunk after another.
 use Rattle.std.proofs.Common.{◌≡◌, ℕ, zero, suc, ◌+◌, ◌<◌, ◌≤◌, Bool, true, false, List, [], ◌∷◌}
-use Rattle.std.proofs.Common.{◌++◌}
-use Rattle.std.proofs.Common.{length, drop, get_or, map, Option, Some, None, refl, sym, ap, ◌∙◌}
-use Rattle.std.proofs.Common.{subst, arith, append_assoc, append-nil, if◌then◌else◌}
+use Rattle.std.proofs.Common.{◌++◌, length, drop, get_or, map, Option, Some, None, refl, sym, ap}
+use Rattle.std.proofs.Common.{◌∙◌, subst, arith, append_assoc, append-nil, if◌then◌else◌}
 use Rattle.std.proofs.lemmas.Bool.{false≢true}
 use Rattle.std.specs.List.{flat_map, AllByRecursion}
 use Rattle.std.specs.Ordering.{is_lt}
@@ -20,8 +19,7 @@ use Rattle.prolly_file.specs.FrameLaws.{begins_frame, one_front}
 use Rattle.prolly_range.specs.KeySet.{KeySet, is_before, met_first, met_in, pairs_wanted}
 use Rattle.prolly_range.specs.KeySet.KeySet.{Range}
 use Rattle.prolly_range.specs.SetProof.{AreTaken, Due, IsSetProof, child_due, due_below}
-use Rattle.prolly_range.specs.SetProof.{pairs_there}
-use Rattle.prolly_range.specs.SetProof.{root_due, set_start}
+use Rattle.prolly_range.specs.SetProof.{pairs_there, root_due, set_start}
 use Rattle.prolly_tree.specs.lemmas.Maps.{Rises, rises}
 use Rattle.prolly_c.proofs.Entries.{end_behind}
 use Rattle.prolly_look_up.specs.lemmas.ReadEntries.{leaf_pairs}

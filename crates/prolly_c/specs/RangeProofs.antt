@@ -4,7 +4,7 @@ use Rattle.std.specs.Prelude.{◌≡◌, ◌≤◌, ◌⊎◌, ℕ, Bool, List, 
 use Rattle.std.specs.Prelude.{Option, Some, None, if◌then◌else◌}
 use Rattle.prolly_look_up.specs.Content.{chunk_bytes}
 use Rattle.prolly_look_up.specs.Kinds.{kind_of}
-use Rattle.prolly_look_up.specs.Leaves.{pairs_from}
+use Rattle.prolly_look_up.specs.PairsFrom.{pairs_from}
 use Rattle.prolly_look_up.specs.Way.{IsOrdered}
 use Rattle.prolly_entry.specs.Pair.{Pair}
 use Rattle.prolly_entry.specs.Version.{version_byte}

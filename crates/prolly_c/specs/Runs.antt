@@ -4,13 +4,11 @@ use Rattle.std.specs.Prelude.{◌≡◌, ℕ, ◌+◌, ◌-◌, ◌<◌, ◌≤�
 use Rattle.std.specs.Prelude.{drop, get_or, map, Result, MatchResult}
 use Rattle.prolly_entry.specs.Keys.{KeyBelow}
 use Rattle.prolly_entry.specs.Pair.{Pair}
-use Rattle.prolly_look_up.specs.Content.{chunks_of}
-use Rattle.prolly_look_up.specs.Content.{Content}
+use Rattle.prolly_look_up.specs.Content.{chunks_of, Content, IsFileOf}
 use Rattle.prolly_look_up.specs.Entries.{IsLeaf}
 use Rattle.prolly_look_up.specs.HeldPairs.{pairs_held}
 use Rattle.prolly_look_up.specs.Sought.{Sought}
 use Rattle.prolly_look_up.specs.Sought.Sought.{Key, Number}
-use Rattle.prolly_look_up.specs.Content.{IsFileOf}
 use Rattle.prolly_c.specs.declared.run.Run.{Run}
 use Rattle.prolly_c.specs.declared.status.WrongIndex.{WrongIndex}
 

@@ -1,8 +1,7 @@
 //! Whether bytes are a chunk file, and what it says.
 ghost use Rattle.std.specs.Prelude.{◌≡◌, ◌≢◌, ◌⊎◌};
 ghost use Rattle.prolly_check.specs.Chunks.{IsFile};
-ghost use Rattle.prolly_look_up.specs.Content.{Content};
-ghost use Rattle.prolly_look_up.specs.Content.{IsFileOf};
+ghost use Rattle.prolly_look_up.specs.Content.{Content, IsFileOf};
 ghost use Rattle.prolly_c.specs.Report.{IsRefused, IsReport, KeepsRest};
 
 use crate::status::{DONE, check_status, tell};

@@ -2,7 +2,7 @@
 ghost use Rattle.std.specs.Prelude.{◌≡◌, ◌≢◌, ◌⊎◌, ◌≤◌, ◌∷◌, [], List};
 ghost use Rattle.prolly_entry.specs.Pair.{Pair};
 ghost use Rattle.prolly_look_up.specs.Content.{Content};
-ghost use Rattle.prolly_look_up.specs.Leaves.{pairs_from};
+ghost use Rattle.prolly_look_up.specs.PairsFrom.{pairs_from};
 ghost use Rattle.prolly_c.specs.Cursor.{IsAt};
 ghost use Rattle.prolly_c.specs.Runs.{IsIndexOf};
 

@@ -1,7 +1,6 @@
 //! The index of a chunk file.
 ghost use Rattle.std.specs.Prelude.{◌≡◌, ◌≢◌, ◌⊎◌, ◌≤◌, ◌<◌, length, take, drop};
-ghost use Rattle.prolly_look_up.specs.Content.{Content};
-ghost use Rattle.prolly_look_up.specs.Content.{IsFileOf};
+ghost use Rattle.prolly_look_up.specs.Content.{Content, IsFileOf};
 ghost use Rattle.prolly_c.specs.Cursor.{IsAt, first_place};
 ghost use Rattle.prolly_c.specs.Runs.{IsIndexOf, run_count};
 

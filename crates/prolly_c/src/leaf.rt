@@ -6,7 +6,7 @@ ghost use Rattle.prolly_tree.specs.LookUp.{find, nth};
 ghost use Rattle.prolly_tree.specs.lemmas.Maps.{Rises};
 ghost use Rattle.prolly_look_up.specs.Entries.{IsLeaf};
 ghost use Rattle.prolly_look_up.specs.FoundPairs.{pair_found};
-ghost use Rattle.prolly_look_up.specs.Leaves.{pairs_from};
+ghost use Rattle.prolly_look_up.specs.PairsFrom.{pairs_from};
 ghost use Rattle.prolly_c.specs.Runs.{Answers, IsEnd};
 
 use crate::status::WrongIndex;

@@ -3,8 +3,7 @@ ghost use Rattle.std.specs.Prelude.{◌≡◌, ◌≢◌, ◌⊎◌, ◌<◌, �
 ghost use Rattle.prolly_entry.specs.Cut.{sha512_cut};
 ghost use Rattle.prolly_entry.specs.Version.{version_byte};
 ghost use Rattle.prolly_tree.specs.File.{root_reference};
-ghost use Rattle.prolly_look_up.specs.Content.{Content};
-ghost use Rattle.prolly_look_up.specs.Content.{IsFileOf};
+ghost use Rattle.prolly_look_up.specs.Content.{Content, IsFileOf};
 ghost use Rattle.prolly_c.specs.Proofs.{HasProof, ProvesSome, TellsFault};
 
 use crate::prover::proof_in;

@@ -2,8 +2,7 @@
 ghost use Rattle.std.specs.Prelude.{◌≡◌, ◌≢◌, IfErr, IfOk};
 ghost use Rattle.prolly_entry.specs.Cut.{sha512_cut};
 ghost use Rattle.prolly_tree.specs.File.{root_reference};
-ghost use Rattle.prolly_look_up.specs.Content.{Content};
-ghost use Rattle.prolly_look_up.specs.Content.{IsFileOf};
+ghost use Rattle.prolly_look_up.specs.Content.{Content, IsFileOf};
 ghost use Rattle.prolly_root.specs.ProofFile.{IsSomeProof};
 ghost use Rattle.prolly_root.specs.declared.root_fault.RootFault.TheVariants.{Memory, Read};
 ghost use Rattle.prolly_range.specs.KeySet.{set_of};

@@ -9,7 +9,7 @@ ghost use Rattle.prolly_range.specs.KeySet.KeySet.{Range};
 ghost use Rattle.prolly_range.specs.SetProof.{IsSetProof};
 ghost use Rattle.prolly_tree.specs.lemmas.Maps.{Rises};
 ghost use Rattle.prolly_look_up.specs.Entries.{IsLeaf};
-ghost use Rattle.prolly_look_up.specs.Leaves.{pairs_from};
+ghost use Rattle.prolly_look_up.specs.PairsFrom.{pairs_from};
 ghost use Rattle.prolly_c.specs.RangeProofs.{HasShown, IsNoRangeProof, Shows, pairs_behind};
 ghost use Rattle.prolly_c.specs.RangeProofs.{runs_shown};
 ghost use Rattle.prolly_c.specs.Runs.{Answers, AreRuns, IsEnd};

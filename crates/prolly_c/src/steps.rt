@@ -2,7 +2,7 @@
 ghost use Rattle.std.specs.Prelude.{◌≡◌, ◌<◌, [], ℕ, List, MatchOption, IfOk, IfSome};
 ghost use Rattle.prolly_entry.specs.Pair.{Pair};
 ghost use Rattle.prolly_tree.specs.Difference.{IsMap};
-ghost use Rattle.prolly_look_up.specs.Leaves.{pairs_from};
+ghost use Rattle.prolly_look_up.specs.PairsFrom.{pairs_from};
 ghost use Rattle.prolly_c.specs.Cursor.{IsAt, Steps, weight};
 ghost use Rattle.prolly_c.specs.Runs.{Answers, AreRuns};
 

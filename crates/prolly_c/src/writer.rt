@@ -4,9 +4,8 @@ ghost use Rattle.std.specs.Prelude.{IfSome, MatchOption};
 ghost use Rattle.prolly_entry.specs.Pair.{Pair};
 ghost use Rattle.prolly_entry.specs.declared.version.Version.{Version};
 ghost use Rattle.prolly_file.specs.Frame.{framed};
-ghost use Rattle.prolly_look_up.specs.Content.{Content};
+ghost use Rattle.prolly_look_up.specs.Content.{Content, IsFileOf};
 ghost use Rattle.prolly_look_up.specs.Entries.{Holds};
-ghost use Rattle.prolly_look_up.specs.Content.{IsFileOf};
 ghost use Rattle.prolly_c.specs.Runs.{AreRuns, IsEnd, IsRun, run_count};
 ghost use Rattle.prolly_c.specs.Writing.{Passes, Spells, Wrote, WroteChunk};
 

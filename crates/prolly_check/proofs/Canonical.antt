@@ -1,7 +1,6 @@
 -- The chunks of a file, followed from the first to the last.
 use Rattle.std.proofs.Common.{◌≡◌, ℕ, suc, ◌<◌, ◌^◌, List, [], ◌∷◌, ◌++◌, length, take, drop, Some}
-use Rattle.std.proofs.Common.{None}
-use Rattle.std.proofs.Common.{◌+◌, ◌≤◌, Result, Ok, Err, get_or, sym, ap, ◌∙◌, subst, arith}
+use Rattle.std.proofs.Common.{None, ◌+◌, ◌≤◌, Result, Ok, Err, get_or, sym, ap, ◌∙◌, subst, arith}
 use Rattle.std.proofs.Common.{append-nil, inl, inr}
 use Rattle.std.proofs.Math.Logic.{⊎_map}
 use Rattle.std.proofs.Math.Seq.{drop-cons}

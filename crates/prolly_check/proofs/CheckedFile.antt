@@ -23,22 +23,17 @@ use Rattle.prolly_tree.specs.lemmas.Splits.{flat}
 use Rattle.prolly_file.specs.Frame.{framed, has_no_frame, IsSmall, BeginsFrame}
 use Rattle.prolly_file.specs.Header.{header_tests, header_fault, version_of}
 use Rattle.prolly_file.specs.declared.format.header.Header.{Header}
-use Rattle.prolly_look_up.specs.Content.{chunks_of}
+use Rattle.prolly_look_up.specs.Content.{chunks_of, Content, root_bytes, chunk_bytes, IsFileOf}
 use Rattle.prolly_check.specs.Chunks.{IsChecked, content_of, IsLaidOut, HasAt, IsIndex}
 use Rattle.prolly_check.specs.Chunks.{AreReferences}
-use Rattle.prolly_look_up.specs.Content.{Content, root_bytes}
 use Rattle.prolly_check.specs.ReadChunks.{IsBad, IsRead}
 use Rattle.prolly_look_up.specs.Entries.{AreWhole}
 use Rattle.prolly_check.specs.Frames.{ending_of, IsFramed, chunks_in, FramesTo, chunk_in, IsWithin}
 use Rattle.prolly_look_up.specs.HeldPairs.{pairs_held}
-use Rattle.prolly_check.specs.FirstFault.{Says, reuse, canonical_fault, or_content}
-use Rattle.prolly_look_up.specs.Content.{chunk_bytes}
-use Rattle.prolly_check.specs.FirstFault.{judged}
+use Rattle.prolly_check.specs.FirstFault.{Says, reuse, canonical_fault, or_content, judged}
 use Rattle.prolly_check.specs.FirstFault.{CompareAs, ending_of_chunks, order_fault, ending_for}
 use Rattle.prolly_chunk.specs.Missing.{chunks_size}
-use Rattle.prolly_check.specs.Verdict.{UnlessMemory, IsVerdict, ReadVerdict}
-use Rattle.prolly_look_up.specs.Content.{IsFileOf}
-use Rattle.prolly_check.specs.Verdict.{FramesVerdict}
+use Rattle.prolly_check.specs.Verdict.{UnlessMemory, IsVerdict, ReadVerdict, FramesVerdict}
 use Rattle.prolly_check.specs.declared.chunks.Index.{Index}
 use Rattle.prolly_check.specs.declared.verdict.fault.CheckFault.{CheckFault}
 use Rattle.prolly_check.specs.lemmas.Sizes.{few_in_frames, frames_in}

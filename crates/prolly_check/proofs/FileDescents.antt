@@ -13,10 +13,8 @@ use Rattle.prolly_tree.specs.Chunk.{IsIn, chunk_of}
 use Rattle.prolly_tree.specs.Tree.{bytes_of, pairs_below}
 use Rattle.prolly_laws.specs.Trees.{top_in}
 use Rattle.prolly_check.specs.Chunks.{HasFile, HasReference, HasAt}
-use Rattle.prolly_look_up.specs.Content.{chunks_of}
-use Rattle.prolly_look_up.specs.Content.{Content, root_bytes}
+use Rattle.prolly_look_up.specs.Content.{chunks_of, Content, root_bytes, nth_chunk}
 use Rattle.prolly_check.specs.FileWays.{CanBeSought, IsWayEnd, IsNamedAt, IsNextOnWay, IsTop}
-use Rattle.prolly_look_up.specs.Content.{nth_chunk}
 use Rattle.prolly_look_up.specs.HeldPairs.{pairs_held}
 use Rattle.prolly_look_up.specs.Kinds.{kind_of}
 use Rattle.prolly_look_up.specs.Sought.{Sought, EndsAt, LeadsOn, sought_of}

@@ -10,8 +10,7 @@ use Rattle.std.specs.Str.{bytes_eq}
 use Rattle.std.proofs.Math.Seq.{drop-cons, get_or-append_seam, take-append_seam}
 use Rattle.std.proofs.lemmas.Bool.{cond-false, false_from_ne_true, ne_eqb}
 use Rattle.std.proofs.lemmas.List.{append_cancel_left, get_or_append_left, length-append}
-use Rattle.std.proofs.lemmas.List.{map-append}
-use Rattle.std.proofs.lemmas.List.{take-append-drop, take-append-le}
+use Rattle.std.proofs.lemmas.List.{map-append, take-append-drop, take-append-le}
 use Rattle.std.proofs.lemmas.List.Concat.{flat_map-append}
 use Rattle.std.proofs.lemmas.Slice.Eq.{bytes_eq-Decides}
 use Rattle.prolly_entry.specs.Cut.{sha512_cut}
@@ -43,8 +42,7 @@ use Rattle.prolly_look_up.specs.lemmas.LeafEvents.{leaf_bytes}
 use Rattle.prolly_look_up.specs.lemmas.EntryLists.{leaf_pairs}
 use Rattle.prolly_look_up.specs.lemmas.HeldPairs.{bytes_append}
 use Rattle.prolly_check.proofs.NextLeaf.{held_all, held_leaves, held_sent, leaf_follows}
-use Rattle.prolly_check.proofs.NextLeaf.{sent_begins}
-use Rattle.prolly_check.proofs.NextLeaf.{other_group, ends_open}
+use Rattle.prolly_check.proofs.NextLeaf.{sent_begins, other_group, ends_open}
 use Rattle.prolly_check.proofs.OpenLevels.{unused_behind, unused_sent}
 use Rattle.prolly_check.proofs.OpenLevels.{difference_along}
 

@@ -18,10 +18,9 @@ use Rattle.prolly_tree.specs.lemmas.Maps.{Above, Rises, rises, rises_back}
 use Rattle.prolly_file.specs.Sink.{SinkView, TakesPrefix}
 use Rattle.prolly_file.specs.Writes.{Writes}
 use Rattle.prolly_check.specs.Chunks.{HasFile}
-use Rattle.prolly_look_up.specs.Content.{chunks_of}
-use Rattle.prolly_look_up.specs.Content.{Content}
+use Rattle.prolly_look_up.specs.Content.{chunks_of, Content}
 use Rattle.prolly_look_up.specs.HeldPairs.{pairs_held}
-use Rattle.prolly_look_up.specs.Leaves.{pairs_from}
+use Rattle.prolly_look_up.specs.PairsFrom.{pairs_from}
 use Rattle.prolly_look_up.specs.ScanWay.{AreFirstFrom, next_key}
 use Rattle.prolly_look_up.specs.lemmas.HeldPairs.{map_holds}
 use Rattle.prolly_look_up.specs.lemmas.PairsFrom.{above_some, from_all, pairs_from-append}

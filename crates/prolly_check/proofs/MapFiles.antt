@@ -24,11 +24,9 @@ use Rattle.prolly_file.specs.Frame.{framed, has_no_frame, IsSmall}
 use Rattle.prolly_file.specs.FrameLaws.{begins_frame, frames_bytes, one_front}
 use Rattle.prolly_file.specs.Header.{header_fault, header_tests, version_of}
 use Rattle.prolly_file.specs.declared.format.header.HeaderFault.TheVariants as header_faults
-use Rattle.prolly_look_up.specs.Content.{Content}
+use Rattle.prolly_look_up.specs.Content.{Content, chunk_bytes}
 use Rattle.prolly_look_up.specs.Entries.{AreWhole, IsWhole}
-use Rattle.prolly_look_up.specs.Content.{chunk_bytes}
-use Rattle.prolly_check.specs.FirstFault.{difference, ending_for, order_fault}
-use Rattle.prolly_check.specs.FirstFault.{rises_behind}
+use Rattle.prolly_check.specs.FirstFault.{difference, ending_for, order_fault, rises_behind}
 use Rattle.prolly_check.specs.FirstFlaw.{IsBodyFault, IsBodyFlaw, IsFlawBehind, IsGoodBody}
 use Rattle.prolly_check.specs.FirstFlaw.{IsMapFile, IsStreamFault, end_flaw, flaw_at_end}
 use Rattle.prolly_look_up.specs.HeldPairs.{pairs_held}

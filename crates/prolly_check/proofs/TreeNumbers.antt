@@ -33,8 +33,7 @@ use Rattle.prolly_tree.specs.lemmas.Trees.{Full}
 use Rattle.prolly_laws.specs.Trees.{grow_is, tree_full}
 use Rattle.prolly_check.specs.Chunks.{HasAt, IsIndex}
 use Rattle.prolly_check.specs.Numbers.{IsAtPlace, IsLevel, at_level, AreLevels, AreOfMap}
-use Rattle.prolly_chunk.specs.Missing.{AreSo}
-use Rattle.prolly_chunk.specs.Missing.{has_reference, lacking, chunks_size}
+use Rattle.prolly_chunk.specs.Missing.{AreSo, has_reference, lacking, chunks_size}
 use Rattle.prolly_look_up.specs.Way.{level_of}
 use Rattle.prolly_check.specs.declared.chunks.Index.{Index}
 use Rattle.prolly_chunk.specs.declared.level_stats.LevelStats.{LevelStats}

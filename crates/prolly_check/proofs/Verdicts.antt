@@ -25,17 +25,15 @@ use Rattle.prolly_tree.specs.lemmas.Splits.{flat}
 use Rattle.prolly_file.specs.Frame.{framed, IsSmall}
 use Rattle.prolly_file.specs.FrameLaws.{frames_bytes}
 use Rattle.prolly_file.specs.Header.{header_tests, header_fault, version_of}
-use Rattle.prolly_look_up.specs.Content.{Content}
+use Rattle.prolly_look_up.specs.Content.{Content, chunk_bytes, AllApart, IsFileOf}
 use Rattle.prolly_look_up.specs.Entries.{Holds}
 use Rattle.prolly_check.specs.ReadChunks.{AllHold, IsRead}
 use Rattle.prolly_check.specs.Frames.{ending_of, IsFramed}
 use Rattle.prolly_look_up.specs.HeldPairs.{pairs_held}
 use Rattle.prolly_check.specs.FirstFault.{order_fault, difference, end_fault, reuse}
-use Rattle.prolly_look_up.specs.Content.{chunk_bytes}
 use Rattle.prolly_check.specs.FirstFault.{ending_for, canonical_fault, judged, rises_behind}
 use Rattle.prolly_check.specs.FirstFault.{last_behind, or_content}
 use Rattle.prolly_check.specs.Verdict.{ReadVerdict, EndVerdict, IsVerdict}
-use Rattle.prolly_look_up.specs.Content.{AllApart, IsFileOf}
 use Rattle.prolly_check.specs.Verdict.{FramesVerdict, AcceptsFiles}
 use Rattle.prolly_check.specs.declared.verdict.fault.CheckFault.{CheckFault}
 use Rattle.prolly_check.specs.declared.verdict.fault.CheckFault.TheVariants.{NotCanonical}

@@ -9,12 +9,11 @@ use Rattle.prolly_entry.specs.Reference.{reference_of}
 use Rattle.prolly_entry.specs.declared.reference.Ref.{Ref}
 use Rattle.prolly_tree.specs.Chunk.{IsIn}
 use Rattle.prolly_file.specs.declared.format.header.Header.{Header}
-use Rattle.prolly_look_up.specs.Content.{Content, chunks_of}
+use Rattle.prolly_look_up.specs.Content.{Content, chunks_of, IsFileOf}
 use Rattle.prolly_look_up.specs.Entries.{AreWhole}
 use Rattle.prolly_check.specs.Frames.{IsWithin, chunks_in}
 use Rattle.prolly_look_up.specs.HeldPairs.{pairs_held}
 use Rattle.prolly_check.specs.FirstFault.{judged}
-use Rattle.prolly_look_up.specs.Content.{IsFileOf}
 use Rattle.prolly_check.specs.Verdict.{IsVerdict}
 use Rattle.prolly_check.specs.declared.chunks.Index.{Index}
 
@@ -70,7 +69,7 @@ pub record IsLaidOut (bytes : List ℕ) (header : Header) (spans : List (Range �
   pub so : IsVerdict bytes (judged header.version header.bits (chunks_in bytes spans) ending
       (map pairs_held (chunks_in bytes spans)))
 
--- The header, the places of the chunks and the index are those of the file.
+-- The header, the spans of the chunks and the index are those of the file.
 pub record IsChecked (bytes : List ℕ) (header : Header) (spans : List (Range ℕ))
     (index : Index) : Type 0 where
   pub is : IsFileOf bytes (content_of header (chunks_in bytes spans))

@@ -6,9 +6,8 @@ use Rattle.prolly_entry.specs.declared.version.Version.{Version}
 use Rattle.prolly_entry.specs.declared.version.Version.TheVariants.{Two}
 use Rattle.prolly_tree.specs.Chunk.{IsIn}
 use Rattle.prolly_tree.specs.Tree.{Tree, bytes_of, pairs_below}
-use Rattle.prolly_look_up.specs.Content.{chunks_of}
-use Rattle.prolly_look_up.specs.Content.{Content, root_bytes, nth_chunk}
-use Rattle.prolly_look_up.specs.Descent.{IsTreeOf}
+use Rattle.prolly_look_up.specs.Content.{chunks_of, Content, root_bytes, nth_chunk}
+use Rattle.prolly_look_up.specs.MapTree.{IsTreeOf}
 use Rattle.prolly_look_up.specs.Kinds.{kind_of}
 use Rattle.prolly_look_up.specs.Sought.{Sought, LeadsOn, sought_of}
 use Rattle.prolly_look_up.specs.Sought.Sought.{Key, Number}

@@ -1,8 +1,7 @@
 -- What the chunks of a file that were read so far say of those that must follow.
 use Rattle.std.specs.List.{flat_map, AllByRecursion}
 use Rattle.std.specs.Prelude.{◌≡◌, ℕ, suc, ◌+◌, ◌<◌, true, false, List, [], ◌∷◌, ◌++◌, length, map}
-use Rattle.std.specs.Prelude.{take}
-use Rattle.std.specs.Prelude.{get_or, Option, Some, None, Result, MatchResult}
+use Rattle.std.specs.Prelude.{take, get_or, Option, Some, None, Result, MatchResult}
 use Rattle.prolly_entry.specs.Cut.{sha512_cut}
 use Rattle.prolly_entry.specs.Pair.{Pair, IsPair}
 use Rattle.prolly_entry.specs.Prefix.{IsPrefix}

@@ -2,8 +2,7 @@
 use Rattle.std.specs.List.{filter, AllByRecursion}
 use Rattle.std.specs.Prelude.{◌≡◌, ℕ, List, length, ◌-◌, ◌/◌, ◌<◌, ◌≤◌, ◌==◌, map}
 use Rattle.std.specs.Prelude.{slice_get, Some, nat_lt, nat_le, count_by}
-use Rattle.prolly_look_up.specs.Content.{chunks_of}
-use Rattle.prolly_look_up.specs.Content.{Content}
+use Rattle.prolly_look_up.specs.Content.{chunks_of, Content}
 use Rattle.prolly_look_up.specs.Way.{level_of}
 use Rattle.prolly_chunk.specs.Missing.{chunks_size}
 use Rattle.prolly_chunk.specs.declared.level_stats.LevelStats.{LevelStats}

@@ -2,8 +2,7 @@
 use Rattle.std.specs.Prelude.{◌≡◌, length}
 use Rattle.prolly_entry.specs.Cut.{sha512_cut}
 use Rattle.prolly_tree.specs.File.{root_reference}
-use Rattle.prolly_look_up.specs.Content.{chunks_of}
-use Rattle.prolly_look_up.specs.Content.{Content}
+use Rattle.prolly_look_up.specs.Content.{chunks_of, Content}
 use Rattle.prolly_check.specs.declared.report.FileReport.{FileReport}
 
 -- The report is that of the file of the content.

@@ -1,12 +1,10 @@
 //! A file that was checked, as look-ups see it.
 ghost use Rattle.std.specs.Prelude.{◌≡◌, ◌<◌, ◌^◌, [], length, get_or};
 ghost use Rattle.prolly_look_up.specs.HeldPairs.{pairs_held};
-ghost use Rattle.prolly_check.specs.Chunks.{HasAt, IsIndex, HasFile, HasReference};
-ghost use Rattle.prolly_look_up.specs.Content.{chunks_of};
-ghost use Rattle.prolly_check.specs.Chunks.{content_of};
+ghost use Rattle.prolly_check.specs.Chunks.{HasAt, IsIndex, HasFile, HasReference, content_of};
+ghost use Rattle.prolly_look_up.specs.Content.{chunks_of, Content, root_bytes};
 ghost use Rattle.prolly_check.specs.Numbers.{AreOfMap};
 ghost use Rattle.prolly_chunk.specs.Missing.{chunks_size};
-ghost use Rattle.prolly_look_up.specs.Content.{Content, root_bytes};
 
 use crate::chunks::{Chunks, Index};
 use prolly_entry::{Ref, Version};

@@ -3,8 +3,7 @@
 ghost use Rattle.std.specs.Prelude.{◌≡◌, ◌<◌, ◌^◌, ℕ, List, length, map, sum, IfOk};
 ghost use Rattle.prolly_check.specs.Chunks.{AreReferences, IsIndex};
 ghost use Rattle.prolly_check.specs.Numbers.{AreLevels, AreOfMap, IsLevel, at_level};
-ghost use Rattle.prolly_chunk.specs.Missing.{AreSo};
-ghost use Rattle.prolly_chunk.specs.Missing.{lacking, chunks_size};
+ghost use Rattle.prolly_chunk.specs.Missing.{AreSo, lacking, chunks_size};
 
 use crate::chunks::{Chunks, Index};
 use crate::look_up::Leaves;

@@ -1,9 +1,8 @@
 //! The checker of bytes that are in memory, of which nothing is kept.
 ghost use Rattle.std.specs.Prelude.{◌≡◌, Err, IfErr, IfOk, OnOk};
 ghost use Rattle.prolly_check.specs.Chunks.{IsFile};
-ghost use Rattle.prolly_look_up.specs.Content.{Content};
+ghost use Rattle.prolly_look_up.specs.Content.{Content, IsFileOf};
 ghost use Rattle.prolly_check.specs.Report.{IsReportOf};
-ghost use Rattle.prolly_look_up.specs.Content.{IsFileOf};
 ghost use Rattle.prolly_check.specs.Verdict.{IsVerdict, UnlessMemory};
 
 use crate::chunks::Chunks;

@@ -12,15 +12,13 @@ ghost use Rattle.prolly_tree.specs.LookUp.{find, nth, scan};
 ghost use Rattle.prolly_tree.specs.RecordFile.{record_file};
 ghost use Rattle.prolly_file.specs.Sink.{IsSettled};
 ghost use Rattle.prolly_file.specs.Writes.{Writes};
-ghost use Rattle.prolly_look_up.specs.Content.{Content};
+ghost use Rattle.prolly_look_up.specs.Content.{Content, IsFileOf, chunks_of};
 ghost use Rattle.prolly_look_up.specs.FoundPairs.{pair_found};
 ghost use Rattle.prolly_check.specs.Verdict.{UnlessMemory, IsVerdict};
-ghost use Rattle.prolly_look_up.specs.Content.{IsFileOf};
 ghost use Rattle.prolly_look_up.specs.Way.{IsWay};
 ghost use Rattle.prolly_check.specs.Chunks.{AreReferences, HasFile, IsChecked, IsFile};
-ghost use Rattle.prolly_look_up.specs.Content.{chunks_of};
 ghost use Rattle.prolly_check.specs.Frames.{chunks_in};
-ghost use Rattle.prolly_look_up.specs.Leaves.{pairs_from};
+ghost use Rattle.prolly_look_up.specs.PairsFrom.{pairs_from};
 ghost use Rattle.prolly_check.specs.Numbers.{AreLevels, AreOfMap};
 ghost use Rattle.prolly_chunk.specs.Missing.{AreSo, lacking, chunks_size};
 
@@ -151,7 +149,7 @@ impl Tree {
 
     /// The chunks from the root down to the one at which a look-up of the key ends. Whoever knows
     /// the root's reference can tell from them what the map has at the key: see
-    /// [`laws::ways_are_right`](crate::laws::ways_are_right).
+    /// [`ways_are_right`](prolly_look_up::laws::ways_are_right).
     ///
     /// Takes memory for one reference to each, and reads one chunk a level.
     pub fn way_to(&self, alloc: Global, key: &[u8]) -> Result<Vec<&[u8]>, AllocError>

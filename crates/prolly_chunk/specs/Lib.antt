@@ -6,7 +6,7 @@ pub mod LeafLevel
 pub mod Event
 -- A level of nodes, as a machine that takes events one by one.
 pub mod NodeLevel
--- The chunks that others lack.
+-- The chunks that others lack, and how large chunks are.
 pub mod Missing
 -- Lemmas for the crates above.
 pub mod lemmas

@@ -1,6 +1,6 @@
 //! The chunks of a prolly tree, and how one level of the tree is cut into them: a machine without
-//! threads, which takes a level's entries one by one and answers the chunks that they close; and the
-//! numbers of a level.
+//! threads, which takes a level's entries one by one and answers the chunks that they close; and
+//! numbers of chunks: those of a level, and those that another tree lacks.
 #![tactic(auto)]
 
 mod borrowed;

@@ -8,7 +8,7 @@ use Rattle.prolly_entry.specs.Pair.{Pair}
 use Rattle.prolly_entry.specs.lemmas.Orders.{greater_below, order_same}
 use Rattle.prolly_tree.specs.Difference.{IsMap}
 use Rattle.prolly_tree.specs.lemmas.Maps.{Above, above_first}
-use Rattle.prolly_diff.specs.Differences.{StartsWith, IsOrder}
+use Rattle.prolly_diff.specs.Sides.{StartsWith, IsOrder}
 use Rattle.prolly_tree.specs.Walks.{TakesLeast}
 
 -- What is said of a value's image is said of the value.

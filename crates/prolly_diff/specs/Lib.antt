@@ -1,2 +1,2 @@
--- What a side of a walk over two maps has.
-pub mod Differences
+-- What the sides of a walk over two maps have in hand, and which of them comes first.
+pub mod Sides

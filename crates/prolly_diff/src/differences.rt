@@ -2,10 +2,9 @@
 ghost use Rattle.std.specs.Prelude.{◌≡◌, MatchOption};
 ghost use Rattle.std.specs.Option.{option_copied, option_map};
 ghost use Rattle.prolly_tree.specs.Difference.{IsMap};
-ghost use Rattle.prolly_look_up.specs.Content.{Content};
-ghost use Rattle.prolly_look_up.specs.Content.{IsFileOf};
+ghost use Rattle.prolly_look_up.specs.Content.{Content, IsFileOf};
 ghost use Rattle.prolly_tree.specs.Walks.{IsWalkEnd, IsFirstChange, TakesLeast};
-ghost use Rattle.prolly_diff.specs.Differences.{IsOrder};
+ghost use Rattle.prolly_diff.specs.Sides.{IsOrder};
 
 use crate::side::{Side, pass_shared};
 use prolly_check::Tree;

@@ -1,6 +1,6 @@
 //! One of two maps, from where a walk stands.
 ghost use Rattle.std.specs.Prelude.{◌≡◌, ◌<◌, [], ◌∷◌, ◌++◌, true, false, length, MatchOption};
-ghost use Rattle.prolly_diff.specs.Differences.{pairs_in, StartsWith};
+ghost use Rattle.prolly_diff.specs.Sides.{pairs_in_hand, StartsWith};
 ghost use Rattle.prolly_tree.specs.Walks.{AreAlike};
 
 use prolly_check::Leaves;
@@ -18,11 +18,11 @@ pub(crate) struct Side<'a> {
 impl<'a> Model for Side<'a> {
     ghost use Rattle.std.specs.Prelude.{◌++◌, List};
     ghost use Rattle.prolly_entry.specs.Pair.{Pair as PairValue};
-    ghost use Rattle.prolly_diff.specs.Differences.{pairs_in};
+    ghost use Rattle.prolly_diff.specs.Sides.{pairs_in_hand};
 
     ghost Value = { List PairValue };
 
-    ghost view = { λ s. pairs_in s.leaf ++ s.leaves };
+    ghost view = { λ s. pairs_in_hand s.leaf ++ s.leaves };
 }
 
 impl<'a> Side<'a> {
@@ -61,8 +61,8 @@ impl<'a> Side<'a> {
 
 /// Takes the next leaf in hand, where nothing is left of the last one, and answers whether it did.
 fn open_next<'a>(leaf: &mut Option<Pairs<'a>>, leaves: &mut Leaves<'a>) -> bool
-    ensures same { pairs_in leaf.new ++ leaves.new ≡ pairs_in leaf.old ++ leaves.old }
-    ensures some { pairs_in leaf.new ≡ [] → leaves.new ≡ [] }
+    ensures same { pairs_in_hand leaf.new ++ leaves.new ≡ pairs_in_hand leaf.old ++ leaves.old }
+    ensures some { pairs_in_hand leaf.new ≡ [] → leaves.new ≡ [] }
 {
     if let Some(pairs) = leaf
         && !pairs.is_empty()
@@ -102,8 +102,8 @@ fn pass_leaf(before: &mut Side, after: &mut Side) -> bool
 
 /// Whether the same pairs are left of both leaves, and some.
 fn have_same(before: &Option<Pairs<'_>>, after: &Option<Pairs<'_>>) -> bool
-    ensures some { result ≡ true → 0 < length (pairs_in before.now) }
-    ensures same { result ≡ true → pairs_in before.now ≡ pairs_in after.now }
+    ensures some { result ≡ true → 0 < length (pairs_in_hand before.now) }
+    ensures same { result ≡ true → pairs_in_hand before.now ≡ pairs_in_hand after.now }
 {
     match (before, after) {
         (Some(before), Some(after)) => !before.is_empty() && before.is_same(after),

@@ -33,7 +33,7 @@ AreBytes-take n bytes h i =
           (omega arith)
     ]
 
--- The bytes behind place a, cut once more.
+-- The bytes behind offset a, cut once more.
 pub cut_at : (a b : ℕ) (bytes : List ℕ) → drop a bytes ≡ take b (drop a bytes) ++ drop (a + b) bytes
 cut_at a b bytes = sym (take-append-drop b (drop a bytes)) ∙
     ap (λ (t : List ℕ). take b (drop a bytes) ++ t) (drop-drop b a bytes)

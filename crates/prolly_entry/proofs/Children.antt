@@ -14,7 +14,7 @@ use Rattle.prolly_entry.specs.ChildAt.{tail_length, key_at, reference_at, IsChil
 use Rattle.prolly_entry.proofs.ByteLists.{AreBytes, AreBytes-drop, AreBytes-take, cut_at}
 use Rattle.prolly_entry.proofs.ByteLists.{length_of_cut, key_is_spelled}
 
--- The count lies behind a reference at place a. Version One has none, so what follows the reference
+-- The count lies behind a reference at offset a. Version One has none, so what follows the reference
 -- is left as it is.
 count_is_spelled : (version : Version) (a : ℕ) (bytes : List ℕ) → AreBytes bytes →
     a + tail_length version ≤ length bytes →

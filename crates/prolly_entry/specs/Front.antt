@@ -32,7 +32,7 @@ NoRecordAt bytes = (r : Record) (more : List ℕ) → IsRecord r → bytes ≡ r
 abbrev pub NoPairAt : List ℕ → Type 0
 NoPairAt bytes = (p : Pair) (more : List ℕ) → IsPair p → bytes ≡ pair_spelling p ++ more → ⊥
 
--- The pair, the record that puts it, and the removal whose key and value lie at these places.
+-- The pair, the record that puts it, and the removal whose key and value lie between these offsets.
 abbrev pub pair_at : List ℕ → ℕ → ℕ → ℕ → Pair
 pair_at bytes key_end value_start len = record {
   key = take (key_end - 2) (drop 2 bytes);

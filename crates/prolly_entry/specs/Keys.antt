@@ -5,7 +5,7 @@ use Rattle.std.specs.declared.cmp.Ordering.TheVariants.{Less}
 use Rattle.std.specs.Ordering.{nat_cmp}
 use Rattle.std.specs.Cmp.Lexicographic.{slice_cmp}
 
--- Key x comes before key y where x is a proper prefix of y, or where at the first place at which
+-- Key x comes before key y where x is a proper prefix of y, or where at the first offset at which
 -- they differ x's byte is less, bytes being unsigned.
 pub data ComesBefore : List ℕ → List ℕ → Type 0 where
   is_prefix : (x : List ℕ) (b : ℕ) (y : List ℕ) → ComesBefore x (x ++ b ∷ y)

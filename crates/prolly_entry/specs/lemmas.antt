@@ -1,5 +1,5 @@
 -- Lemmas for the crates above, by subject: what a proof may use of this crate beside its contracts.
--- Lists: their fronts, what holds of all elements, what is behind a place.
+-- Lists: their fronts, what holds of all elements, what is behind an offset.
 pub mod Lists
 -- The order of keys.
 pub mod Orders

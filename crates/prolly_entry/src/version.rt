@@ -6,7 +6,7 @@ pub enum Version {
     /// A child entry has its key and its reference.
     One,
     /// A child entry has its key, its reference and the number of pairs below it, so that a pair
-    /// can be found by its place.
+    /// can be found by its number.
     Two,
 }
 
@@ -36,7 +36,7 @@ impl Version {
         }
     }
 
-    /// The other version.
+    /// The version that this one is not: so bytes that are of it are told from those that are of none.
     pub fn other(self) -> Version
         ensures { result ≢ self }
     {

@@ -1,4 +1,4 @@
--- The header, place by place.
+-- The header, byte by byte.
 use Rattle.std.proofs.Common.{◌≡◌, ℕ, suc, ◌+◌, ◌<◌, ◌≤◌, Bool, true, false, cond, List, length}
 use Rattle.std.proofs.Common.{drop, get_or, slice_index, Option, Some, ◌∙◌, arith}
 use Rattle.std.proofs.Math.Seq.{drop-cons}
@@ -8,7 +8,7 @@ use Rattle.prolly_file.specs.declared.format.header.HeaderFault.{HeaderFault}
 use Rattle.prolly_file.specs.declared.format.header.HeaderFault.TheVariants.{BadByte, Truncated}
 use Rattle.prolly_file.specs.Header.{header_fault}
 
--- what is wrong from a place on
+-- what is wrong from an offset on
 abbrev pub at : List (ℕ → Bool) → List ℕ → ℕ → Option HeaderFault
 at tests bytes offset = header_fault (drop offset tests) (drop offset bytes)
 

@@ -1,4 +1,4 @@
--- What a script hands out of its bytes, from a place on.
+-- What a script hands out of its bytes, from an offset on.
 use Rattle.std.proofs.Common.{◌≡◌, ◌∙◌, ℕ, ◌+◌, ◌-◌, ◌≤◌, ◌<◌, ◌++◌, true, List, [], length, min}
 use Rattle.std.proofs.Common.{take, drop, arith, sym, ap, subst, length-drop}
 use Rattle.std.proofs.lemmas.List.{drop-drop, length-take-le, nil_from_length, take-append-drop}
@@ -59,7 +59,7 @@ all_given bytes seen old at n step moves same count none more =
       length-drop (at + n) bytes,
     ))
 
--- Where the bytes from a place on are bytes, so are those from a later place on.
+-- Where the bytes from an offset on are bytes, so are those from a later one on.
 pub rest_are_bytes : (bytes : List ℕ) (at n : ℕ) → are_bytes (drop at bytes) ≡ true →
     are_bytes (drop (at + n) bytes) ≡ true
 rest_are_bytes bytes at n tested =

@@ -1,4 +1,4 @@
--- Parts of bytes, from one place to another.
+-- Parts of bytes, from one offset to another.
 use Rattle.std.proofs.Common.{◌≡◌, ℕ, ◌+◌, ◌-◌, ◌≤◌, List, length, take, drop, ◌++◌, Option, Some}
 use Rattle.std.proofs.Common.{None, refl, sym, ap, ◌∙◌, subst, arith}
 use Rattle.std.specs.Option.{option_map}
@@ -7,7 +7,7 @@ use Rattle.prolly_file.specs.Span.{part, IsKeptBefore}
 use Rattle.std.proofs.lemmas.List.{append-nil, drop_all, drop-take, drop-drop, length-take}
 use Rattle.std.proofs.lemmas.List.{take_all, take-take}
 
--- The bytes from i to j of the part between two places.
+-- The bytes from i to j of the part between two offsets.
 pub part_within : (bytes : List ℕ) (start end i j : ℕ) → i ≤ j →
     j ≤ length (take (end - start) (drop start bytes)) →
     take (start + j - (start + i)) (drop (start + i) bytes) ≡
@@ -36,7 +36,7 @@ part_behind bytes start end count h =
     ∙ (drop-take count (end - (start + count)) (drop start bytes) ∙
     ap (take (end - (start + count))) (drop-drop count start bytes)))
 
--- A part is the same in bytes that agree from a place before it on.
+-- A part is the same in bytes that agree from an offset before it on.
 pub same_behind : (bytes bytes' : List ℕ) (offset : ℕ) (span : Span) → offset ≤ span.start →
     drop offset bytes' ≡ drop offset bytes →
     part bytes' span ≡ part bytes span
@@ -48,7 +48,7 @@ same_behind bytes bytes' offset span h e =
     drop-drop (span.start - offset) offset bytes) in
     ap (take (span.end - span.start)) from
 
--- A part is the same in bytes that agree up to a place behind it.
+-- A part is the same in bytes that agree up to an offset behind it.
 pub same_before : (bytes bytes' : List ℕ) (offset : ℕ) (span : Span) → span.start ≤ span.end →
     span.end ≤ offset → take offset bytes' ≡ take offset bytes →
     part bytes' span ≡ part bytes span
@@ -61,7 +61,7 @@ same_before bytes bytes' offset span o h e = sym (cut bytes') ∙ ap (λ xs. par
         drop-take span.start (offset - span.start) xs)
         ∙ take-take (span.end - span.start) (offset - span.start) (drop span.start xs) (omega arith)
 
--- So are kept ones before the place, if there are any.
+-- So are kept ones before the offset, if there are any.
 pub same_kept : (bytes bytes' : List ℕ) (most offset end : ℕ) (kept : Option Span) →
     IsKeptBefore most offset kept → offset ≤ end → take end bytes' ≡ take end bytes →
     option_map (part bytes') kept ≡ option_map (part bytes) kept

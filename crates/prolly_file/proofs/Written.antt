@@ -22,7 +22,7 @@ taken_of_first old new first second t = record {
   );
 }
 
--- Where some bytes more were handed on of those that are held behind a place, what was taken and
+-- Where some bytes more were handed on of those that are held behind an offset, what was taken and
 -- what is held is the same.
 pub handed_on : (old new held : List ℕ) (sent count : ℕ) →
     new ≡ old ++ take count (take (length held - sent) (drop sent held))

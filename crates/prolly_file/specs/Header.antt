@@ -6,7 +6,7 @@ use Rattle.prolly_entry.specs.declared.version.Version.TheVariants.{One, Two}
 use Rattle.prolly_file.specs.declared.format.header.HeaderFault.{HeaderFault}
 use Rattle.prolly_file.specs.declared.format.header.HeaderFault.TheVariants.{BadByte, Truncated}
 
--- Which bytes may stand at each of its places: the letters PRLY, a version, at most 24 bits.
+-- Which bytes may stand at each of its offsets: the letters PRLY, a version, at most 24 bits.
 abbrev pub header_tests : List (ℕ → Bool)
 header_tests = (λ b. b == 0x50) ∷ (λ b. b == 0x52) ∷ (λ b. b == 0x4C) ∷ (λ b. b == 0x59)
     ∷ (λ b. (b == 1) || (b == 2)) ∷ (λ b. nat_le b 24) ∷ []
@@ -15,8 +15,8 @@ header_tests = (λ b. b == 0x50) ∷ (λ b. b == 0x52) ∷ (λ b. b == 0x4C) ∷
 abbrev pub test_at : ℕ → ℕ → Bool
 test_at offset = get_or header_tests offset (λ b. true)
 
--- What is wrong: a byte that may not stand at its place, or else that the bytes end before the last
--- place.
+-- What is wrong: a byte that may not stand at its offset, or else that the bytes end before the last
+-- offset.
 abbrev pub header_fault : List (ℕ → Bool) → List ℕ → Option HeaderFault
 header_fault [] bytes = None
 header_fault (test ∷ tests) [] = Some Truncated

@@ -24,7 +24,7 @@ pub mod Buffered
 pub mod ReadBuffer
 -- What follows from a read into a buffer.
 pub mod ReadBufferLaws
--- Places of bytes.
+-- Spans of bytes: from one offset to another.
 pub mod Span
 -- The devices in memory that follow a script.
 pub mod Script

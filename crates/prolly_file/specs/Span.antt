@@ -1,4 +1,4 @@
--- Places of bytes.
+-- Spans of bytes: from one offset to another.
 use Rattle.std.specs.Prelude.{◌≡◌, ℕ, ◌+◌, ◌-◌, ◌≤◌, List, length, take, drop, Option, Some, None}
 use Rattle.prolly_file.specs.declared.device.read_buffer.Span.{Span}
 

@@ -11,8 +11,9 @@ pub use device::{
     ToWrite, WholeFault, read_whole, take_front,
 };
 pub use format::{
-    END_LETTER, END_SIZE, FRAME_FRONT, FRAME_LETTER, FRAME_START, FileWriter, FrameFault,
-    FrameStart, HEADER_SIZE, Header, HeaderFault, WriteFault, end_record, frame_at, frame_start,
-    front_frame, read_end, read_header, read_start, write_all, write_frame, write_whole,
+    CHUNK_LIMIT, END_LETTER, END_SIZE, FRAME_FRONT, FRAME_LETTER, FRAME_START, FileWriter,
+    FrameFault, FrameStart, HEADER_SIZE, Header, HeaderFault, WriteFault, end_record, frame_at,
+    frame_start, front_frame, read_end, read_header, read_start, write_all, write_frame,
+    write_whole,
 };
 pub use scratch_build::{ScratchFault, scratch, scratch_as};

@@ -8,7 +8,6 @@ use crate::rooted::{Chunks, Rooted, Shown, Sought, expect_shown, keys_from, look
 use crate::rooted_differences::changes_between;
 use crate::set_proofs::{Tree, range};
 use prolly_check::{CheckFault, OneThread, StreamFault, check, check_by_root};
-use prolly_look_up::ManyThreads;
 use prolly_entry::{
     Pair, Record, RecordFault, Ref, Sha512Cut, Version, append_child, append_child_as, append_pair,
     append_record, records,
@@ -16,6 +15,7 @@ use prolly_entry::{
 use prolly_file::{
     FromRead, ScratchFault, ScriptSink, Sink, SinkFault, WholeFault, read_whole, scratch_as,
 };
+use prolly_look_up::ManyThreads;
 use prolly_range::{ProveFault, SetFault};
 use prolly_root::{Reader, RootFault, Subtree};
 use prolly_root_diff::RootDiffFault;

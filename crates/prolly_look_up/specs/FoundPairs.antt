@@ -1,4 +1,4 @@
--- Pairs and children that were found by a number.
+-- Pairs that were found, as keys and values that are borrowed.
 use Rattle.std.specs.Prelude.{ℕ, List, Option, option_map}
 use Rattle.std.specs.Borrow.{Bor}
 use Rattle.prolly_entry.specs.Pair.{Pair}

@@ -1,7 +1,7 @@
--- Lemmas, by subject: what a proof may use of ways and of chunks.
+-- Lemmas for the crates above, by subject: what a proof may use of chunks and of ways.
 -- The entries that bytes spell are read one after another.
 pub mod ReadEntries
--- Entries that bytes spell, read one after another.
+-- Lawful entries and nothing else, one after another.
 pub mod EntryLists
 -- The pairs that chunks hold.
 pub mod HeldPairs

@@ -1,4 +1,4 @@
-//! Copies of the first pairs of a leaf.
+//! Copies of pairs of a leaf.
 ghost use Rattle.std.specs.Prelude.{◌≡◌, ◌++◌, ◌≤◌, length, take, OnOk, IfOk};
 
 use crate::entries::Pairs;
@@ -15,7 +15,8 @@ pub fn first_pairs(alloc: Global, leaf: Pairs, limit: usize) -> Result<Vec<Pair>
     Ok(pairs)
 }
 
-/// Adds copies of the pairs of a leaf, until there are `limit` pairs.
+/// Adds copies of the pairs of a leaf, until there are `limit` pairs. Takes memory for the copies, and
+/// time linear in them. After an `Err` some may have been added.
 pub fn copy_pairs(
     alloc: Global,
     mut leaf: Pairs,

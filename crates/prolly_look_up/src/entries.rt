@@ -16,14 +16,10 @@ use prolly_chunk::BorrowedEvent;
 use prolly_entry::{Child, Version, split_pair};
 use std::marker::Model;
 
-/// The greatest length of a chunk, in bytes, for which memory is taken where nothing but its frame
-/// says how long it is. A longer one is told as want of memory.
-pub const CHUNK_LIMIT: usize = 1_073_741_824;
-
-/// The first byte of a leaf: its level.
+/// The level of a leaf, which is the first byte of its chunk. That of a node is greater.
 pub const LEAF: u8 = 0;
 
-/// Whether the entries are those of a leaf.
+/// Whether bytes are whole lawful entries of a leaf.
 fn is_leaf(mut entries: &[u8]) -> bool
     ensures leaf { result ≡ true → IsSomeLeaf entries.now }
     ensures other { result ≡ false → (pairs : List PairValue) → IsLeaf entries.now pairs → ⊥ }
@@ -50,7 +46,8 @@ impl<'a> Model for Pairs<'a> {
 }
 
 impl<'a> Pairs<'a> {
-    /// The pairs of the entries of a leaf.
+    /// The pairs of the entries of a leaf, which are its chunk without the first byte. Takes no memory,
+    /// and reads none of them yet.
     pub fn new(entries: &'a [u8]) -> Pairs<'a>
         requires { IsSomeLeaf entries.now }
         ensures { result ≡ pairs_in entries.now }
@@ -125,7 +122,8 @@ impl<'a> Pairs<'a> {
         self.entries == other.entries
     }
 
-    /// The last key, empty where no pair is left, and how many pairs are left. Takes no memory.
+    /// The last key, empty where no pair is left, and how many pairs are left. Takes no memory, and
+    /// time linear in the pairs.
     pub fn last_key_and_count(mut self) -> (&'a [u8], u64)
         requires { length self < 2 ^ 64 }
         ensures key { result.0.now ≡ last_key self.entry }
@@ -149,8 +147,8 @@ impl<'a> Pairs<'a> {
     }
 }
 
-/// The pairs of a chunk that was tested, as by [`test_chunk`](crate::test_chunk). A node has none.
-/// Takes no memory, and reads none of them yet.
+/// The pairs of a chunk that is a level and whole lawful entries, as [`test_chunk`](crate::test_chunk)
+/// finds out. A node has none. Takes no memory, and reads none of them yet.
 pub fn pairs_of(version: Version, chunk: &[u8]) -> Pairs<'_>
     requires { IsWhole version chunk.now }
     ensures { result ≡ pairs_held chunk.now }
@@ -161,8 +159,8 @@ pub fn pairs_of(version: Version, chunk: &[u8]) -> Pairs<'_>
     Pairs::new(&[])
 }
 
-/// The event of a chunk that was tested, and is a leaf with pairs. Takes no memory and no hash, and
-/// goes over the pairs once.
+/// A chunk that was tested, and is a leaf with pairs, as the event that the levels of a tree take. Takes
+/// no memory and no hash, and goes over the pairs once.
 pub fn leaf_event(version: Version, chunk: &[u8]) -> BorrowedEvent<'_>
     requires whole { IsWhole version chunk.now }
     requires some { 0 < length (pairs_held chunk.now) }
@@ -202,7 +200,7 @@ pub fn split_first_child(version: Version, entries: &[u8]) -> Option<(Child<'_>,
     Some((child, rest))
 }
 
-/// Whether the entries are those of a node. Takes no memory.
+/// Whether bytes are whole lawful entries of a node. Takes no memory, and time linear in them.
 pub fn is_node(version: Version, mut entries: &[u8]) -> bool
     ensures node { result ≡ true → IsNode version entries.now [] }
     ensures other { result ≡ false →

@@ -22,8 +22,8 @@ pub fn value_in<'a>(mut pairs: Pairs<'a>, key: &[u8]) -> Option<&'a [u8]>
     None
 }
 
-/// The pair whose number is sought, counted from 0, among the pairs of a leaf; none where a key is.
-/// Takes no memory, and time linear in the number.
+/// The pair whose number is sought, counted from 0, among the pairs of a leaf. There is none where a
+/// key is sought. Takes no memory, and time linear in the number.
 pub fn pair_sought<'a>(pairs: Pairs<'a>, sought: Sought<'_>) -> Option<(&'a [u8], &'a [u8])>
     ensures is { pair_found result ≡ nth_sought (sought_of sought.entry) pairs.entry }
     ensures lawful { IfSome result (λ pair.

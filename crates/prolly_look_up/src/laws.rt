@@ -1,7 +1,7 @@
 //! Laws of look-ups. Each is the contract of a function that does nothing: to call it is to know the
 //! law, and to prove the crate is to prove it.
 ghost use Rattle.prolly_entry.specs.declared.version.Version.{Version};
-ghost use Rattle.prolly_look_up.specs.Descent.{RootIsTree, ChildIsTree, TopIsRead};
+ghost use Rattle.prolly_look_up.specs.MapTree.{RootIsTree, ChildIsTree, TopIsRead};
 ghost use Rattle.prolly_look_up.specs.Entries.{NoLeaf, NoNode};
 ghost use Rattle.prolly_look_up.specs.ScanWay.{ScansAreRight, ScansGoOn};
 ghost use Rattle.prolly_look_up.specs.Way.{CountWaysAreRight, WaysAreRight};
@@ -12,7 +12,8 @@ pub fn rests_make_chunks_bad()
     ensures nodes { (version : Version) → NoNode version }
 {}
 
-/// The chunks of a map are the tops of trees, and each of them can be read.
+/// The chunks of a map are the tops of trees, and each of them can be read. So no reader refuses a
+/// chunk of a map.
 pub fn tops_are_read()
     ensures root { RootIsTree }
     ensures child { (version : Version) → ChildIsTree version }

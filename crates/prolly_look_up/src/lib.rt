@@ -4,6 +4,9 @@
 //! [`step_at`] tests a chunk that may have come from anywhere, and tells where the look-up goes on,
 //! or the pairs at which it ends. Who knows the reference of a map's root knows by such a way what
 //! the map has: see [`laws::ways_are_right`].
+//!
+//! [`ManyThreads`] says how many threads share the work on chunks. It stands here since the checker and
+//! the sources of chunks both take it.
 #![tactic(auto)]
 
 mod copies;
@@ -17,7 +20,7 @@ mod step;
 
 pub use copies::{copy_pairs, first_pairs};
 pub use entries::{
-    CHUNK_LIMIT, LEAF, Pairs, is_node, leaf_event, pairs_of, split_first_child, split_first_pair,
+    LEAF, Pairs, is_node, leaf_event, pairs_of, split_first_child, split_first_pair,
 };
 pub use found::{pair_sought, value_in};
 pub use many_threads::ManyThreads;

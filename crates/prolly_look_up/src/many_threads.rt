@@ -8,8 +8,8 @@ use std::thread::Threads;
 /// start a thread.
 const BYTES_PER_THREAD: usize = 65_536;
 
-/// Threads hash the chunks, an equal share of them each. Where one can't be had, another does its
-/// work, so no file is refused for that.
+/// Threads that share the work on chunks, an equal share each. Where one can't be had, another does
+/// its work, so nothing is refused for that.
 #[derive(Drop)]
 pub struct ManyThreads<'a, R: Threads + Sync> {
     /// What starts them.

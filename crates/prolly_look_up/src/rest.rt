@@ -3,7 +3,7 @@ ghost use Rattle.std.specs.Prelude.{◌≡◌, ◌++◌, List};
 ghost use Rattle.prolly_entry.specs.Pair.{Pair as PairValue};
 ghost use Rattle.prolly_tree.specs.Difference.{IsMap};
 ghost use Rattle.prolly_look_up.specs.HeldPairs.{pairs_held};
-ghost use Rattle.prolly_look_up.specs.Leaves.{IsLeft, pairs_from};
+ghost use Rattle.prolly_look_up.specs.PairsFrom.{IsLeft, pairs_from};
 ghost use Rattle.prolly_look_up.specs.Way.{IsOrdered};
 
 use crate::entries::{Pairs, pairs_of};

@@ -18,7 +18,8 @@ pub enum Sought<'a> {
     Number(u64),
 }
 
-/// A place between the entries of a node.
+/// Where a look-up stands between the entries of a node. A look-up of a greater key can begin there,
+/// and need not read the children before it again.
 #[derive(Clone, Copy)]
 pub struct Mark {
     /// How many children stand before it.
@@ -44,7 +45,7 @@ impl Mark {
     }
 }
 
-/// The child of a node that a look-up goes on in.
+/// The child of a node that a look-up goes on in, as [`step_of`](crate::step_of) finds it.
 #[derive(Clone, Copy)]
 pub struct ChildSought<'a> {
     /// Its number among the children, counted from 0.
@@ -53,8 +54,8 @@ pub struct ChildSought<'a> {
     pub reference: Ref,
     /// What is sought below it.
     pub sought: Sought<'a>,
-    /// Before the child that was passed over last. It is before the first one that was read, where
-    /// none was.
+    /// The mark before the last child that was passed over; where none was, before the first that was
+    /// read.
     pub passed: Mark,
 }
 

@@ -34,7 +34,7 @@ pub enum Step<'c, 'a> {
 }
 
 /// Why a chunk is not the one that is due, or none that a tree has there.
-#[derive(Clone, Copy)]
+#[derive(Clone, Copy, Debug, PartialEq, Eq)]
 pub enum ChunkFlaw {
     /// It has another reference.
     Reference,
@@ -94,7 +94,8 @@ pub fn test_chunk(
 }
 
 /// The reference of a chunk that is a level and whole lawful entries of that level's kind, whose keys
-/// rise; none of other bytes. So a chunk can be tested before it is known which one is due.
+/// rise; none of other bytes. So a chunk can be tested before it is known which one is due, and who
+/// asks for it then compares references alone.
 ///
 /// Takes no memory. Reads the chunk twice and hashes it, so in time linear in its length.
 pub fn reference_of_ordered(version: Version, chunk: &[u8]) -> Option<Ref>
@@ -127,7 +128,8 @@ fn test_named(version: Version, chunk: &[u8], reference: &Ref) -> Result<(), Chu
     Ok(())
 }
 
-/// Whether the chunk, which has a level, may stand below one of the level `above`.
+/// Whether the chunk, which has a level, stands one level below `above`. A root, above which there is
+/// none, may have any. Reads one byte.
 pub fn falls_to(above: Option<u8>, chunk: &[u8]) -> bool
     requires { 0 < length chunk.now }
     ensures { IsTrue result ↔ FallsTo above chunk.now }

@@ -1,13 +1,11 @@
 -- Where the chunks that are due stand in a lawful tree.
 use Rattle.std.proofs.Common.{◌≡◌, ℕ, zero, suc, ◌-◌, ◌<◌, List, [], ◌∷◌, ◌++◌, length, drop, map}
-use Rattle.std.proofs.Common.{refl, sym}
-use Rattle.std.proofs.Common.{ap, ◌∙◌, subst, arith, append_assoc, Option, Some, None}
+use Rattle.std.proofs.Common.{refl, sym, ap, ◌∙◌, subst, arith, append_assoc, Option, Some, None}
 use Rattle.std.proofs.Common.{Result, Ok, Err}
 use Rattle.std.specs.List.{AllByRecursion}
 use Rattle.std.proofs.lemmas.List.{length-append}
-use Rattle.prolly_look_up.specs.Content.{chunks_of}
-use Rattle.prolly_look_up.specs.Content.{Content}
-use Rattle.prolly_look_up.specs.Descent.{ChildIsTree, IsTreeOf, TopIsRead, child_of}
+use Rattle.prolly_look_up.specs.Content.{chunks_of, Content}
+use Rattle.prolly_look_up.specs.MapTree.{ChildIsTree, IsTreeOf, TopIsRead, child_of}
 use Rattle.prolly_look_up.specs.Entries.{Child, children_in}
 use Rattle.prolly_look_up.specs.Kinds.{Entries}
 use Rattle.prolly_look_up.specs.Kinds.Entries.{Leaf, Node}

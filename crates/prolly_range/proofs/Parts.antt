@@ -12,7 +12,7 @@ use Rattle.prolly_entry.specs.Pair.{Pair}
 use Rattle.prolly_entry.specs.lemmas.Orders.{order_trans}
 use Rattle.prolly_tree.specs.Tree.{Tree, pairs_below, greatest_key, last_key}
 use Rattle.prolly_tree.specs.lemmas.Maps.{Above, Rises, above_last, rises_front, rises_back}
-use Rattle.prolly_look_up.specs.Descent.{NodeFull}
+use Rattle.prolly_look_up.specs.MapTree.{NodeFull}
 use Rattle.prolly_range.specs.KeySet.{KeySet, Met, has_key, met_first, met_in, pairs_wanted}
 use Rattle.prolly_range.specs.KeySet.{part_behind, part_below, some_keys}
 use Rattle.prolly_range.specs.KeySet.KeySet.{Keys, Range}

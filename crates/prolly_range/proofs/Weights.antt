@@ -1,7 +1,6 @@
 -- How far a walk has to go yet.
 use Rattle.std.proofs.Common.{◌≡◌, ℕ, zero, suc, ◌+◌, ◌-◌, ◌*◌, ◌^◌, ◌<◌, ◌≤◌, List, [], ◌∷◌, ◌++◌}
-use Rattle.std.proofs.Common.{length}
-use Rattle.std.proofs.Common.{sym, ap, subst, arith, map, inl, inr, Option, Some, None}
+use Rattle.std.proofs.Common.{length, sym, ap, subst, arith, map, inl, inr, Option, Some, None}
 use Rattle.std.specs.Prelude.{All}
 use Rattle.std.proofs.Math.Nat.{suc-mul}
 use Rattle.std.proofs.lemmas.Bool.{cases_lt}

@@ -1,7 +1,6 @@
 //! Proofs of a key and of a set of keys, from a file that was checked.
 ghost use Rattle.std.specs.Prelude.{[], ◌∷◌, IfErr, IfOk, OnErr, OnOk};
-ghost use Rattle.prolly_look_up.specs.Content.{Content};
-ghost use Rattle.prolly_look_up.specs.Content.{IsFileOf};
+ghost use Rattle.prolly_look_up.specs.Content.{Content, IsFileOf};
 ghost use Rattle.prolly_entry.specs.Cut.{sha512_cut};
 ghost use Rattle.prolly_file.specs.Sink.{IsSettled};
 ghost use Rattle.prolly_root.specs.ProofFile.{IsProofOf};
@@ -20,7 +19,8 @@ use std::alloc::{AllocError, Global};
 
 /// The proof of what a checked tree has at the key: of its value, or that it has none.
 ///
-/// The proof has one chunk a level. Takes memory for it, and time linear in it.
+/// The proof has one chunk a level, and [`verify`](prolly_root::verify) reads it. Takes memory for it,
+/// and time linear in it, and no hash.
 pub fn prove_checked_key(alloc: Global, tree: &Tree, key: &[u8]) -> Result<Vec<u8>, AllocError>
     ensures { IfOk result (λ proof. (content : Content) → IsFileOf tree.now content →
         IsProofOf content key.now proof.items) }

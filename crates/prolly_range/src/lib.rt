@@ -4,6 +4,9 @@
 //! knows the root's reference learns from it the pairs of these keys, and that there is no other. So
 //! who asks for a list of keys learns of each what the map has there, a value or nothing: see
 //! [`laws::keys_are_found`].
+//!
+//! A checked file makes such proofs, too, and that of one key: see [`prove_checked_set`] and
+//! [`prove_checked_key`].
 #![tactic(auto)]
 
 mod checked;

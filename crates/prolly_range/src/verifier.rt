@@ -36,7 +36,7 @@ use std::marker::Model;
 /// gives.
 ///
 /// Memory is taken for one chunk, as its bytes come, and for the references of the children in which
-/// keys are sought of the nodes above it. A chunk longer than [`CHUNK_LIMIT`](prolly_look_up::CHUNK_LIMIT)
+/// keys are sought of the nodes above it. A chunk longer than [`CHUNK_LIMIT`](prolly_file::CHUNK_LIMIT)
 /// is told as want of memory.
 #[derive(Drop)]
 pub struct SetVerifier<'a> {

@@ -9,7 +9,7 @@ use Rattle.std.proofs.Math.ListN.{get_or-map}
 use Rattle.std.specs.Prelude.{All, IfOk, IsErr, IsErrAnd, OnErr}
 use Rattle.prolly_entry.specs.Byte.{IsByte}
 use Rattle.prolly_look_up.specs.Content.{Content}
-use Rattle.prolly_look_up.specs.Leaves.{pairs_from}
+use Rattle.prolly_look_up.specs.PairsFrom.{pairs_from}
 use Rattle.prolly_look_up.specs.Kinds.{kind_of}
 use Rattle.prolly_look_up.specs.Sought.{Sought, EndsAt, LeadsOn, sought_of}
 use Rattle.prolly_look_up.specs.Way.{FallsTo, IsNamed, IsWayTo, Lead, LevelsFall, level_of}

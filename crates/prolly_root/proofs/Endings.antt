@@ -6,11 +6,9 @@ use Rattle.std.specs.List.{flat_map}
 use Rattle.std.specs.Prelude.{IfSome, Option, Some, None, ok_or}
 use Rattle.std.proofs.Math.Seq.{drop-append_seam, take-append_seam, take-length}
 use Rattle.std.proofs.lemmas.List.{drop_all, length-drop}
-use Rattle.prolly_look_up.specs.Content.{chunks_of}
-use Rattle.prolly_look_up.specs.Content.{Content}
-use Rattle.prolly_look_up.specs.Content.{IsFileOf}
-use Rattle.prolly_root.specs.declared.file.end_record.NamedRootFault.{NamedRootFault}
-use Rattle.prolly_root.specs.declared.file.end_record.NamedRootFault.TheVariants as faults
+use Rattle.prolly_look_up.specs.Content.{chunks_of, Content, IsFileOf}
+use Rattle.prolly_root.specs.declared.file.named_root_fault.NamedRootFault.{NamedRootFault}
+use Rattle.prolly_root.specs.declared.file.named_root_fault.NamedRootFault.TheVariants as faults
 use Rattle.prolly_entry.specs.Cut.{sha512_cut}
 use Rattle.prolly_entry.specs.declared.reference.Ref.{Ref}
 use Rattle.prolly_file.specs.EndRecord.{IsNoEnd, NamesRoot}

@@ -2,10 +2,8 @@
 use Rattle.std.proofs.Common.{◌≡◌, ℕ, zero, suc, ◌-◌, List, [], ◌∷◌, ◌++◌, length, drop, get_or}
 use Rattle.std.proofs.Common.{map, inr, Some, Result, Ok, Err, refl, sym, ap, ◌∙◌, subst, arith}
 use Rattle.std.proofs.lemmas.List.{length-append}
-use Rattle.prolly_look_up.specs.Content.{chunks_of}
-use Rattle.prolly_look_up.specs.Content.{Content}
-use Rattle.prolly_look_up.specs.Descent.{ChildIsTree, IsTreeOf}
-use Rattle.prolly_look_up.specs.Descent.{TopIsRead, child_of, entries_below}
+use Rattle.prolly_look_up.specs.Content.{chunks_of, Content}
+use Rattle.prolly_look_up.specs.MapTree.{ChildIsTree, IsTreeOf, TopIsRead, child_of, entries_below}
 use Rattle.prolly_look_up.specs.Entries.{Child, IsWhole}
 use Rattle.prolly_look_up.specs.Kinds.{kind_of}
 use Rattle.prolly_look_up.specs.Sought.{Sought, IsChildOf}

@@ -4,8 +4,7 @@ use Rattle.std.proofs.Common.{get_or, replicate, set, refl, sym, ◌∙◌, subs
 use Rattle.std.proofs.lemmas.Bool.{cases_eq, cases_lt}
 use Rattle.std.proofs.lemmas.List.{get_or-replicate, get_or-set_same, get_or-set_other}
 use Rattle.std.proofs.lemmas.List.{length-replicate, length-set}
-use Rattle.prolly_look_up.specs.Content.{Content}
-use Rattle.prolly_look_up.specs.Content.{nth_chunk}
+use Rattle.prolly_look_up.specs.Content.{Content, nth_chunk}
 use Rattle.prolly_look_up.specs.Way.{level_of}
 use Rattle.prolly_root.specs.Marks.{AreRuns, IsRun}
 use Rattle.prolly_root.specs.Walk.{IsBehind, IsFrame, IsNth}

@@ -9,9 +9,7 @@ use Rattle.std.proofs.lemmas.List.{get_or-drop, get_or_append_left, get_or_push,
 use Rattle.std.proofs.lemmas.List.{map-append, take_all}
 use Rattle.std.proofs.lemmas.List.Elements.{All-from_recursion}
 use Rattle.std.proofs.lemmas.List.Concat.{flat_map-append}
-use Rattle.prolly_look_up.specs.Content.{chunks_of}
-use Rattle.prolly_look_up.specs.Content.{Content}
-use Rattle.prolly_look_up.specs.Content.{nth_chunk}
+use Rattle.prolly_look_up.specs.Content.{chunks_of, Content, nth_chunk, IsFileOf}
 use Rattle.prolly_look_up.specs.Way.{level_of}
 use Rattle.prolly_tree.specs.Chunk.{post_order}
 use Rattle.prolly_tree.specs.Tree.{Tree, bytes_of}
@@ -24,7 +22,6 @@ use Rattle.prolly_root.specs.declared.root_fault.RootFault.{RootFault}
 use Rattle.prolly_root.specs.lemmas.Places.{level_is}
 use Rattle.prolly_root.proofs.Walking.{IsLower, all_lower, top_last, apart, behind}
 use Rattle.prolly_root.proofs.Walking.{ending, front, front_length}
-use Rattle.prolly_look_up.specs.Content.{IsFileOf}
 use Rattle.prolly_file.specs.Frame.{framed}
 use Rattle.prolly_root.specs.ChunkSource.{IsChildNumber, root_level, root_tree}
 use Rattle.prolly_root.specs.declared.file.walk.Frame.{Frame}

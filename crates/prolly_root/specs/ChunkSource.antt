@@ -1,9 +1,7 @@
 -- What gives the chunks of a tree.
 use Rattle.std.specs.Prelude.{◌≡◌, ℕ, List, ◌∷◌, ◌++◌, length, map, Result}
 use Rattle.std.specs.List.{AllByRecursion}
-use Rattle.prolly_look_up.specs.Content.{Content}
-use Rattle.prolly_look_up.specs.Content.{chunk_bytes}
-use Rattle.prolly_look_up.specs.Content.{AllApart}
+use Rattle.prolly_look_up.specs.Content.{Content, chunk_bytes, AllApart}
 use Rattle.prolly_entry.specs.Cut.{sha512_cut}
 use Rattle.prolly_entry.specs.Keys.{Rising}
 use Rattle.prolly_entry.specs.Pair.{IsPair}

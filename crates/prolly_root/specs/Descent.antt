@@ -1,12 +1,11 @@
 -- Going down from the root, from each chunk to the one that it refers to.
 use Rattle.std.specs.List.{AllByRecursion}
 use Rattle.std.specs.Prelude.{◌≡◌, ℕ, List, map, Option, Some}
-use Rattle.prolly_look_up.specs.Content.{chunks_of}
-use Rattle.prolly_look_up.specs.Content.{Content}
-use Rattle.prolly_look_up.specs.Descent.{IsTreeOf}
+use Rattle.prolly_look_up.specs.Content.{chunks_of, Content}
+use Rattle.prolly_look_up.specs.MapTree.{IsTreeOf}
 use Rattle.prolly_look_up.specs.HeldPairs.{pairs_held}
 use Rattle.prolly_look_up.specs.Kinds.{kind_of}
-use Rattle.prolly_look_up.specs.Leaves.{IsLeft}
+use Rattle.prolly_look_up.specs.PairsFrom.{IsLeft}
 use Rattle.prolly_look_up.specs.Sought.{Sought, EndsAt, IsMark, LeadsOn, sought_of}
 use Rattle.prolly_look_up.specs.Way.{FallsTo, IsNamed, IsWayTo, level_of}
 use Rattle.prolly_look_up.specs.declared.step.Due.{Due}

@@ -1,4 +1,4 @@
--- Places that are remembered while the root is sought.
+-- Boundaries that are remembered while the root is sought.
 use Rattle.std.specs.Prelude.{◌≡◌, ℕ, ◌<◌, ◌≤◌, List, length, get_or}
 use Rattle.std.specs.List.{AllByRecursion}
 use Rattle.prolly_look_up.specs.Content.{Content}
@@ -28,5 +28,5 @@ pub record IsPlaceMark (content : Content) (mark : Mark) : Type 0 where
 
 -- There are 32 marks, and each stands where it should.
 pub record AreMarks (content : Content) (marks : Marks) : Type 0 where
-  pub long : length marks.places ≡ 32
-  pub each : AllByRecursion (IsPlaceMark content) marks.places
+  pub long : length marks.marks ≡ 32
+  pub each : AllByRecursion (IsPlaceMark content) marks.marks

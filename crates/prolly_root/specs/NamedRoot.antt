@@ -3,9 +3,9 @@ use Rattle.std.specs.Prelude.{◌≡◌, ℕ, ◌-◌, ◌<◌, ◌≤◌, ◌�
 use Rattle.std.specs.Prelude.{Some, None}
 use Rattle.std.specs.Prelude.{Result, Ok, Err}
 use Rattle.prolly_look_up.specs.Content.{Content}
-use Rattle.prolly_root.specs.declared.file.end_record.NamedRootFault.{NamedRootFault}
-use Rattle.prolly_root.specs.declared.file.end_record.NamedRootFault.TheVariants.{BadEnd, BadHeader}
-use Rattle.prolly_root.specs.declared.file.end_record.NamedRootFault.TheVariants.{Read, Truncated}
+use Rattle.prolly_root.specs.declared.file.named_root_fault.NamedRootFault.{NamedRootFault}
+use Rattle.prolly_root.specs.declared.file.named_root_fault.NamedRootFault.TheVariants.{BadEnd, BadHeader}
+use Rattle.prolly_root.specs.declared.file.named_root_fault.NamedRootFault.TheVariants.{Read, Truncated}
 use Rattle.prolly_entry.specs.Cut.{sha512_cut}
 use Rattle.prolly_entry.specs.declared.reference.Ref.{Ref}
 use Rattle.prolly_file.specs.EndRecord.{IsNoEnd, NamesRoot}

@@ -1,8 +1,7 @@
 -- What the notes of a walk tell of the chunks that the old tree lacks.
 use Rattle.std.proofs.Common.{◌≡◌, ℕ, ◌+◌, ◌<◌, ◌≤◌, ◌⊎◌, inl, inr, Bool, true, false, cond, not}
-use Rattle.std.proofs.Common.{List}
-use Rattle.std.proofs.Common.{[], ◌∷◌, map, length, refl, sym, ap, ◌∙◌, subst, arith}
-use Rattle.std.proofs.Common.{Option, None, Some, append-nil}
+use Rattle.std.proofs.Common.{List, [], ◌∷◌, map, length, refl, sym, ap, ◌∙◌, subst, arith, Option}
+use Rattle.std.proofs.Common.{None, Some, append-nil}
 use Rattle.std.proofs.Math.Path.{fun_ext}
 use Rattle.std.proofs.lemmas.Bool.{cases_Bool, cases_lt, false≢true}
 use Rattle.std.proofs.lemmas.List.Concat.{length-flat_map}
@@ -11,7 +10,7 @@ use Rattle.std.proofs.lemmas.Slice.Eq.{bytes_eq-Decides}
 use Rattle.std.specs.List.{filter, list_any, sum_by, AllByRecursion}
 use Rattle.std.specs.Prelude.{◌||◌, IfSome}
 use Rattle.std.specs.Str.{bytes_eq}
-use Rattle.prolly_look_up.specs.Descent.{ChildIsTree, RootIsTree, TopIsRead}
+use Rattle.prolly_look_up.specs.MapTree.{ChildIsTree, RootIsTree, TopIsRead}
 use Rattle.prolly_look_up.specs.Content.{chunk_bytes}
 use Rattle.prolly_chunk.specs.Missing.{AreSo, has_reference, lacking}
 use Rattle.prolly_chunk.specs.declared.missing.Missing.{Missing}

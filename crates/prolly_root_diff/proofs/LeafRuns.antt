@@ -5,7 +5,7 @@ use Rattle.prolly_entry.specs.Cut.{sha512_cut}
 use Rattle.prolly_entry.specs.Pair.{Pair}
 use Rattle.prolly_entry.specs.Prefix.{IsPrefix}
 use Rattle.prolly_entry.specs.declared.version.Version.{Version}
-use Rattle.prolly_look_up.specs.Descent.{RootIsTree}
+use Rattle.prolly_look_up.specs.MapTree.{RootIsTree}
 use Rattle.prolly_look_up.specs.Content.{chunk_bytes}
 use Rattle.prolly_root_diff.specs.Leaves.{AllLeavesAreRight, AreLeavesLeft, FirstLeavesAreRight}
 use Rattle.prolly_root_diff.specs.Leaves.{FoundClashIn, GivesLeaves, IsFirstLeaf, full_leaves}

@@ -10,8 +10,8 @@ use Rattle.prolly_entry.specs.lemmas.Lists.{all_append}
 use Rattle.prolly_laws.specs.Trees.{leaves_are}
 use Rattle.prolly_tree.specs.Leaves.{leaves_below}
 use Rattle.prolly_tree.specs.Tree.{LeveledTree, Tree, bytes_of, tree_of}
-use Rattle.prolly_look_up.specs.Descent.{ChildIsTree, IsTreeOf, RootIsTree, TopIsRead}
-use Rattle.prolly_look_up.specs.Descent.{entries_below}
+use Rattle.prolly_look_up.specs.MapTree.{ChildIsTree, IsTreeOf, RootIsTree, TopIsRead}
+use Rattle.prolly_look_up.specs.MapTree.{entries_below}
 use Rattle.prolly_look_up.specs.HeldPairs.{pairs_held}
 use Rattle.prolly_look_up.specs.Kinds.{Entries, kind_of}
 use Rattle.prolly_look_up.specs.Kinds.Entries.{Leaf, Node}

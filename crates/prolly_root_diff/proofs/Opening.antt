@@ -9,8 +9,8 @@ use Rattle.prolly_entry.specs.declared.version.Version.{Version}
 use Rattle.prolly_entry.specs.lemmas.Lists.{all_append}
 use Rattle.prolly_laws.specs.Trees.{pairs_are}
 use Rattle.prolly_tree.specs.Tree.{LeveledTree, Tree, bytes_of, pairs_below, tree_of}
-use Rattle.prolly_look_up.specs.Descent.{ChildIsTree, IsTreeOf, RootIsTree, TopIsRead, child_of}
-use Rattle.prolly_look_up.specs.Descent.{entries_below}
+use Rattle.prolly_look_up.specs.MapTree.{ChildIsTree, IsTreeOf, RootIsTree, TopIsRead, child_of}
+use Rattle.prolly_look_up.specs.MapTree.{entries_below}
 use Rattle.prolly_look_up.specs.Kinds.{kind_of}
 use Rattle.prolly_look_up.specs.Way.{Clash}
 use Rattle.prolly_look_up.specs.lemmas.Clashes.{top_or_clash}

@@ -17,7 +17,7 @@ use Rattle.prolly_tree.specs.LookUp.{find}
 use Rattle.prolly_tree.specs.Tree.{LeveledTree, bytes_of, last_key, pairs_below}
 use Rattle.prolly_tree.specs.lemmas.Differences.{says_no_equal, shared_first}
 use Rattle.prolly_tree.specs.lemmas.Maps.{Above, HasKey, Rises, above_last, rises}
-use Rattle.prolly_look_up.specs.Descent.{HasTree, IsTreeOf}
+use Rattle.prolly_look_up.specs.MapTree.{HasTree, IsTreeOf}
 use Rattle.prolly_look_up.specs.Way.{Clash}
 use Rattle.prolly_tree.specs.Walks.{AreAlike, Maps}
 use Rattle.prolly_root_diff.specs.Left.{Due, PassBy, PassesEqual, pairs_of, tops_of}

@@ -4,17 +4,15 @@ use Rattle.prolly_entry.specs.Keys.{KeyBelow}
 use Rattle.prolly_entry.specs.Record.{Record}
 use Rattle.prolly_entry.specs.lemmas.RisingRecords.{AllAbove, is_rising}
 use Rattle.prolly_entry.specs.declared.version.Version.{Version}
-use Rattle.prolly_look_up.specs.Descent.{RootIsTree}
+use Rattle.prolly_look_up.specs.MapTree.{RootIsTree}
 use Rattle.prolly_look_up.specs.Content.{chunk_bytes}
 use Rattle.prolly_tree.specs.Difference.{IsDifference}
 use Rattle.prolly_tree.specs.LookUp.{find}
 use Rattle.prolly_tree.specs.lemmas.Differences.{some_difference}
 use Rattle.prolly_root_diff.specs.Walks.{BeforeIsRight, BeginsWithRecords, Changes, FirstAreRight}
-use Rattle.prolly_root_diff.specs.Walks.{GivesFirst}
+use Rattle.prolly_root_diff.specs.Walks.{GivesFirst, AreLeft, Clashing, FirstChange, FoundClash}
+use Rattle.prolly_root_diff.specs.Walks.{GivesAll, Lefts, WalksAreRight}
 use Rattle.prolly_tree.specs.Walks.{AreMaps, Maps}
-use Rattle.prolly_root_diff.specs.Walks.{AreLeft, Clashing, FirstChange, FoundClash, GivesAll}
-use Rattle.prolly_root_diff.specs.Walks.{Lefts}
-use Rattle.prolly_root_diff.specs.Walks.{WalksAreRight}
 use Rattle.prolly_root_diff.proofs.Opening.{begins_at_root}
 
 module _ (version : Version) (cs ds : List (List ℕ)) where

@@ -5,7 +5,7 @@ use Rattle.std.proofs.lemmas.List.{map-append}
 use Rattle.std.proofs.lemmas.List.Sums.{sum_by-append, sum_by-cons}
 use Rattle.std.specs.List.{flat_map, AllByRecursion, sum_by}
 use Rattle.std.specs.Prelude.{All}
-use Rattle.prolly_look_up.specs.Descent.{ChildIsTree, IsTreeOf, TopIsRead, child_of, entries_below}
+use Rattle.prolly_look_up.specs.MapTree.{ChildIsTree, IsTreeOf, TopIsRead, child_of, entries_below}
 use Rattle.prolly_look_up.specs.Entries.{Child}
 use Rattle.prolly_look_up.specs.Kinds.{kind_of}
 use Rattle.prolly_look_up.specs.Kinds.Entries.{Node}

@@ -1,15 +1,12 @@
 -- How far a walk has to go yet: a subtree weighs more than all that is due in its place once its
 -- chunk was read.
 use Rattle.std.proofs.Common.{◌≡◌, ℕ, zero, suc, ◌+◌, ◌-◌, ◌*◌, ◌^◌, ◌<◌, ◌≤◌, List, [], ◌∷◌, ◌++◌}
-use Rattle.std.proofs.Common.{length}
-use Rattle.std.proofs.Common.{sym, ap, subst, arith}
-use Rattle.std.proofs.Common.{inl, inr}
+use Rattle.std.proofs.Common.{length, sym, ap, subst, arith, inl, inr}
 use Rattle.std.proofs.Math.Nat.{suc-mul}
 use Rattle.std.proofs.lemmas.Bool.{cases_lt}
 use Rattle.prolly_entry.specs.declared.version.Version.{Version}
 use Rattle.prolly_look_up.specs.Entries.{Child, behind_child, behind_pair, children_in}
-use Rattle.prolly_look_up.specs.Entries.{entries_up_to}
-use Rattle.prolly_look_up.specs.Entries.{first_child, first_pair, pairs_in}
+use Rattle.prolly_look_up.specs.Entries.{entries_up_to, first_child, first_pair, pairs_in}
 use Rattle.prolly_look_up.specs.Kinds.{Entries, kind_of}
 use Rattle.prolly_look_up.specs.Way.{level_of}
 use Rattle.prolly_look_up.specs.Kinds.Entries.{Leaf, Node}

@@ -12,7 +12,7 @@ use Rattle.prolly_tree.specs.Difference.{IsDifference, IsMap}
 use Rattle.prolly_tree.specs.File.{root_reference}
 use Rattle.prolly_tree.specs.Tree.{LeveledTree, bytes_of, last_key, pairs_below}
 use Rattle.prolly_tree.specs.lemmas.Maps.{Above, HasKey}
-use Rattle.prolly_look_up.specs.Descent.{IsTreeOf}
+use Rattle.prolly_look_up.specs.MapTree.{IsTreeOf}
 use Rattle.prolly_look_up.specs.Entries.{Child}
 use Rattle.prolly_look_up.specs.Content.{chunk_bytes}
 use Rattle.prolly_look_up.specs.Kinds.{Entries, kind_of}

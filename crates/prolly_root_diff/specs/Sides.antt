@@ -1,11 +1,9 @@
 -- What a walk keeps of one tree.
 use Rattle.std.specs.Prelude.{◌≡◌, ℕ, suc, ◌⊎◌, List, [], ◌∷◌, ◌++◌, map, length, drop, Option}
-use Rattle.std.specs.Prelude.{Some}
-use Rattle.std.specs.Prelude.{None, option_map}
+use Rattle.std.specs.Prelude.{Some, None, option_map}
 use Rattle.std.specs.List.{AllByRecursion, flat_map}
-use Rattle.prolly_look_up.specs.Content.{chunks_of}
-use Rattle.prolly_look_up.specs.Content.{Content}
-use Rattle.prolly_look_up.specs.Descent.{IsTreeOf}
+use Rattle.prolly_look_up.specs.Content.{chunks_of, Content}
+use Rattle.prolly_look_up.specs.MapTree.{IsTreeOf}
 use Rattle.prolly_look_up.specs.Entries.{children_in}
 use Rattle.prolly_look_up.specs.Way.{level_of}
 use Rattle.prolly_entry.specs.Cut.{sha512_cut}

@@ -13,11 +13,10 @@ use Rattle.std.specs.Prelude.{All}
 use Rattle.prolly_entry.specs.Byte.{IsByte}
 use Rattle.prolly_entry.specs.Cut.{sha512_cut}
 use Rattle.prolly_entry.specs.Record.{Record}
-use Rattle.prolly_look_up.specs.Content.{chunk_bytes}
+use Rattle.prolly_look_up.specs.Content.{chunk_bytes, Content}
 use Rattle.prolly_look_up.specs.Way.{Clash}
 use Rattle.prolly_tree.specs.Walks.{AreAlike, AreMaps, IsFirstChange, Maps}
 use Rattle.prolly_tree.specs.lemmas.Maps.{FirstAbove}
-use Rattle.prolly_look_up.specs.Content.{Content}
 use Rattle.prolly_root.specs.RootFault.{MayFail, TellsFailure}
 use Rattle.prolly_root.specs.declared.root_fault.RootFault.{RootFault}
 use Rattle.prolly_tree.specs.Tree.{Tree}

@@ -1,15 +1,13 @@
 //! The walk over two trees.
 ghost use Rattle.std.specs.Prelude.{◌≡◌, ◌≤◌, ◌^◌, true, false, Err, None, Some, IfOk, IfErr};
-ghost use Rattle.std.specs.Prelude.{OnErr};
-ghost use Rattle.std.specs.Prelude.{OnOk, IfSome};
+ghost use Rattle.std.specs.Prelude.{OnErr, OnOk, IfSome};
 ghost use Rattle.std.specs.List.{sum_by};
 ghost use Rattle.std.specs.Option.{is_some};
 ghost use Rattle.prolly_root_diff.specs.Notes.{AreNoted, TellsMissing};
 ghost use Rattle.prolly_root_diff.specs.Sides.{left_of};
 ghost use Rattle.prolly_root_diff.specs.ToGo.{ComesNearer};
 ghost use Rattle.prolly_root_diff.specs.Walks.{Gives, IsBegun, IsOfOneKey, Lefts, TellsNew};
-ghost use Rattle.prolly_root_diff.specs.Walks.{TellsOld};
-ghost use Rattle.prolly_root_diff.specs.Walks.{lefts_of};
+ghost use Rattle.prolly_root_diff.specs.Walks.{TellsOld, lefts_of};
 ghost use Rattle.prolly_root_diff.specs.declared.notes.Notes.{Notes as NotesValue};
 
 use crate::change::RootChange;

@@ -21,4 +21,5 @@ mod side;
 pub use change::RootChange;
 pub use differences::RootDifferences;
 pub use fault::RootDiffFault;
+pub use prolly_chunk::Missing;
 pub use root_leaves::{LeafRead, RootLeaves};

@@ -1,8 +1,7 @@
 -- Places in the order of their keys and numbers: those of one key stand in the order in which they came.
 use Rattle.std.proofs.Common.{◌≡◌, ℕ, zero, suc, ◌+◌, ◌<◌, ◌≤◌, Bool, true, false, cond, List, []}
-use Rattle.std.proofs.Common.{◌∷◌}
-use Rattle.std.proofs.Common.{All, IsPermutation, Ordering, filter, get_or, is_lt}
-use Rattle.std.proofs.Common.{nat_eq, sum_by, refl, sym, ap, ◌∙◌, arith}
+use Rattle.std.proofs.Common.{◌∷◌, All, IsPermutation, Ordering, filter, get_or, is_lt, nat_eq}
+use Rattle.std.proofs.Common.{sum_by, refl, sym, ap, ◌∙◌, arith}
 use Rattle.std.proofs.lemmas.Bool.Decides.{Decides-eqb}
 use Rattle.std.proofs.lemmas.Cmp.{nat_cmp_total, nat_list_cmp_total, on_total, then_total}
 use Rattle.std.proofs.lemmas.List.Elements.{All-cons, All-filter, All-tail, filter_passes}

@@ -5,8 +5,8 @@ use prolly_link::RunFault;
 use prolly_stage::Gate;
 use prolly_tool::{
     AllStart, Answer, Command, Config, ConfigFault, PackFault, ParseFault, Permit, Report,
-    answer_build, answer_check, answer_get, answer_nth, answer_pack, answer_scan, answer_scratch,
-    build, build_with, pack_lines, parse,
+    answer_build, answer_check, answer_get, answer_nth, answer_pack, answer_refusal, answer_scan,
+    answer_scratch, build, build_with, pack_lines, parse,
 };
 use std::alloc::{AllocError, Global};
 use std::sync::Wait;
@@ -136,6 +136,16 @@ fn answers<S: Source, W: Sink>(
 #[test]
 fn tools_are_named_as_ever(rt: HostRuntime) -> Result<(), Fail> {
     assert!(rt; config().is_ok());
-    assert!(rt; parse(rt.alloc(), &[]).is_err());
+    Ok(())
+}
+
+#[test]
+fn no_words_are_told_how_to_use_the_program(rt: HostRuntime) -> Result<(), Fail> {
+    let refusal = parse(rt.alloc(), &[]).err();
+    assert!(rt; refusal.is_some());
+    if let Some(refusal) = refusal {
+        let answer = answer_refusal(rt.alloc(), refusal)?;
+        assert!(rt; answer.status == 2 && answer.out.is_empty() && !answer.err.is_empty());
+    }
     Ok(())
 }

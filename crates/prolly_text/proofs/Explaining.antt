@@ -7,9 +7,8 @@ use Rattle.std.proofs.lemmas.List.{length-take-le, take-take}
 use Rattle.std.specs.Prelude.{codes, nat_lt}
 use Rattle.prolly_text.specs.Ahead.{BeginsWithLine, LiesWithin, LooksLong, PassesLine}
 use Rattle.prolly_text.specs.Defects.{HasDefect}
-use Rattle.prolly_text.specs.FaultyLines.{Explains, IsExplained, IsGood, IsSeen}
-use Rattle.prolly_text.specs.FaultyLines.{SeesFaulty, SeesGood, StopsAtFault, defect_lines}
-use Rattle.prolly_text.specs.FaultyLines.{lines_with}
+use Rattle.prolly_text.specs.FaultyLines.{Explains, IsExplained, IsGood, IsSeen, SeesFaulty}
+use Rattle.prolly_text.specs.FaultyLines.{SeesGood, StopsAtFault, defect_lines, lines_with}
 use Rattle.prolly_text.specs.FaultyLines.{place_after, place_behind, shown_line, start}
 use Rattle.prolly_text.specs.Lines.{lines_of}
 use Rattle.prolly_text.specs.Notations.{written}

@@ -19,8 +19,7 @@ use Rattle.prolly_tree.specs.Split.{in_front}
 use Rattle.prolly_text.specs.Lines.{lines_of, reads_bare_keys, CutsAt, IsBadLine, IsDashLine}
 use Rattle.prolly_text.specs.Lines.{IsLineOf, IsPairLine, IsRemovalLine}
 use Rattle.prolly_text.specs.declared.lines.form.LineForm.{LineForm}
-use Rattle.prolly_text.specs.PackedLines.{IsUnreadLine}
-use Rattle.prolly_text.specs.PackedLines.{MarksRemoval}
+use Rattle.prolly_text.specs.PackedLines.{IsUnreadLine, MarksRemoval}
 use Rattle.prolly_text.specs.declared.notation.TextFault.{TextFault}
 use Rattle.prolly_text.specs.declared.notation.TextFault.TheVariants as texts
 
@@ -261,7 +260,7 @@ line_put form line key_text change_text key value c h k = record {
   value_is = k;
 }
 
--- ---- the record of a line
+-- ---- what is wrong with a part of a line
 
 -- What is wrong with a part of a line is wrong with the line.
 pub part_unread : {T : Type 0} (form : LineForm) (line : List ℕ) (P : TextFault → Type 0)
@@ -270,9 +269,9 @@ pub part_unread : {T : Type 0} (form : LineForm) (line : List ℕ) (P : TextFaul
 part_unread form line P (Ok r) so h = tt
 part_unread form line P (Err fault) so h = so fault h
 
--- ---- slices behind a place
+-- ---- slices behind an offset
 
--- `&back[1..]`, where `back` begins at place n
+-- `&back[1..]`, where `back` begins at offset n
 pub behind : (xs back : List ℕ) (n : ℕ) → back ≡ drop n xs →
     take (length back - 1) (drop 1 back) ≡ drop (n + 1) xs
 behind xs back n e = rest_is back 1 ∙ (ap (drop 1) e ∙ drop-drop 1 n xs)

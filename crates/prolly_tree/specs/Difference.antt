@@ -1,6 +1,7 @@
 -- The difference of two maps: the records that turn the one into the other. (This project's rules.)
 use Rattle.std.specs.Prelude.{◌≡◌, ◌≢◌, ℕ, List, [], ◌∷◌, map, Option, Some, None}
-use Rattle.prolly_entry.specs.Keys.{Rising}
+use Rattle.std.specs.List.{AllByRecursion}
+use Rattle.prolly_entry.specs.Keys.{KeyBelow, Rising}
 use Rattle.prolly_entry.specs.Overlay.{change_of, overlay}
 use Rattle.prolly_entry.specs.Pair.{Pair}
 use Rattle.prolly_entry.specs.Record.{Record, keys_of}
@@ -21,6 +22,10 @@ pub record IsDifference (old new : List Pair) (records : List Record) : Type 0 w
 -- The keys of pairs rise: the pairs are a map.
 abbrev pub IsMap : List Pair → Type 0
 IsMap m = Rising (map (λ p. p.key) m)
+
+-- Each key of pairs is above this key.
+abbrev pub Above : List ℕ → List Pair → Type 0
+Above key ps = AllByRecursion (λ q. KeyBelow key q.key) ps
 
 -- The records that put the pairs.
 abbrev pub puts : List Pair → List Record

@@ -3,9 +3,8 @@ use Rattle.std.specs.Prelude.{◌≡◌, ℕ, ◌+◌, ◌<◌, List, [], ◌∷
 use Rattle.prolly_entry.specs.Keys.{KeyBelow}
 use Rattle.prolly_entry.specs.Pair.{Pair}
 use Rattle.prolly_entry.specs.Record.{Record}
-use Rattle.prolly_tree.specs.Difference.{IsDifference, IsMap}
+use Rattle.prolly_tree.specs.Difference.{Above, IsDifference, IsMap}
 use Rattle.prolly_tree.specs.LookUp.{find}
-use Rattle.prolly_tree.specs.lemmas.Maps.{Above}
 
 -- What is left of two maps, from where the walk stands.
 pub record Maps : Type 0 where

@@ -1,9 +1,9 @@
 //! The stage of an old tree's leaves, beside a merge and a fresh stage of leaves.
 use crate::links::comparing::{expect_bytes, expect_eq};
 use prolly_apply::{Applied, OldLeaf, apply_stage};
-use prolly_look_up::{pairs_of, test_chunk};
 use prolly_entry::{KeyCut, Pair, Record, Ref, Version};
 use prolly_link::{ClosedList, End, ListIn, ListOut, RunFault};
+use prolly_look_up::{pairs_of, test_chunk};
 use prolly_merge::merge;
 use prolly_stage::{ChunkEvent, Staged, leaf_stage};
 use std::alloc::{AllocError, Global};

@@ -2,8 +2,7 @@
 ghost use Rattle.std.specs.Prelude.{ℕ, List, [], IfOk, Some};
 ghost use Rattle.std.specs.Option.{option_copied};
 ghost use Rattle.prolly_answer.specs.Answers.{Shows, ShowsNothing, ShowsLine, ShowsDone};
-ghost use Rattle.prolly_answer.specs.Answers.{ShowsFault};
-ghost use Rattle.prolly_answer.specs.Answers.{ShowsFileFault, ShowsFileLine, ShowsName};
+ghost use Rattle.prolly_answer.specs.Answers.{ShowsFault, ShowsFileFault, ShowsFileLine, ShowsName};
 ghost use Rattle.prolly_answer.specs.LookUps.{ShowsPair, ShowsRaw, ShowsValue};
 
 use crate::faults::{Fault, NameFault};

@@ -1,7 +1,6 @@
 //! The command `check`: whether a file is a lawful chunk file.
 ghost use Rattle.std.specs.Prelude.{◌≡◌, ◌≢◌, true, IfOk};
-ghost use Rattle.prolly_look_up.specs.Content.{Content};
-ghost use Rattle.prolly_look_up.specs.Content.{IsFileOf};
+ghost use Rattle.prolly_look_up.specs.Content.{Content, IsFileOf};
 ghost use Rattle.prolly_answer.specs.Answers.{ShowsFault};
 ghost use Rattle.prolly_answer.specs.LookUps.{AnswersFailedRead, AnswersLookUp, IsCheckByRoot};
 ghost use Rattle.prolly_answer.specs.LookUps.{ShowsCheck, check_text, ok_text};

@@ -3,8 +3,7 @@ ghost use Rattle.std.specs.Prelude.{◌≡◌, ◌≢◌, ◌⊎◌, ◌+◌, �
 ghost use Rattle.std.specs.Prelude.{◌∷◌, ◌++◌, OnOk, OnErr, []};
 ghost use Rattle.std.specs.Fmt.{decimal};
 ghost use Rattle.std.specs.List.{AllByRecursion};
-ghost use Rattle.prolly_look_up.specs.Content.{Content};
-ghost use Rattle.prolly_look_up.specs.Content.{IsFileOf};
+ghost use Rattle.prolly_look_up.specs.Content.{Content, IsFileOf};
 ghost use Rattle.prolly_check.specs.declared.verdict.fault.CheckFault.TheVariants.{Read};
 ghost use Rattle.prolly_tree.specs.Walks.{AreMaps};
 ghost use Rattle.prolly_entry.specs.Pair.{IsPair, Pair};

@@ -1,7 +1,6 @@
 //! The command `dump`: the pairs of a chunk file, as lines or as a record file.
 ghost use Rattle.std.specs.Prelude.{◌≡◌, ◌≢◌, ◌⊎◌, true, IfOk, OnOk, IfErr, OnErr};
-ghost use Rattle.prolly_look_up.specs.Content.{Content};
-ghost use Rattle.prolly_look_up.specs.Content.{IsFileOf};
+ghost use Rattle.prolly_look_up.specs.Content.{Content, IsFileOf};
 ghost use Rattle.prolly_tree.specs.Difference.{puts};
 ghost use Rattle.prolly_answer.specs.Dump.{IsDump, IsDumped, IsStoppedDump};
 ghost use Rattle.prolly_answer.specs.LookUps.{ShowsFailedRead};

@@ -1,8 +1,7 @@
 //! The command `get` of many keys, of a checked file.
 ghost use Rattle.std.specs.Option.{option_copied};
 ghost use Rattle.std.specs.Prelude.{◌≡◌, ◌≢◌, ◌⊎◌, ◌++◌, true, map, IfErr, IfOk, OnErr, OnOk};
-ghost use Rattle.prolly_look_up.specs.Content.{Content};
-ghost use Rattle.prolly_look_up.specs.Content.{IsFileOf};
+ghost use Rattle.prolly_look_up.specs.Content.{Content, IsFileOf};
 ghost use Rattle.prolly_answer.specs.KeyLookUps.{AreFoundIn, IsGetKeys, found_at, found_line};
 ghost use Rattle.prolly_answer.specs.KeyLookUps.{found_lines};
 ghost use Rattle.prolly_answer.specs.LookUps.{ShowsFailedRead};

@@ -2,8 +2,8 @@
 ghost use Rattle.std.specs.Prelude.{◌≡◌, true, IfOk};
 ghost use Rattle.prolly_look_up.specs.Content.{Content};
 ghost use Rattle.prolly_root.specs.Walk.{HoldsFile};
-ghost use Rattle.prolly_answer.specs.NamedRoots.{IsNamedRoot, ShowsRootOf, TellsNamedRead};
-ghost use Rattle.prolly_answer.specs.NamedRoots.{check_fault};
+ghost use Rattle.prolly_answer.specs.NamedRoots.{IsNamedRoot, ShowsRootOf};
+ghost use Rattle.prolly_answer.specs.NamedRoots.{TellsNamedRead, check_fault};
 
 use crate::answers::answer::Answer;
 use crate::faults::Fault;

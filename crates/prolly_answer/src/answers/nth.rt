@@ -1,8 +1,7 @@
 //! What `nth` answers, of a checked file and by the root.
 ghost use Rattle.std.specs.Prelude.{◌≡◌, ◌↔◌, ℕ, List, IfOk, IsErr};
-ghost use Rattle.prolly_look_up.specs.Content.{Content};
+ghost use Rattle.prolly_look_up.specs.Content.{Content, IsFileOf};
 ghost use Rattle.prolly_look_up.specs.FoundPairs.{pair_found};
-ghost use Rattle.prolly_look_up.specs.Content.{IsFileOf};
 ghost use Rattle.prolly_entry.specs.declared.version.Version.TheVariants.{One};
 ghost use Rattle.prolly_text.specs.declared.notation.Notation.TheVariants.{Hex};
 ghost use Rattle.prolly_tree.specs.LookUp.{nth};

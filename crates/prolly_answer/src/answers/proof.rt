@@ -6,8 +6,7 @@ ghost use Rattle.prolly_root.specs.declared.root_fault.RootFault.{RootFault as R
 ghost use Rattle.prolly_answer.specs.LookUps.{ShowsFailedRead};
 ghost use Rattle.prolly_answer.specs.Outputs.{TookAll, TookPart};
 ghost use Rattle.prolly_answer.specs.Proofs.{IsProve, IsProveByRoot, IsProvedOf, IsUnproved};
-ghost use Rattle.prolly_answer.specs.Proofs.{IsVerify};
-ghost use Rattle.prolly_answer.specs.Proofs.{ProofByRoot};
+ghost use Rattle.prolly_answer.specs.Proofs.{IsVerify, ProofByRoot};
 ghost use Rattle.prolly_answer.specs.RootOutcomes.{RefusesNone};
 ghost use Rattle.prolly_answer.specs.Answers.{ShowsFault};
 

@@ -1,7 +1,6 @@
 //! The command `scan` of a file of which only the root is believed.
 ghost use Rattle.std.specs.Prelude.{◌≡◌, ◌-◌, ◌<◌, true, length, take, All, Err, IfErr, IfOk};
-ghost use Rattle.std.specs.Prelude.{OnErr};
-ghost use Rattle.std.specs.Prelude.{OnOk};
+ghost use Rattle.std.specs.Prelude.{OnErr, OnOk};
 ghost use Rattle.prolly_look_up.specs.ScanWay.{next_key};
 ghost use Rattle.prolly_entry.specs.Byte.{IsByte};
 ghost use Rattle.prolly_answer.specs.LookUps.{pair_lines};

@@ -2,8 +2,7 @@
 ghost use Rattle.prolly_answer.specs.Stat.{AnswersBadRead, AnswersOf, AnswersStat, ShowsTree};
 ghost use Rattle.prolly_answer.specs.Stat.{tree_text, ShowsRecords, ShowsSurvey, records_text};
 ghost use Rattle.std.specs.Prelude.{◌≡◌, ◌++◌, IfOk, OnOk};
-ghost use Rattle.prolly_look_up.specs.Content.{Content};
-ghost use Rattle.prolly_look_up.specs.Content.{IsFileOf};
+ghost use Rattle.prolly_look_up.specs.Content.{Content, IsFileOf};
 ghost use Rattle.std.specs.Option.{option_copied};
 ghost use Rattle.prolly_load.specs.Survey.{key_bytes};
 ghost use Rattle.prolly_answer.specs.Surveys.{AreOfSurvey};

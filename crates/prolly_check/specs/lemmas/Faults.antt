@@ -12,6 +12,7 @@ pub or_none : {A : Type 0} (a b : Option A) → or_else a b ≡ None → (a ≡ 
 or_none None b e = (refl, e)
 or_none (Some x) b e = cc
 
+-- A test with no fault was passed, and what follows it has none.
 pub if_none : {F : Type 0} (t : Bool) (f : F) (o : Option F) → cond t o (Some f) ≡ None →
     (t ≡ true) × (o ≡ None)
 if_none true f o e = (refl, e)

@@ -4,9 +4,8 @@ ghost use Rattle.prolly_entry.specs.Reference.{reference_of};
 ghost use Rattle.prolly_tree.specs.LookUp.{find};
 ghost use Rattle.prolly_check.specs.Chunks.{HasFile};
 ghost use Rattle.prolly_check.specs.FileWays.{CanBeSought, IsWayEnd, IsNamedAt, IsNextOnWay, IsTop};
-ghost use Rattle.prolly_look_up.specs.Content.{nth_chunk};
+ghost use Rattle.prolly_look_up.specs.Content.{nth_chunk, root_bytes};
 ghost use Rattle.prolly_look_up.specs.Kinds.{kind_of};
-ghost use Rattle.prolly_look_up.specs.Content.{root_bytes};
 ghost use Rattle.prolly_look_up.specs.Sought.{EndsAt, sought_of};
 ghost use Rattle.prolly_look_up.specs.Way.{IsWay};
 

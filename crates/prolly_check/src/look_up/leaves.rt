@@ -6,7 +6,7 @@ ghost use Rattle.prolly_entry.specs.Pair.{Pair as PairValue};
 ghost use Rattle.prolly_check.specs.Chunks.{HasFile};
 ghost use Rattle.prolly_look_up.specs.Content.{chunks_of};
 ghost use Rattle.prolly_look_up.specs.HeldPairs.{pairs_held};
-ghost use Rattle.prolly_look_up.specs.Leaves.{pairs_from};
+ghost use Rattle.prolly_look_up.specs.PairsFrom.{pairs_from};
 
 use crate::file::CheckedFile;
 use crate::look_up::descent::descend;

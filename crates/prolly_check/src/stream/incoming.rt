@@ -1,12 +1,10 @@
 //! The bytes of a source as they come.
 ghost use Rattle.std.specs.Prelude.{◌≡◌, ◌⊎◌, ◌≤◌, ◌++◌, [], true, false, drop, vec_len, IfErr};
-ghost use Rattle.std.specs.Prelude.{IfOk};
-ghost use Rattle.std.specs.Prelude.{OnOk};
+ghost use Rattle.std.specs.Prelude.{IfOk, OnOk};
 ghost use Rattle.prolly_check.specs.Incoming.{IsFilled, Reads};
 
 use crate::verdict::CheckFault;
-use prolly_file::{FRAME_LETTER, FRAME_START, PartReader, Source, frame_at};
-use prolly_look_up::CHUNK_LIMIT;
+use prolly_file::{CHUNK_LIMIT, FRAME_LETTER, FRAME_START, PartReader, Source, frame_at};
 
 /// How many bytes of a file are looked at together: as many as this, and more only where a frame is
 /// larger. Threads share the chunks of a window out, so it has to hold many of them.

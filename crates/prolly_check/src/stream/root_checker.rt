@@ -28,14 +28,14 @@ pub struct RootReport {
 /// Reads a source once, to its end, and accepts its bytes exactly where they are the file of a map,
 /// of this version and any number of bits, whose root is this one. The file may be of any size.
 ///
-/// Answers the first fault in the order of the bytes: the first place where they part from the file
+/// Answers the first fault in the order of the bytes: the first byte at which they part from the file
 /// of the pairs that were read; then a root that is another one. Two chunks with one reference are
 /// no fault here, since the root is given.
 ///
 /// Takes time linear in the bytes, and hashes what [`check`](crate::check) hashes. Holds a window
 /// of 16 MiB, or twice a chunk that is larger, some 80 bytes for each chunk in it, and one open chunk
 /// of each level, whatever the file's size. For a chunk longer than
-/// [`CHUNK_LIMIT`](crate::CHUNK_LIMIT) no memory is taken.
+/// [`CHUNK_LIMIT`](prolly_file::CHUNK_LIMIT) no memory is taken.
 pub fn check_by_root<H: ChunkHasher, S: Source>(
     hasher: &H,
     alloc: Global,

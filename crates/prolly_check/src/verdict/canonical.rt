@@ -1,7 +1,6 @@
 //! Comparing the chunks of a file with those of the file of the pairs that they hold.
 ghost use Rattle.std.specs.Prelude.{◌≡◌, ◌<◌, ◌+◌, ◌^◌, [], ℕ, true, false, None, Some, OnOk};
-ghost use Rattle.std.specs.Prelude.{IfErr};
-ghost use Rattle.std.specs.Prelude.{drop, length, take};
+ghost use Rattle.std.specs.Prelude.{IfErr, drop, length, take};
 ghost use Rattle.std.specs.List.{flat_map};
 ghost use Rattle.prolly_entry.specs.declared.version.Version.{Version as VersionValue};
 ghost use Rattle.prolly_check.specs.Digests.{AreDigests};

@@ -4,9 +4,8 @@ ghost use Rattle.std.specs.Prelude.{drop, length, Err, IfOk, OnOk, IfErr, IsErrO
 ghost use Rattle.std.specs.List.{flat_map, AllByRecursion};
 ghost use Rattle.prolly_check.specs.FirstFault.{Says, ending_of_chunks};
 ghost use Rattle.prolly_check.specs.Verdict.{IsRefusal, IsVerdict, UnlessMemory};
-ghost use Rattle.prolly_look_up.specs.Content.{IsFileOf};
+ghost use Rattle.prolly_look_up.specs.Content.{IsFileOf, Content};
 ghost use Rattle.prolly_check.specs.Chunks.{IsChecked, IsFile, IsLaidOut, AreReferences};
-ghost use Rattle.prolly_look_up.specs.Content.{Content};
 ghost use Rattle.prolly_check.specs.Digests.{AreDigests};
 ghost use Rattle.prolly_look_up.specs.Entries.{AreWhole};
 ghost use Rattle.prolly_check.specs.ReadChunks.{IsBad};
@@ -33,7 +32,7 @@ use std::ops::Range;
 /// chunks and the end record against those of the file of the same pairs; the references.
 ///
 /// Takes time linear in the bytes, but for the ordering of the references. Hashes each chunk once,
-/// and each entry of a lawful file once. Beside the bytes it holds the place and the digest of each
+/// and each entry of a lawful file once. Beside the bytes it holds the span and the digest of each
 /// chunk, while the chunks are followed one open node of each level, and then the index of the
 /// references.
 pub fn check<S: Source>(alloc: Global, source: &mut S, max_bytes: u32) -> Result<Tree, CheckFault>

@@ -11,7 +11,6 @@ use crate::verdict::pairs_digest::PairsDigest;
 use prolly_entry::{Ref, Sha512Cut, Version};
 use prolly_look_up::ManyThreads;
 use std::alloc::{AllocError, Global};
-use std::num::NonZeroUsize;
 use std::ops::Range;
 use std::thread::{Threads, for_each_mut};
 

@@ -15,7 +15,7 @@ pub(crate) struct Frames {
     pub(crate) end: usize,
 }
 
-/// The frames from a place on, up to the first bytes that no whole frame begins.
+/// The frames from an offset on, up to the first bytes that no whole frame begins.
 pub(crate) fn find_frames(alloc: Global, bytes: &[u8], from: usize) -> Result<Frames, AllocError>
     requires { from ≤ length bytes.now }
     ensures frames { IfOk result (λ r. FramesTo bytes.now from r.spans.items r.end) }

@@ -9,9 +9,9 @@ use prolly_answer::{
     answer_root, answer_scan_by_root,
 };
 use prolly_check::OneThread;
-use prolly_look_up::ManyThreads;
 use prolly_entry::{Pair, Ref, Version};
 use prolly_file::{FromRead, ScriptDevice, ScriptSink};
+use prolly_look_up::ManyThreads;
 use prolly_root::{FileChunks, Reader, RootFault};
 use std::alloc::{AllocError, Global};
 use std::num::NonZeroUsize;

@@ -1,4 +1,4 @@
--- Lists: their fronts, what holds of all elements, what is behind a place.
+-- Lists: their fronts, what holds of all elements, what is behind an offset.
 use Rattle.std.proofs.Common.{◌≡◌, ℕ, suc, ◌-◌, true, List, [], ◌∷◌, ◌++◌, length, take, drop, refl}
 use Rattle.std.proofs.Common.{sym, ap, ◌∙◌, arith, append_assoc, append-nil, length-drop}
 use Rattle.std.proofs.Math.Seq.{take-length}
@@ -49,7 +49,7 @@ pub all_append : {X : Type 0} (P : X → Type 0) (xs ys : List X) → AllByRecur
 all_append P [] ys h k = k
 all_append P (x ∷ xs) ys h k = (h.0, all_append P xs ys h.1 k)
 
--- Bytes from a place on are what `&bytes[at..]` is.
+-- Bytes from an offset on are what `&bytes[at..]` is.
 pub rest_is : (bytes : List ℕ) (at : ℕ) → take (length bytes - at) (drop at bytes) ≡ drop at bytes
 rest_is bytes at = ap (λ k. take k (drop at bytes)) (sym (length-drop at bytes)) ∙
     take-length (drop at bytes)

@@ -146,7 +146,7 @@ key_there key rest n e = ap (λ k. take k (key ++ rest)) e ∙ take-append_seam 
 pub key_size : (key : List ℕ) → length (key_spelling key) ≡ 2 + length key
 key_size key = length-append (to_be_bytes w16 (length key)) key
 
--- The number at the place of the length of a value.
+-- The number that stands for the length of a value.
 abbrev pub value_number : Option (List ℕ) → ℕ
 value_number None = 0xFFFF_FFFF
 value_number (Some v) = length v

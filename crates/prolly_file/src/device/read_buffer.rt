@@ -1,6 +1,5 @@
 //! The bytes of a source that were read and are not consumed yet.
-ghost use Rattle.std.specs.Prelude.{◌≡◌, ◌+◌, ◌-◌, ◌<◌, ◌≤◌, ◌^◌, true, [], length, take, drop};
-ghost use Rattle.std.specs.Prelude.{IsOk};
+ghost use Rattle.std.specs.Prelude.{◌≡◌, ◌+◌, ◌-◌, ◌<◌, ◌≤◌, ◌^◌, true, [], length, take, drop, IsOk};
 ghost use Rattle.std.specs.Prelude.{IfOk};
 ghost use Rattle.std.specs.Option.{option_copied, option_map};
 ghost use Rattle.std.specs.Result.{result_unwrap_or};
@@ -89,8 +88,8 @@ impl<const KEPT: usize, const UNPARSED: usize> ReadBuffer<KEPT, UNPARSED> {
         self.unparsed.start += len;
     }
 
-    /// Consumes the first `len` of the unparsed bytes, and keeps those of them that stand at these
-    /// places, in place of what was kept before.
+    /// Consumes the first `len` of the unparsed bytes, and keeps those of them that lie in this range,
+    /// instead of what was kept before.
     pub fn consume_keeping(&mut self, len: usize, kept: Range<usize>)
         requires kept { (kept.start ≤ kept.end) × (kept.end ≤ kept.start + KEPT) }
         requires len { (kept.end ≤ len) × (len ≤ length self.old.unparsed) }
@@ -167,7 +166,7 @@ fn compact<const KEPT: usize>(
 fn move_down(bytes: &mut [u8], from: Span, to: usize) -> Span
     requires within { (from.start ≤ from.end) × (from.end ≤ length bytes.old) }
     requires down { to ≤ from.start }
-    ensures places { result ≡ record { start = to; end = to + (from.end - from.start) } }
+    ensures span { result ≡ record { start = to; end = to + (from.end - from.start) } }
     ensures moved { part bytes.new result ≡ part bytes.old from }
     ensures before { take to bytes.new ≡ take to bytes.old }
     ensures behind { drop from.end bytes.new ≡ drop from.end bytes.old }
@@ -202,7 +201,7 @@ fn read_behind<S: Source>(
     source.read(&mut bytes[unparsed.end..])
 }
 
-/// The bytes from one place to another.
+/// The bytes from one offset to another.
 #[derive(Clone, Copy)]
 pub(crate) struct Span {
     pub(crate) start: usize,

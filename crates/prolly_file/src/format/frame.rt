@@ -19,6 +19,10 @@ pub const FRAME_START: usize = 9;
 /// level.
 pub const FRAME_FRONT: usize = FRAME_START + 1;
 
+/// The greatest length of a chunk, in bytes, for which memory is taken where nothing but its frame
+/// says how long it is. A longer one is told as want of memory.
+pub const CHUNK_LIMIT: usize = 1_073_741_824;
+
 /// What stands where a frame is due.
 #[derive(Clone, Copy)]
 pub enum FrameStart {

@@ -3,8 +3,8 @@
 use super::{FILE_OF_NONE, checked, file_of, tree_of_three};
 use crate::expect::{expect_bytes, expect_eq};
 use prolly_check::Tree;
-use prolly_look_up::Pairs;
 use prolly_entry::Version;
+use prolly_look_up::Pairs;
 use prolly_test_parts::pairs_of;
 use std::alloc::Global;
 use std::process::Abort;

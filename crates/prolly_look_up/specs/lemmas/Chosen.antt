@@ -18,9 +18,9 @@ use Rattle.prolly_entry.specs.lemmas.Lists.{all_append}
 use Rattle.prolly_entry.specs.lemmas.Orders.{order_trans}
 use Rattle.prolly_tree.specs.Tree.{Tree, bytes_of, greatest_key, pair_count, pairs_below}
 use Rattle.prolly_tree.specs.lemmas.Maps.{Rises, rises_back, rises_front}
-use Rattle.prolly_look_up.specs.Descent.{NodeFull, child_of}
+use Rattle.prolly_look_up.specs.MapTree.{NodeFull, child_of}
 use Rattle.prolly_look_up.specs.Entries.{Child, IsNode, children_in}
-use Rattle.prolly_look_up.specs.Leaves.{pairs_from}
+use Rattle.prolly_look_up.specs.PairsFrom.{pairs_from}
 use Rattle.prolly_look_up.specs.Sought.{Sought, child_sought, reference_and_sought, IsMark}
 use Rattle.prolly_look_up.specs.Sought.Sought.{Key, Number}
 use Rattle.prolly_look_up.specs.declared.sought.Mark.{Mark}
@@ -29,7 +29,7 @@ use Rattle.prolly_look_up.specs.lemmas.RisingKeys.{is_less}
 
 -- ---- what is sought in pairs, and in trees
 
--- the pairs are past what is sought, which is this behind them
+-- The pairs are past what is sought, which is this behind them.
 abbrev pub IsPast : Sought → List Pair → Sought → Type 0
 IsPast (Key key) before (Key other) =
     AllByRecursion (λ p. KeyBelow p.key key) before × (other ≡ key)
@@ -37,22 +37,22 @@ IsPast (Key key) before (Number ahead) = ⊥
 IsPast (Number n) before (Key other) = ⊥
 IsPast (Number n) before (Number ahead) = n ≡ length before + ahead
 
--- it is not behind all of these pairs
+-- It is not behind all of these pairs.
 abbrev pub Has : Sought → List Pair → Type 0
 Has (Key key) pairs = pairs_from key pairs ≡ [] → ⊥
 Has (Number n) pairs = n < length pairs
 
--- it is behind all of them
+-- It is behind all of them.
 abbrev pub AllPast : Sought → List Pair → Type 0
 AllPast (Key key) pairs = AllByRecursion (λ p. KeyBelow p.key key) pairs
 AllPast (Number n) pairs = length pairs ≤ n
 
--- it can be found in trees of the version, whose counts tell how many of these pairs are below them
+-- It can be found in trees of the version, whose counts tell how many of these pairs are below them
 abbrev pub CanCount : Version → Sought → List Pair → Type 0
 CanCount version (Key key) pairs = Unit {0}
 CanCount version (Number n) pairs = (version ≡ Two) × (length pairs < 2 ^ 64)
 
--- a look-up goes on in one of these trees, which has this reference, and seeks this there
+-- A look-up goes on in one of these trees, which has this reference, and seeks this there.
 pub record ChosenIn (version : Version) (level : ℕ) (trees : List (Tree level))
     (sought next : Sought) (reference : List ℕ) : Type 0 where
   pub before : List (Tree level)
@@ -84,6 +84,7 @@ pub none_left : (sought : Sought) → child_sought sought [] ≡ None
 none_left (Key key) = refl
 none_left (Number n) = refl
 
+-- Two that are the same, if there, are the same.
 pub one_same : {A : Type 0} (x y : A) → ◌≡◌ {A = Option A} (Some x) (Some y) → x ≡ y
 one_same x y e = cc
 
@@ -251,7 +252,7 @@ module _ (child : Child) (others : List Child) where
 
 -- ---- marks
 
--- behind the child that stands there
+-- Behind the child that stands there.
 module _ (version : Version) (chunk : List ℕ) (mark : Mark) (is : IsMark version chunk mark)
     (child : Child) (entries rest : List ℕ) (are : entries ≡ drop mark.offset chunk)
     (first : children_in version entries ≡ child ∷ children_in version rest)
@@ -266,9 +267,9 @@ module _ (version : Version) (chunk : List ℕ) (mark : Mark) (is : IsMark versi
 
   pub mark_behind : (next : Mark) → next.number ≡ mark.number + 1 →
       next.offset ≡ length chunk - length rest → IsMark version chunk next
-  mark_behind next number place =
+  mark_behind next number offset_is =
       let there : rest ≡ drop next.offset chunk =
-      rest_there ∙ ap (λ n. drop n chunk) (sym place) in record {
+      rest_there ∙ ap (λ n. drop n chunk) (sym offset_is) in record {
         before = is.before ++ child ∷ [];
         are = is.are ∙ ap (λ cs. is.before ++ cs)
             (ap (children_in version) (sym are) ∙ first ∙
@@ -276,11 +277,11 @@ module _ (version : Version) (chunk : List ℕ) (mark : Mark) (is : IsMark versi
             sym (append_assoc is.before (child ∷ []) (children_in version (drop next.offset chunk)));
         number = omega (arith, number, is.number, length-append is.before (child ∷ []));
         node = λ whole. subst (λ bytes. IsNode version bytes []) there node;
-        few = omega (arith, number, place, is.few, is.within, shorter, size);
-        within = omega (arith, place);
+        few = omega (arith, number, offset_is, is.few, is.within, shorter, size);
+        within = omega (arith, offset_is);
       }
 
--- from a mark behind which a child is below the key
+-- From a mark behind which a child is below the key.
 pub begins_there : (version : Version) (chunk : List ℕ) (mark : Mark) →
     IsMark version chunk mark → (child : Child) (others : List Child) →
     children_in version (drop mark.offset chunk) ≡ child ∷ others → (key : List ℕ) →

@@ -8,7 +8,7 @@ use Rattle.prolly_entry.specs.declared.version.Version.{Version}
 use Rattle.prolly_laws.specs.Trees.{top_in}
 use Rattle.prolly_tree.specs.Chunk.{IsIn, chunk_of}
 use Rattle.prolly_tree.specs.Tree.{Tree, bytes_of}
-use Rattle.prolly_look_up.specs.Descent.{HasTree}
+use Rattle.prolly_look_up.specs.MapTree.{HasTree}
 use Rattle.prolly_look_up.specs.Way.{Clash}
 
 -- A chunk that has the reference of a tree's top is that, or shows a clash.

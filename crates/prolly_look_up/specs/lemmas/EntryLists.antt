@@ -36,7 +36,7 @@ abbrev pub NoneBegins : {A : Type 0} → (A → List ℕ) → (A → Type 0) →
 NoneBegins spelling Lawful bytes = (entry : _) (more : List ℕ) → Lawful entry →
     bytes ≡ spelling entry ++ more → ⊥
 
--- entries have bytes, and none begins another
+-- Entries have bytes, and none begins another.
 pub record AreApart {A : Type 0} (spelling : A → List ℕ) (Lawful : A → Type 0) : Type 0 where
   pub some : (a : A) → 0 < length (spelling a)
   pub rests : (a b : A) (x y : List ℕ) → Lawful a → Lawful b → spelling a ++ x ≡ spelling b ++ y →
@@ -44,6 +44,7 @@ pub record AreApart {A : Type 0} (spelling : A → List ℕ) (Lawful : A → Typ
 
 module _ {A : Type 0} (spelling : A → List ℕ) (Lawful : A → Type 0)
     (apart : AreApart spelling Lawful) where
+  -- Behind an entry fewer bytes are left.
   pub shorter : (bytes rest : List ℕ) (entry : A) → BeginsWith spelling Lawful bytes entry rest →
       length rest < length bytes
   shorter bytes rest entry b = grind (arith, length-append)
@@ -104,6 +105,7 @@ module _ {A : Type 0} (spelling : A → List ℕ) (Lawful : A → Type 0)
 
 -- ---- the pairs that entries spell
 
+-- Pairs' spellings have bytes, and none begins another.
 pub leaf_apart : AreApart pair_spelling IsPair
 leaf_apart = grind (arith, pair_spellings_apart)
 
@@ -121,13 +123,13 @@ module _ (entries rest : List ℕ) (p : Pair) (b : BeginsWith pair_spelling IsPa
 pub leaf_left : (entries : List ℕ) → NoPairAt entries → IsSomeLeaf entries → entries ≡ []
 leaf_left entries none l = search (rules, nothing_left, leaf_apart)
 
--- behind lawful pairs there are bytes that no pair's spelling begins
+-- Behind lawful pairs there are bytes that no pair's spelling begins.
 pub no_leaf : NoLeaf
 no_leaf done pairs rest lawful left none l =
     rest_is_none pair_spelling IsPair leaf_apart done rest lawful left none
     (record { entries = pairs; is = l.is; lawful = l.lawful })
 
--- they have more bytes than there are pairs
+-- They have more bytes than there are pairs.
 pub each_has_bytes : (pairs : List Pair) → length pairs ≤ length (flat_map pair_spelling pairs)
 each_has_bytes [] = omega arith
 each_has_bytes (p ∷ pairs) = grind (arith, length-append, each_has_bytes pairs)
@@ -139,7 +141,7 @@ pub next_pair : (entries : List ℕ) (p : Pair) (rest : List ℕ) →
 unfolding pairs_in
 next_pair entries p rest b = search (rules, reads_on, pair_shrinks, pair_reads)
 
--- the bytes before what is left are the pair's spelling
+-- The bytes before what is left are the pair's spelling.
 pub spelling_is : (entries rest : List ℕ) (p : Pair) (n : ℕ) →
     BeginsWith pair_spelling IsPair entries p rest → n ≡ length entries - length rest →
     take n entries ≡ pair_spelling p
@@ -150,23 +152,23 @@ pub no_next : (entries : List ℕ) → NoPairAt entries → IsSomeLeaf entries �
 unfolding pairs_in
 no_next entries none l = ap (entries_in first_pair behind_pair) (leaf_left entries none l)
 
--- no bytes spell no pair
+-- No bytes spell no pair.
 pub no_pairs : pairs_in [] ≡ []
 unfolding pairs_in
 no_pairs = refl
 
--- the bytes of a leaf's entries are the spellings of its pairs
+-- The bytes of a leaf's entries are the spellings of its pairs.
 pub leaf_spelled : (entries : List ℕ) → IsSomeLeaf entries →
     entries ≡ record_file (pairs_in entries)
 leaf_spelled entries l = l.is.is ∙ ap record_file (sym (leaf_pairs entries l.pairs l.is))
 
--- so entries that have the same pairs are the same
+-- So entries that have the same pairs are the same.
 pub entries_same : (entries other : List ℕ) → IsSomeLeaf entries → IsSomeLeaf other →
     pairs_in entries ≡ pairs_in other → entries ≡ other
 entries_same entries other l m e = leaf_spelled entries l ∙ ap record_file e ∙
     sym (leaf_spelled other m)
 
--- and entries have bytes exactly where they have pairs
+-- And entries have bytes exactly where they have pairs.
 pub some_spelled : (entries : List ℕ) → IsSomeLeaf entries →
     (length entries == 0) ≡ (length (pairs_in entries) == 0)
 some_spelled entries l = ap (λ bytes. length bytes == 0) (leaf_spelled entries l) ∙
@@ -211,7 +213,7 @@ node_left version entries none n = nothing_left (entry_of version) IsChild (node
     (λ c more h e. none c.key c.reference c.count more h.key h.reference e)
     (node_entries version entries n)
 
--- behind lawful child entries there are bytes that none begins
+-- Behind lawful child entries there are bytes that none begins.
 pub no_node : (version : Version) → NoNode version
 no_node version done pairs rest lawful left none n =
     rest_is_none (entry_of version) IsChild (node_apart version) done rest lawful left none
@@ -222,7 +224,7 @@ no_node version done pairs rest lawful left none n =
 child_shrinks : (version : Version) → Shrinks (behind_child version)
 child_shrinks version b bytes = grind (arith, length-drop)
 
--- a child as it is read from its entry
+-- A child as it is read from its entry.
 abbrev pub as_read : Version → Child → Child
 as_read version c = record {
   key = c.key;
@@ -304,7 +306,7 @@ last_behind [] p = refl
 last_behind (q ∷ []) p = refl
 last_behind (q ∷ r ∷ ps) p = last_behind (r ∷ ps) p
 
--- the last key of a pair with this key and those behind it
+-- The last key of a pair with this key and those behind it.
 unfoldable pub key_at_end : List ℕ → List Pair → List ℕ
 key_at_end key [] = key
 key_at_end key (p ∷ ps) = key_at_end p.key ps
@@ -323,7 +325,7 @@ pub none_behind : (key : List ℕ) (ps : List Pair) → ps ≡ [] → key ≡ ke
 unfolding key_at_end
 none_behind key ps none = ap (key_at_end key) (sym none)
 
--- some first pairs were read of all, the last one has this key, and so many they are
+-- Some first pairs were read of all, the last one has this key, and so many they are.
 pub record AreRead (all rest : List Pair) (last : List ℕ) (count : ℕ) : Type 0 where
   pub front : List Pair
   pub whole : all ≡ front ++ rest

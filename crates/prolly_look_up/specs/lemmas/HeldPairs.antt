@@ -42,16 +42,18 @@ held_lawful version (zero ∷ entries) whole = subst (AllByRecursion IsPair)
     (sym (leaf_pairs entries whole.pairs whole.holds)) whole.holds.lawful
 held_lawful version (suc level ∷ entries) whole = tt
 
+-- Those of a chunk whose keys rise are a map.
 pub held_rise : (version : Version) (chunk : List ℕ) → IsOrdered version chunk →
     IsMap (pairs_held chunk)
 held_rise version [] ordered = tt
 held_rise version (zero ∷ entries) ordered = ordered.rising
 held_rise version (suc level ∷ entries) ordered = tt
 
+-- The bytes of two lists of chunks are those of both.
 pub bytes_append : (cs ds : List Chunk) → bytes_in (cs ++ ds) ≡ bytes_in cs ++ bytes_in ds
 bytes_append cs ds = map-append (λ c. c.bytes) cs ds
 
--- what the first byte of a whole chunk tells
+-- What the first byte of a whole chunk tells.
 pub record IsOfPairs (version : Version) (chunk : List ℕ) : Type 0 where
   pub kind : kind_of version chunk ≡ Leaf (pairs_in (drop 1 chunk))
   pub held : pairs_held chunk ≡ pairs_in (drop 1 chunk)
@@ -85,6 +87,7 @@ module _ (version : Version) where
     };
   }
 
+  -- Of whole chunks each is whole.
   pub each_whole : (chunks : List (List ℕ)) (number : ℕ) → AreWhole version chunks →
       number < length chunks → IsWhole version (get_or chunks number [])
   each_whole [] number w within = absurd (omega arith)
@@ -99,7 +102,7 @@ module _ (version : Version) where
 
 -- ---- the chunks of a tree
 
--- the chunks are whole, and hold these pairs
+-- The chunks are whole, and hold these pairs.
 pub record HoldPairs (version : Version) (chunks : List (List ℕ)) (pairs : List Pair) : Type 0 where
   pub whole : AreWhole version chunks
   pub are : flat_map pairs_held chunks ≡ pairs
@@ -183,7 +186,7 @@ module _ (version : Version) where
       (both (bytes_in below) (bytes_of version (suc level) ts ∷ []) pairs []
       (all_trees level (tree_holds level) ts h) own))
 
--- the chunks of a map hold its pairs
+-- The chunks of a map hold its pairs.
 pub map_holds : (version : Version) (bits : ℕ) (pairs : List Pair) → AllByRecursion IsPair pairs →
     HoldPairs version (chunk_bytes version bits pairs) pairs
 map_holds version bits pairs lawful = grind (arith, pairs_are, tree_holds)

@@ -12,14 +12,14 @@ use Rattle.prolly_look_up.specs.HeldPairs.{pairs_held}
 use Rattle.prolly_look_up.specs.lemmas.EntryLists.{each_has_bytes, leaf_spelled}
 use Rattle.prolly_look_up.specs.lemmas.ReadEntries.{leaf_pairs}
 
--- a leaf has no more pairs than bytes
+-- A leaf has no more pairs than bytes.
 pub few_in_one : (version : Version) (chunk : List ℕ) → IsWhole version chunk →
     length (pairs_held chunk) ≤ length chunk
 few_in_one version [] w = omega arith
 few_in_one version (zero ∷ entries) w = grind (arith, each_has_bytes, leaf_pairs)
 few_in_one version (suc level ∷ entries) w = omega arith
 
--- the bytes of a chunk with pairs are those of the leaf of them
+-- The bytes of a chunk with pairs are those of the leaf of them.
 pub leaf_bytes : (version : Version) (chunk : List ℕ) → IsWhole version chunk →
     (pairs_held chunk ≡ [] → ⊥) → chunk ≡ 0 ∷ flat_map pair_spelling (pairs_held chunk)
 leaf_bytes version [] w some = absurd w.holds
@@ -27,7 +27,7 @@ leaf_bytes version (zero ∷ entries) w some =
     ap (λ bytes. 0 ∷ bytes) (leaf_spelled entries (record { pairs = w.pairs; is = w.holds }))
 leaf_bytes version (suc level ∷ entries) w some = absurd (some refl)
 
--- so it is the chunk of that leaf
+-- So it is the chunk of that leaf.
 pub leaf_event_is : (version : Version) (chunk : List ℕ) (pairs : List Pair) (key : List ℕ)
     (count : ℕ) → IsWhole version chunk → 0 < length (pairs_held chunk) →
     pairs ≡ pairs_held chunk → key ≡ last_key pairs → count ≡ length pairs →

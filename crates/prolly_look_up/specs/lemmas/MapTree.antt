@@ -19,11 +19,10 @@ use Rattle.prolly_tree.specs.lemmas.Maps.{Above, HasKey, above_key, above_last, 
 use Rattle.prolly_tree.specs.lemmas.Trees.{in_front, in_back, Full, full_pairs}
 use Rattle.prolly_laws.specs.Trees.{tree_full, pairs_are}
 use Rattle.prolly_tree.specs.Difference.{IsMap}
-use Rattle.prolly_look_up.specs.Content.{Content}
-use Rattle.prolly_look_up.specs.Descent.{HasTree, IsTreeOf, NodeFull, child_of, TopIsRead}
-use Rattle.prolly_look_up.specs.Descent.{entries_below}
+use Rattle.prolly_look_up.specs.Content.{Content, chunk_bytes}
+use Rattle.prolly_look_up.specs.MapTree.{HasTree, IsTreeOf, NodeFull, child_of, TopIsRead}
+use Rattle.prolly_look_up.specs.MapTree.{entries_below}
 use Rattle.prolly_look_up.specs.Entries.{pairs_in, children_in}
-use Rattle.prolly_look_up.specs.Content.{chunk_bytes}
 use Rattle.prolly_look_up.specs.Kinds.{kind_of}
 use Rattle.prolly_look_up.specs.Way.{entry_keys}
 use Rattle.prolly_look_up.specs.Kinds.Entries.{Leaf, Node}
@@ -57,6 +56,7 @@ unfolding split grow
 root_full version bits [] = tt
 root_full version bits (p ∷ m) = search (rules, node_full, tree_full)
 
+-- The whole tree of a map is one of its chunks.
 pub root_is : (version : Version) (bits : ℕ) (m : List Pair) → AllByRecursion IsPair m →
     IsMap m →
     IsTreeOf version (chunk_bytes version bits m) (tree_of (sha512_cut bits) version m).level
@@ -69,7 +69,7 @@ in_child : (version : Version) (level : ℕ) (before after : List (Tree level)) 
     (flat_map (post_order version level) (before ++ t ∷ after))
 in_child version level before after t c h = search (rules, flat_map-append, in_back, in_front)
 
--- what has a node has its children
+-- What has a node has its children.
 has_child : (version : Version) (chunks : List (List ℕ)) (level : ℕ)
     (before after : List (Tree level)) (t : Tree level) →
     HasTree version chunks (suc level) (before ++ t ∷ after) → HasTree version chunks level t
@@ -102,9 +102,11 @@ module _ (version : Version) (chunks : List (List ℕ)) (level : ℕ) (before af
 
 -- ---- the trees of a file
 
+-- The tree of a content's map.
 abbrev pub root_of : Content → LeveledTree
 root_of content = tree_of (sha512_cut content.bits) content.version content.pairs
 
+-- It has the content's pairs.
 pub root_pairs : (content : Content) → pairs_below (root_of content).level (root_of content).tree ≡
     content.pairs
 root_pairs content = pairs_are (sha512_cut content.bits) content.version content.pairs
@@ -125,11 +127,13 @@ own_pairs leaf h = leaf_pairs (flat_map pair_spelling leaf) leaf (record { is = 
 
 -- ---- chunks
 
+-- The first byte of a tree's top is its level.
 pub height_is : (version : Version) (level : ℕ) (t : Tree level) →
     slice_index (bytes_of version level t) 0 ≡ level
 height_is version zero t = refl
 height_is version (suc level) t = refl
 
+-- The chunk of a number is one of the chunks.
 pub is_there : (cs : List (List ℕ)) (n : ℕ) → n < length cs → IsIn (get_or cs n []) cs
 is_there [] n h = absurd (omega arith)
 is_there (c ∷ cs) zero h = inl refl
@@ -180,6 +184,7 @@ module _ (version : Version) (chunks : List (List ℕ)) where
   entries_rise zero leaf b = b.rising
   entries_rise (suc level) ts b = tops_rise version level ts b.full b.rising
 
+-- The top of such a tree can be read, and its entries are read of it.
 pub top_is_read : (version : Version) → TopIsRead version
 top_is_read version chunks level t b = (
   record {

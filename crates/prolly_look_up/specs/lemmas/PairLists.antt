@@ -11,7 +11,7 @@ use Rattle.prolly_entry.specs.Pair.{Pair}
 use Rattle.prolly_entry.specs.lemmas.Orders.{below_greater, greater_below, order_same}
 use Rattle.prolly_tree.specs.LookUp.{find}
 use Rattle.prolly_tree.specs.lemmas.Maps.{Above, Rises, above_more}
-use Rattle.prolly_look_up.specs.Leaves.{IsLeft, pairs_from}
+use Rattle.prolly_look_up.specs.PairsFrom.{IsLeft, pairs_from}
 
 -- Behind keys that are below it a key is found as if they were not there.
 pub find_over : (xs ys : List Pair) (key : List ℕ) → AllByRecursion (λ p. KeyBelow p.key key) xs →

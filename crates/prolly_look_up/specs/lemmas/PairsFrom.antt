@@ -26,7 +26,7 @@ use Rattle.prolly_tree.specs.lemmas.Maps.{above_last, find_above}
 use Rattle.prolly_tree.specs.Difference.{IsMap}
 use Rattle.prolly_look_up.specs.Entries.{IsLeaf, IsWhole}
 use Rattle.prolly_look_up.specs.HeldPairs.{pairs_held}
-use Rattle.prolly_look_up.specs.Leaves.{IsLeft, pairs_from}
+use Rattle.prolly_look_up.specs.PairsFrom.{IsLeft, pairs_from}
 use Rattle.prolly_look_up.specs.ScanWay.{next_key, AreFirstFrom}
 use Rattle.prolly_look_up.specs.lemmas.HeldPairs.{held_lawful}
 pub use Rattle.prolly_look_up.specs.lemmas.PairLists.{above_not, find_first, find_over, from_all}
@@ -47,13 +47,14 @@ from_rises : (p : Pair) (ps : List Pair) → Above p.key ps → Rises ps →
 from_rises p [] h k = tt
 from_rises p (q ∷ ps) h k = (h.0, from_rises q ps k.0 k.1)
 
+-- Pairs that rise are a map.
 pub rising_is : (ps : List Pair) → Rises ps → IsMap ps
 rising_is [] h = tt
 rising_is (p ∷ ps) h = from_rises p ps h.0 h.1
 
 -- ---- scanning pairs from a key on, in a leaf and over chunks
 
--- pairs of which the last is not below it have one
+-- Pairs of which the last is not below it have one.
 pub some_from : (from : List ℕ) (ps : List Pair) → 0 < length ps →
     is_lt (key_order (last_key ps) from) ≡ false → pairs_from from ps ≡ [] → ⊥
 some_from from [] some h e = absurd (omega arith)
@@ -63,7 +64,7 @@ some_from from (p ∷ q ∷ ps) some h e =
     cond_both (not (is_lt (key_order p.key from))) (p ∷ rest) rest (λ found. found ≡ [] → ⊥)
     (λ here f. cons≢nil f) (λ past f. some_from from (q ∷ ps) (omega arith) h f) e
 
--- where a pair is less than the key, those before it do not count
+-- Where a pair is less than the key, those before it do not count.
 pub from_behind : (key : List ℕ) (before : List Pair) (p : Pair) (rest : List Pair) →
     Rises (before ++ p ∷ rest) → KeyBelow p.key key →
     pairs_from key (before ++ p ∷ rest) ≡ pairs_from key (p ∷ rest)
@@ -73,7 +74,7 @@ from_behind key (q ∷ before) p rest r less =
     (all_back (λ x. KeyBelow q.key x.key) before (p ∷ rest) r.0).0 less in
     search (rules, from_behind key before p rest r.1 less)
 
--- the bytes of the last pairs are those of a leaf
+-- The bytes of the last pairs are those of a leaf.
 pub left_leaf : (version : Version) (chunk : List ℕ) → IsWhole version chunk → (left : ℕ)
     (l : IsLeft (pairs_held chunk) left) (entries : List ℕ) →
     entries ≡ record_file (pairs_held chunk) → IsLeaf (drop (length entries - left) entries) l.rest
@@ -92,25 +93,25 @@ left_leaf version chunk whole left l entries are =
 
 -- ---- in a map
 
--- what holds of all pairs holds of those from a key on
+-- What holds of all pairs holds of those from a key on.
 pub all_from : (P : Pair → Type 0) (key : List ℕ) (ps : List Pair) → AllByRecursion P ps →
     AllByRecursion P (pairs_from key ps)
 all_from P key [] h = tt
 all_from P key (p ∷ ps) h = grind (arith, all_from P key ps h.1)
 
--- they rise, too
+-- They rise, too.
 pub rises_from : (key : List ℕ) (ps : List Pair) → Rises ps → Rises (pairs_from key ps)
 rises_from key [] h = tt
 rises_from key (p ∷ ps) h = grind (arith, all_from, rises_from key ps h.1)
 
 -- ---- copies of the first pairs
 
--- of all pairs these were copied, and the rest is left
+-- Of all pairs these were copied, and the rest is left.
 pub record IsCopiedTo (limit : ℕ) (all pairs rest : List Pair) : Type 0 where
   pub within : length pairs ≤ limit
   pub same : take limit all ≡ take limit (pairs ++ rest)
 
--- a part of the rest was copied
+-- A part of the rest was copied.
 pub copied_on : (limit : ℕ) (all pairs rest : List Pair) → IsCopiedTo limit all pairs rest →
     (part more : List Pair) → rest ≡ part ++ more → (new : List Pair) →
     new ≡ take limit (pairs ++ part) → IsCopiedTo limit all new more
@@ -118,12 +119,12 @@ copied_on limit all pairs rest s part more e new is = grind (arith, common_steps
 
 -- ---- the least key above another
 
--- it is above that one
+-- It is above that one.
 pub below_next : (key : List ℕ) → KeyBelow key (next_key key)
 below_next [] = refl
 below_next (b ∷ key) = search (rules, below_next key)
 
--- and not above any other key above it
+-- And not above any other key above it.
 pub least_above : (key other : List ℕ) → KeyBelow key other →
     is_lt (key_order other (next_key key)) ≡ false
 least_above [] [] h = cc
@@ -148,12 +149,12 @@ least_above (a ∷ key) (b ∷ other) h = go (least_above key other) (nat_cmp a 
 
 -- ---- pairs of a map that were found
 
--- the first key is not below this one, and those behind it are above it
+-- The first key is not below this one, and those behind it are above it.
 abbrev NotBelow : List ℕ → List Pair → Type 0
 NotBelow key [] = Unit {0}
 NotBelow key (p ∷ ps) = (is_lt (key_order p.key key) ≡ false) × Above key ps
 
--- before them stand those below the key, and others behind them, but none where they are none
+-- Before them stand those below the key, and others behind them, but none where they are none.
 pub record IsFoundIn (key : List ℕ) (all found : List Pair) : Type 0 where
   pub before : List Pair
   pub after : List Pair
@@ -170,7 +171,7 @@ from_next : (key : List ℕ) (ps : List Pair) → Above key ps → pairs_from (n
 from_next key [] h = refl
 from_next key (p ∷ ps) h = grind (arith, least_above, from_next key ps h.1)
 
--- of pairs whose keys rise, those from the key on stand behind the others
+-- Of pairs whose keys rise, those from the key on stand behind the others.
 in_leaf : (key : List ℕ) (ps : List Pair) → Rises ps → IsFoundIn key ps (pairs_from key ps)
 in_leaf key [] r = grind arith
 in_leaf key (p ∷ ps) r = go (in_leaf key ps r.1) (is_lt (key_order p.key key)) refl
@@ -207,7 +208,7 @@ last_key_append (x ∷ y ∷ xs) p ps = last_key_append (y ∷ xs) p ps
 above_back : (key : List ℕ) (ps after : List Pair) → Above key (ps ++ after) → Above key after
 above_back key ps after h = all_back (λ q. KeyBelow key q.key) ps after h
 
--- so they are the first ones from the key on
+-- So they are the first ones from the key on.
 first_from : (key : List ℕ) (m found : List Pair) → Rises m → IsFoundIn key m found →
     AreFirstFrom key m found
 first_from key m [] r f = search (rules, none_from)
@@ -237,7 +238,7 @@ first_from key m (p ∷ ps) r f =
 
 -- ---- a part of a map
 
--- pairs behind one that is not below the key are above it
+-- Pairs behind one that is not below the key are above it.
 pub above_some : (key : List ℕ) (ps after : List Pair) → Rises (ps ++ after) →
     (pairs_from key ps ≡ [] → ⊥) → Above key after
 above_some key [] after r some = absurd (some refl)

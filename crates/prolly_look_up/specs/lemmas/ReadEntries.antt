@@ -11,14 +11,14 @@ use Rattle.prolly_entry.specs.lemmas.Spellings.{numbers, key_size}
 use Rattle.prolly_look_up.specs.Entries.{IsLeaf, behind_pair, entries_in, entries_up_to, first_pair}
 use Rattle.prolly_look_up.specs.Entries.{pairs_in}
 
--- what stands behind the first of two lists
+-- What stands behind the first of two lists.
 pub drop_front : (xs ys : List ℕ) (n : ℕ) → n ≡ length xs → drop n (xs ++ ys) ≡ ys
 drop_front [] ys n e = ap (λ m. drop m ys) e
 drop_front (x ∷ xs) ys n e = ap (λ m. drop m (x ∷ xs ++ ys)) e ∙ drop_front xs ys (length xs) refl
 
 -- ---- what functions read of them
 
--- behind the first entry less is left
+-- Behind the first entry less is left.
 abbrev pub Shrinks : (List ℕ → List ℕ) → Type 0
 Shrinks behind = (b : ℕ) (bytes : List ℕ) → length (behind (b ∷ bytes)) ≤ length bytes
 
@@ -42,7 +42,7 @@ module _ {B : Type 0} (first : List ℕ → B) (behind : List ℕ → List ℕ) 
     first_in [] h = absurd (omega arith)
     first_in (b ∷ bytes) h = grind (arith, enough)
 
--- the functions read an entry from its spelling, and leave what is behind it
+-- The functions read an entry from its spelling, and leave what is behind it.
 pub record Reads {B : Type 0} (first : List ℕ → B) (behind : List ℕ → List ℕ) (spelled : List ℕ)
     (entry : B) : Type 0 where
   pub some : 0 < length spelled
@@ -100,6 +100,7 @@ pair_reads p h = record {
               ap (drop (length p.value)) left ∙ drop_front p.value more (length p.value) refl),
         )
 
+-- The pairs that are read of a leaf's entries are those that they spell.
 pub leaf_pairs : (entries : List ℕ) (pairs : List Pair) → IsLeaf entries pairs →
     pairs_in entries ≡ pairs
 unfolding pairs_in

@@ -11,7 +11,7 @@ is_less Less h = refl
 is_less Equal h = absurd (false≢true h)
 is_less Greater h = absurd (false≢true h)
 
--- the keys rise, the first one behind this position
+-- The keys rise, the first one behind this position.
 abbrev pub RisesOn : Position → List (List ℕ) → Type 0
 RisesOn None keys = Rising keys
 RisesOn (Some last) keys = RisingFrom last keys

@@ -20,11 +20,11 @@ use Rattle.prolly_tree.specs.Tree.{Tree, pairs_below, bytes_of, tree_of}
 use Rattle.prolly_tree.specs.lemmas.Maps.{Rises, rises}
 use Rattle.prolly_tree.specs.lemmas.Trees.{in_back, in_front}
 use Rattle.prolly_laws.specs.Trees.{pairs_are}
-use Rattle.prolly_look_up.specs.Descent.{IsTreeOf}
+use Rattle.prolly_look_up.specs.MapTree.{IsTreeOf}
 use Rattle.prolly_look_up.specs.HeldPairs.{pairs_held}
 use Rattle.prolly_look_up.specs.Content.{chunk_bytes}
 use Rattle.prolly_look_up.specs.Kinds.{kind_of}
-use Rattle.prolly_look_up.specs.Leaves.{pairs_from}
+use Rattle.prolly_look_up.specs.PairsFrom.{pairs_from}
 use Rattle.prolly_look_up.specs.ScanWay.{AreFirstFrom, ScansAreRight, HaveFirstFrom, ScansGoOn}
 use Rattle.prolly_look_up.specs.ScanWay.{from_behind, joined}
 use Rattle.prolly_look_up.specs.Sought.{Sought, EndsAt, LeadsOn, child_sought, reference_and_sought}
@@ -40,7 +40,7 @@ use Rattle.prolly_look_up.specs.lemmas.PairsFrom.{nth_front, none_from}
 
 -- ---- what a look-up seeks in a map, and below a tree to which it has come
 
--- what is sought in the map is sought in these of its pairs
+-- What is sought in the map is sought in these of its pairs.
 pub record StandsIn (sought : Sought) (m : List Pair) (there : Sought) (pairs : List Pair) : Type 0
   where
     pub before : List Pair
@@ -49,7 +49,7 @@ pub record StandsIn (sought : Sought) (m : List Pair) (there : Sought) (pairs : 
     pub past : IsPast sought before there
     pub here : (after ≡ []) ⊎ Has there pairs
 
--- so that these tell of it what the map does
+-- So that these tell of it what the map does.
 abbrev pub Tells : Sought → List Pair → Sought → List Pair → Type 0
 Tells (Key key) m there pairs = (find pairs key ≡ find m key) ×
     AreFirstFrom key m (pairs_from key pairs)
@@ -57,6 +57,7 @@ Tells (Number n) m there pairs = nth_sought there pairs ≡ nth m n
 
 -- ---- at the top
 
+-- What is sought in a map is sought in all of its pairs.
 pub stands_in_all : (sought : Sought) (m pairs : List Pair) → pairs ≡ m →
     StandsIn sought m sought pairs
 stands_in_all sought m pairs same = record {
@@ -102,7 +103,7 @@ module _ (sought : Sought) (m : List Pair) (version : Version) (level : ℕ)
 
 -- ---- at the end
 
--- in the pairs of a leaf
+-- In the pairs of a leaf.
 pub tells_leaf : (sought there : Sought) (m pairs : List Pair) → Rises m →
     StandsIn sought m there pairs → Tells sought m there pairs
 tells_leaf (Key key) (Number n) m pairs rising s = absurd s.past
@@ -110,7 +111,7 @@ tells_leaf (Number n) (Key key) m pairs rising s = absurd s.past
 tells_leaf (Key key) (Key other) m pairs rising s = search (rules, find_in_part, first_in_part)
 tells_leaf (Number n) (Number k) m pairs rising s = search (rules, nth_back, nth_front)
 
--- at a node, behind all of whose pairs it is
+-- At a node, behind all of whose pairs it is.
 pub tells_none : (sought there : Sought) (m pairs : List Pair) → StandsIn sought m there pairs →
     AllPast there pairs → Tells sought m there []
 tells_none sought there m pairs s all =
@@ -137,6 +138,7 @@ module _ (version : Version) (cs : List (List ℕ)) where
       pub named : reference ≡ reference_of (bytes_of version level t)
       pub at : IsAt next level t
 
+    -- A look-up that goes on from the top of a tree goes to one below it.
     pub goes_to : (there next : Sought) (reference : List ℕ) (level : ℕ) (t : Tree level) →
         IsAt there level t → LeadsOn there (kind_of version (bytes_of version level t)) reference
         next → GoesTo next reference level
@@ -204,6 +206,7 @@ module _ (version : Version) (cs : List (List ℕ)) where
 
 -- ---- from the root of a map
 
+-- The last chunk of a way tells what the map does, or there is a clash.
 pub way_right : (version : Version) (bits : ℕ) (m : List Pair) (sought : Sought)
     (chunks : List (List ℕ)) → IsMap m → AllByRecursion IsPair m → CanCount version sought m →
     (w : IsWayTo version (root_reference (sha512_cut bits) version m) sought chunks) →
@@ -253,7 +256,7 @@ module _ (cs : List (List ℕ)) where
       Clash (joined (way ∷ ways)) cs
   clash_back way ways c = grind (arith, in_back)
 
--- pairs that were found before the others
+-- Pairs that were found before the others.
 one_more : (from : List ℕ) (m found : List Pair) (lists : List (List Pair)) →
     AreFirstFrom from m found → HaveFirstFrom (from_behind from found) m lists →
     HaveFirstFrom from m (found ∷ lists)

@@ -4,44 +4,17 @@ ghost use Rattle.prolly_look_up.specs.Content.{Content};
 ghost use Rattle.prolly_root.specs.NamedRoot.{NamesRootOf, TellsEnd, TellsFailedRead, TellsRoot};
 ghost use Rattle.prolly_root.specs.Walk.{HoldsFile, StaysSame};
 
+use crate::file::named_root_fault::NamedRootFault;
 use prolly_entry::Ref;
-use prolly_file::{Device, END_SIZE, HEADER_SIZE, HeaderFault, read_end, read_header};
+use prolly_file::{Device, END_SIZE, HEADER_SIZE, read_end, read_header};
 
 /// The least size of a file that has room for a header and an end record.
 const LEAST_SIZE: u64 = (HEADER_SIZE + END_SIZE) as u64;
-
-/// Why a chunk file names no root. A check of the file tells each of these faults, too.
-#[derive(Clone, Copy, Debug, PartialEq, Eq)]
-pub enum NamedRootFault {
-    /// A read failed.
-    Read,
-    /// One of the first six bytes may not stand there.
-    BadHeader,
-    /// The file has no room for a header and an end record.
-    Truncated,
-    /// No end record begins as far before the end as one does.
-    BadEnd,
-}
-
-impl From<HeaderFault> for NamedRootFault {
-    ghost use Rattle.prolly_root.specs.NamedRoot.{fault_of_header};
-
-    ghost from_gives = { λ header fault. fault ≡ fault_of_header header };
-
-    fn from(header: HeaderFault) -> Self {
-        match header {
-            HeaderFault::Truncated => NamedRootFault::Truncated,
-            HeaderFault::BadByte => NamedRootFault::BadHeader,
-        }
-    }
-}
 
 /// The root that the end record of a chunk file names. Nobody has checked that the file has this
 /// root, nor that it is a chunk file: no more than its header and its end record is looked at.
 ///
 /// Takes three calls of the device, and no memory, whatever the size of the file.
-///
-/// A header that is cut off is told as `Truncated`, too.
 pub fn named_root<D: Device>(device: &mut D) -> Result<Ref, NamedRootFault>
     ensures same { StaysSame (D.seen device.old) (D.seen device.new) }
     ensures read { TellsFailedRead (D.seen device.old).failures (D.seen device.new).failures result }

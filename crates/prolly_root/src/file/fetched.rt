@@ -26,7 +26,7 @@ pub(crate) struct Fetched {
     pub(crate) chunk: GivenChunk,
 }
 
-/// Reads the leaves from this place on, as many as find room in so many bytes, up to the first that
+/// Reads the leaves from this boundary on, as many as find room in so many bytes, up to the first that
 /// does not or that can't be had. None is tested. The next one stands last.
 pub(crate) fn fetch_leaves<D: Device>(
     alloc: Global,
@@ -74,7 +74,7 @@ fn fetch_in_order<D: Device>(
     Ok(leaves)
 }
 
-/// Reads the next leaf from this place on, and goes on behind it; none where it has more bytes than
+/// Reads the next leaf from this boundary on, and goes on behind it; none where it has more bytes than
 /// there is room for.
 fn fetch_leaf<D: Device>(
     alloc: Global,

@@ -1,8 +1,7 @@
 //! The chunks of a file, of which no more is read than is asked for.
 ghost use Rattle.std.specs.Prelude.{◌≡◌, ℕ, drop, take, true, IfOk, IfSome, List, None};
 ghost use Rattle.std.specs.List.{AllByRecursion};
-ghost use Rattle.prolly_look_up.specs.Content.{Content};
-ghost use Rattle.prolly_look_up.specs.Content.{nth_chunk};
+ghost use Rattle.prolly_look_up.specs.Content.{Content, nth_chunk};
 ghost use Rattle.prolly_root.specs.ReadAhead.{IsPartOf};
 ghost use Rattle.prolly_root.specs.RootFault.{IsOrFails, MayFail};
 ghost use Rattle.prolly_root.specs.Walk.{HasRead, HoldsFile, IsFrame};
@@ -16,8 +15,8 @@ use crate::given_chunk::GivenChunk;
 use crate::read_ahead::ReadAhead;
 use crate::root_fault::RootFault;
 use prolly_entry::Version;
-use prolly_file::Device;
-use prolly_look_up::{CHUNK_LIMIT, LEAF, ManyThreads};
+use prolly_file::{CHUNK_LIMIT, Device};
+use prolly_look_up::{LEAF, ManyThreads};
 use std::alloc::Global;
 use std::thread::Threads;
 
@@ -30,8 +29,8 @@ const MOST_BYTES: usize = 16_777_216;
 
 /// Gives the chunks of a chunk file. Nothing of the file is believed, nor is it checked.
 ///
-/// The root is the last chunk, so to find it takes ten bytes of each frame. On the way some places
-/// are remembered. To find a child takes ten bytes of each frame from the nearest of these places
+/// The root is the last chunk, so to find it takes ten bytes of each frame. On the way some marks
+/// are remembered. To find a child takes ten bytes of each frame from the nearest of these marks
 /// on, or from the child of the same node that was found last. Only to read a chunk takes memory,
 /// as much as the chunk has bytes; a chunk longer than [`CHUNK_LIMIT`] is told as want of memory.
 ///
@@ -41,9 +40,9 @@ const MOST_BYTES: usize = 16_777_216;
 #[derive(Drop)]
 pub struct FileChunks<D> {
     device: D,
-    /// The places that were remembered on the way to the root.
+    /// The marks that were remembered on the way to the root.
     marks: Option<Marks>,
-    /// The place behind the leaf that was given last.
+    /// The boundary behind the leaf that was given last.
     behind: Option<Walk>,
     /// The leaves that were read ahead. The next one stands last.
     ahead: Option<Vec<Fetched>>,

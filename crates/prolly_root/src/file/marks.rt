@@ -6,7 +6,7 @@ ghost use Rattle.prolly_root.specs.Walk.{IsBehind, IsFrame, IsWalk};
 
 use crate::file::walk::{Frame, Walk};
 
-/// Into how many parts of one size the file is divided. In each, one place is remembered.
+/// Into how many parts of one size the file is divided. In each, one boundary is remembered.
 const PARTS: usize = 32;
 
 /// How many levels are counted, from the leaves up. Nothing of a higher level is remembered.
@@ -27,14 +27,14 @@ struct Run {
     count: u64,
 }
 
-/// A place behind a chunk.
+/// A boundary behind a chunk.
 #[derive(Clone, Copy)]
 struct Mark {
     /// The level of the chunk.
     level: u8,
     /// The number of the chunk at which the frames below its parent begin.
     from: u64,
-    /// How many children of the parent stand before the place.
+    /// How many children of the parent stand before it.
     reached: Reached,
 }
 
@@ -52,24 +52,24 @@ impl Mark {
     }
 }
 
-/// The places that are remembered.
+/// The boundaries that are remembered.
 ///
 /// They have a fixed size, so that to find the root takes no memory. In each part of the file it is
-/// the last place behind a chunk of the highest level there. So a look-up that sets out from the
+/// the last boundary behind a chunk of the highest level there. So a look-up that sets out from the
 /// nearest of them goes over some thirty-second part of the frames.
 #[derive(Drop)]
 pub(crate) struct Marks {
     /// What has no parent yet, by level.
     runs: [Run; LEVELS],
-    /// The places, in the order of the file.
-    places: [Mark; PARTS],
+    /// They stand in the order of the file.
+    marks: [Mark; PARTS],
 }
 
 impl Marks {
     /// Nothing is remembered but where the frames begin.
     pub(crate) fn begin(walk: Walk) -> Marks
         ensures runs { (content : Content) → AreRuns content walk.number result.runs }
-        ensures places { (content : Content) → IsWalk content walk → AreMarks content result }
+        ensures marks { (content : Content) → IsWalk content walk → AreMarks content result }
     {
         let run = Run {
             from: walk.number,
@@ -82,16 +82,16 @@ impl Marks {
         };
         Marks {
             runs: [run; LEVELS],
-            places: [mark; PARTS],
+            marks: [mark; PARTS],
         }
     }
 
-    /// Goes over this frame, to the place behind it.
+    /// Goes over this frame, to the boundary behind it.
     pub(crate) fn go_over(&mut self, frame: Frame, behind: Walk)
         ensures runs { (content : Content) → IsFrame content frame →
             behind.number ≡ frame.number + 1 → AreRuns content frame.number self.old.runs →
             AreRuns content behind.number self.new.runs }
-        ensures places { (content : Content) → IsFrame content frame →
+        ensures marks { (content : Content) → IsFrame content frame →
             behind.number ≡ frame.number + 1 → AreRuns content frame.number self.old.runs →
             IsWalk content behind → AreMarks content self.old → AreMarks content self.new }
     {
@@ -107,7 +107,7 @@ impl Marks {
         }
     }
 
-    /// The nearest place before the child of this number. The children are of this level, and the
+    /// The nearest boundary before the child of this number. The children are of this level, and the
     /// frames of the first one begin at `first`.
     pub(crate) fn nearest(&self, level: u8, first: Walk, number: u64) -> Reached
         ensures near { result.count ≤ number }
@@ -119,7 +119,7 @@ impl Marks {
             count: 0,
             walk: first,
         };
-        for mark in &self.places {
+        for mark in &self.marks {
             if mark.is_between(level, first.number, nearest.count, number) {
                 nearest = mark.reached;
             }
@@ -130,7 +130,7 @@ impl Marks {
     /// Counts this chunk, where the chunk `next` is the one behind it. Gives the run that it ends;
     /// none where its level is not counted.
     fn count(&mut self, frame: Frame, next: u64) -> Option<Run>
-        ensures places { self.new.places ≡ self.old.places }
+        ensures marks { self.new.marks ≡ self.old.marks }
         ensures runs { (content : Content) → IsFrame content frame → next ≡ frame.number + 1 →
             AreRuns content frame.number self.old.runs → AreRuns content next self.new.runs }
         ensures behind { (content : Content) → IsFrame content frame → next ≡ frame.number + 1 →
@@ -153,15 +153,15 @@ impl Marks {
         Some(run)
     }
 
-    /// Remembers the place in its part of the file, unless one behind a higher chunk is there.
+    /// Remembers the boundary in its part of the file, unless one behind a higher chunk is there.
     fn keep(&mut self, mark: Mark)
         ensures runs { self.new.runs ≡ self.old.runs }
-        ensures places { (content : Content) → IsPlaceMark content mark →
+        ensures marks { (content : Content) → IsPlaceMark content mark →
             AreMarks content self.old → AreMarks content self.new }
     {
         let part = mark.reached.walk.part(PARTS);
-        if self.places[part].level <= mark.level {
-            self.places[part] = mark;
+        if self.marks[part].level <= mark.level {
+            self.marks[part] = mark;
         }
     }
 }

@@ -25,7 +25,7 @@ pub(crate) struct Frame {
     pub(crate) level: u8,
 }
 
-/// A place between two frames of a file: where the next one begins.
+/// A boundary between two frames of a file: the offset at which the next one begins.
 #[derive(Clone, Copy)]
 pub(crate) struct Walk {
     offset: u64,
@@ -36,14 +36,13 @@ pub(crate) struct Walk {
 }
 
 impl Walk {
-    ghost use Rattle.prolly_look_up.specs.Content.{chunks_of};
-    ghost use Rattle.prolly_look_up.specs.Content.{Content};
+    ghost use Rattle.prolly_look_up.specs.Content.{chunks_of, Content};
     ghost use Rattle.prolly_root.specs.Marks.{AreMarks};
     ghost use Rattle.prolly_root.specs.RootFault.{IsOrFails, OnlyRead};
     ghost use Rattle.prolly_root.specs.Walk.{GoesOver, GoesToLevel, HasRead, HoldsFile, IsFrame};
     ghost use Rattle.prolly_root.specs.Walk.{IsStartOf, IsWalk};
 
-    /// The place before the first frame of a chunk file of this version.
+    /// The boundary before the first frame of a chunk file of this version.
     pub(crate) fn begin<D: Device>(device: &mut D, version: Version) -> Result<Walk, RootFault>
         ensures read { HasRead (D.seen device.old) (D.seen device.new) result }
         ensures begins { (content : Content) → HoldsFile (D.seen device.old) content →
@@ -60,7 +59,7 @@ impl Walk {
         })
     }
 
-    /// The place behind a frame of the same file. Nothing is read.
+    /// The boundary behind a frame of the same file. Nothing is read.
     pub(crate) fn behind(&self, frame: &Frame) -> Walk {
         Walk {
             offset: frame.start.saturating_add(frame.len),
@@ -103,7 +102,7 @@ impl Walk {
         }
     }
 
-    /// The last frame of the file, where this place is before the first one, and the places that
+    /// The last frame of the file, where this is the boundary before the first one, and the marks that
     /// are remembered on the way to it.
     pub(crate) fn last<D: Device>(mut self, device: &mut D) -> Result<(Frame, Marks), RootFault>
         ensures read { HasRead (D.seen device.old) (D.seen device.new) result }

@@ -3,13 +3,12 @@ ghost use Rattle.std.specs.Prelude.{◌≡◌, ◌<◌, ◌↔◌, length, Ok, I
 ghost use Rattle.prolly_look_up.specs.Content.{Content};
 ghost use Rattle.prolly_look_up.specs.HeldPairs.{pairs_held};
 ghost use Rattle.prolly_look_up.specs.Kinds.{kind_of};
-ghost use Rattle.prolly_look_up.specs.Leaves.{IsLeft, pairs_from};
+ghost use Rattle.prolly_look_up.specs.PairsFrom.{IsLeft, pairs_from};
 ghost use Rattle.prolly_look_up.specs.Sought.{EndsAt, IsChildOf, IsMark, sought_of};
 ghost use Rattle.prolly_look_up.specs.Way.{FallsTo};
 ghost use Rattle.prolly_root.specs.ChunkSource.{HasAsked};
 ghost use Rattle.prolly_root.specs.Descent.{IsAtDue, IsTested, IsOnward, StandsBelow};
-ghost use Rattle.prolly_root.specs.Descent.{StandsInPlace};
-ghost use Rattle.prolly_root.specs.Descent.{StepsDown};
+ghost use Rattle.prolly_root.specs.Descent.{StandsInPlace, StepsDown};
 ghost use Rattle.prolly_root.specs.RootFault.{IsOrFails, MayFail};
 
 use crate::chunk_source::ChunkSource;

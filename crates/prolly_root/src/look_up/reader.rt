@@ -4,7 +4,7 @@ ghost use Rattle.std.specs.Prelude.{Err, IfErr, Ok, OnErr, OnOk};
 ghost use Rattle.std.specs.List.{AllByRecursion};
 ghost use Rattle.prolly_look_up.specs.Content.{Content};
 ghost use Rattle.prolly_look_up.specs.HeldPairs.{pairs_held};
-ghost use Rattle.prolly_look_up.specs.Leaves.{pairs_from};
+ghost use Rattle.prolly_look_up.specs.PairsFrom.{pairs_from};
 ghost use Rattle.prolly_look_up.specs.Sought.{sought_of};
 ghost use Rattle.prolly_look_up.specs.Sought.Sought.{Key};
 ghost use Rattle.prolly_look_up.specs.Way.{IsCountWay, IsWay, IsWayTo};

@@ -1,8 +1,8 @@
 //! What `prolly_tool` answers to who names the root.
 use prolly_check::OneThread;
-use prolly_look_up::ManyThreads;
 use prolly_entry::{Pair, Ref, Version};
 use prolly_file::{Device, Sink, Source};
+use prolly_look_up::ManyThreads;
 use prolly_range::KeySet;
 use prolly_root::{ChunkSource, ReadAhead, RootFault};
 use prolly_tool::{

@@ -54,10 +54,6 @@ wider us vs xs ys f g c = record {
   same = c.same;
 }
 
--- ---- sizes of spelled things
-
--- ---- leaves
-
 -- ---- trees of one level
 
 module _ (version : Version) where

@@ -1,6 +1,5 @@
 -- Lists of pairs whose keys rise.
-use Rattle.std.proofs.Common.{◌≡◌, ℕ, ◌<◌, ◌≤◌, ◌⊎◌, inl, inr, List, [], ◌∷◌, ◌++◌, length, map}
-use Rattle.std.proofs.Common.{refl}
+use Rattle.std.proofs.Common.{◌≡◌, ℕ, ◌<◌, ◌≤◌, ◌⊎◌, inl, inr, List, [], ◌∷◌, ◌++◌, length, map, refl}
 use Rattle.std.proofs.Common.{None, sym, ap, ◌∙◌, subst, arith}
 use Rattle.std.specs.List.{flat_map, AllByRecursion}
 use Rattle.prolly_entry.specs.Keys.{KeyBelow, Rising, RisingFrom}
@@ -9,6 +8,7 @@ use Rattle.prolly_entry.specs.Spelling.{pair_spelling}
 use Rattle.prolly_entry.specs.lemmas.Lists.{all_front}
 use Rattle.prolly_entry.specs.lemmas.Orders.{order_trans, not_eq_above}
 use Rattle.prolly_entry.specs.lemmas.Spellings.{pair_spellings_apart}
+pub use Rattle.prolly_tree.specs.Difference.{Above}
 use Rattle.prolly_tree.specs.LookUp.{find}
 use Rattle.prolly_tree.specs.Tree.{last_key}
 
@@ -16,10 +16,6 @@ use Rattle.prolly_tree.specs.Tree.{last_key}
 abbrev pub HasKey : List ℕ → List Pair → Type 0
 HasKey key [] = ⊥
 HasKey key (p ∷ ps) = (key ≡ p.key) ⊎ HasKey key ps
-
--- Each key of the list is above this key.
-abbrev pub Above : List ℕ → List Pair → Type 0
-Above key ps = AllByRecursion (λ q. KeyBelow key q.key) ps
 
 -- Each key of the list is above all keys before it.
 abbrev pub Rises : List Pair → Type 0

@@ -1,4 +1,4 @@
--- The walk: what was passed over, and the change behind it.
+-- A walk over two maps: what was passed over, and the change behind it.
 use Rattle.std.proofs.Common.{◌≡◌, ◌≢◌, ℕ, Bool, true, false, cond, List, [], ◌∷◌, ◌++◌, Option}
 use Rattle.std.proofs.Common.{Some, None, refl, sym, ap, ◌∙◌, subst, append_assoc, not, nat_eq}
 use Rattle.std.proofs.Common.{arith, length}
@@ -16,8 +16,7 @@ use Rattle.prolly_tree.specs.LookUp.{find}
 use Rattle.prolly_tree.specs.lemmas.Differences.{differ_nowhere, shared_first, removed_first}
 use Rattle.prolly_tree.specs.lemmas.Differences.{added_first, changed_first}
 use Rattle.prolly_tree.specs.lemmas.Maps.{Above, find_above, map_behind, rises}
-use Rattle.prolly_tree.specs.Walks.{Maps, AreMaps, AreAlike, IsWalkEnd, IsFirstChange}
-use Rattle.prolly_tree.specs.Walks.{TakesLeast}
+use Rattle.prolly_tree.specs.Walks.{Maps, AreMaps, AreAlike, IsWalkEnd, IsFirstChange, TakesLeast}
 
 -- Maps begin like themselves.
 pub alike_none : (maps : Maps) → AreAlike maps maps

@@ -1,4 +1,4 @@
-use Rattle.prolly_look_up.specs.Leaves.{pairs_from}
+use Rattle.prolly_look_up.specs.PairsFrom.{pairs_from}
 use Rattle.prolly_c.proofs.RangeParts.{from_rises}
 use Rattle.prolly_c.proofs.shown.wanted_of.Goals as goal
 

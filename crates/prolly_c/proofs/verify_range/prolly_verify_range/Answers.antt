@@ -1,7 +1,7 @@
 use Rattle.std.proofs.Common.{ap, arith}
 use Rattle.std.proofs.lemmas.Grind.{common_steps}
 use Rattle.prolly_range.specs.KeySet.KeySet.{Range}
-use Rattle.prolly_c.proofs.RangeRight.{has_runs}
+use Rattle.prolly_c.proofs.RangeRuns.{has_runs}
 use Rattle.prolly_c.proofs.verify_range.prolly_verify_range.Goals as goal
 
 pub returns-then-runs-index-clause-counted : goal.returns-then-runs-index-clause-counted

@@ -1,6 +1,5 @@
 use Rattle.std.proofs.Common.{◌≡◌, ◌-◌, ◌≤◌, length, drop}
-use Rattle.prolly_look_up.specs.Content.{Content}
-use Rattle.prolly_look_up.specs.Content.{IsFileOf}
+use Rattle.prolly_look_up.specs.Content.{Content, IsFileOf}
 use Rattle.prolly_c.proofs.FileFrames.{IsWrittenTo}
 use Rattle.prolly_c.proofs.writer.write_index.Given as goal
 

@@ -1,7 +1,6 @@
 use Rattle.prolly_tree.specs.Walks.{Maps, AreAlike}
 use Rattle.prolly_tree.specs.lemmas.Walks.{alike_more, alike_one, maps_behind, removed, added}
-use Rattle.prolly_tree.specs.lemmas.Walks.{changed}
-use Rattle.prolly_tree.specs.lemmas.Walks.{differ, same, nothing_left}
+use Rattle.prolly_tree.specs.lemmas.Walks.{changed, differ, same, nothing_left}
 use Rattle.prolly_diff.proofs.differences.next_change.Goals as goal
 
 pub take_least-requires : goal.take_least-requires

@@ -1,6 +1,6 @@
 use Rattle.std.proofs.Common.{◌≡◌, ◌∷◌, subst}
 use Rattle.std.specs.Option.{option_map}
-use Rattle.prolly_diff.specs.Differences.{StartsWith, IsOrder}
+use Rattle.prolly_diff.specs.Sides.{StartsWith, IsOrder}
 use Rattle.prolly_diff.proofs.Steps.{pair_of, mapped, takes_before, takes_after, takes_both}
 use Rattle.prolly_diff.proofs.differences.take_least.Goals as goal
 

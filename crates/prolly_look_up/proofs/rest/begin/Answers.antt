@@ -3,7 +3,7 @@ use Rattle.prolly_entry.specs.lemmas.Lists.{rest_is}
 use Rattle.prolly_tree.specs.Difference.{IsMap}
 use Rattle.prolly_tree.specs.lemmas.Maps.{map_behind, rises}
 use Rattle.prolly_look_up.specs.Entries.{pairs_in}
-use Rattle.prolly_look_up.specs.Leaves.{pairs_from}
+use Rattle.prolly_look_up.specs.PairsFrom.{pairs_from}
 use Rattle.prolly_look_up.specs.lemmas.HeldPairs.{held_rise}
 use Rattle.prolly_look_up.specs.lemmas.ReadEntries.{leaf_pairs}
 use Rattle.prolly_look_up.specs.lemmas.PairsFrom.{from_behind, left_leaf}

@@ -3,7 +3,7 @@ use Rattle.std.proofs.lemmas.Grind.{common_steps}
 use Rattle.prolly_entry.specs.Pair.{Pair}
 use Rattle.prolly_tree.specs.Difference.{IsMap}
 use Rattle.prolly_tree.specs.lemmas.Maps.{map_behind, rises}
-use Rattle.prolly_look_up.specs.Leaves.{pairs_from}
+use Rattle.prolly_look_up.specs.PairsFrom.{pairs_from}
 use Rattle.prolly_look_up.specs.lemmas.PairsFrom.{from_first}
 use Rattle.prolly_look_up.proofs.rest.rest_from.Goals as goal
 

@@ -2,7 +2,7 @@ use Rattle.std.proofs.Common.{◌≡◌, ◌++◌, List, length}
 use Rattle.prolly_entry.specs.Pair.{Pair}
 use Rattle.prolly_tree.specs.Difference.{IsMap}
 use Rattle.prolly_look_up.specs.HeldPairs.{pairs_held}
-use Rattle.prolly_look_up.specs.Leaves.{IsLeft, pairs_from}
+use Rattle.prolly_look_up.specs.PairsFrom.{IsLeft, pairs_from}
 use Rattle.prolly_look_up.proofs.rest.rest_from.Given as goal
 
 abbrev pub invariant-loop-key : goal.invariant-loop-key

@@ -1,6 +1,5 @@
 use Rattle.std.proofs.Common.{map, take}
-use Rattle.prolly_look_up.specs.Content.{Content}
-use Rattle.prolly_look_up.specs.Content.{IsFileOf}
+use Rattle.prolly_look_up.specs.Content.{Content, IsFileOf}
 use Rattle.prolly_answer.specs.KeyLookUps.{found_at}
 use Rattle.prolly_answer.proofs.KeySteps.{HasWritten}
 use Rattle.prolly_answer.proofs.answers.get_keys.write_each.Given as goal

@@ -7,8 +7,7 @@ use Rattle.prolly_answer.specs.RootOutcomes.{RefusesNoneOf}
 use Rattle.prolly_answer.specs.RootScans.{AreEnough, limited_lines}
 use Rattle.prolly_answer.proofs.RootSteps.{begins, goes_on, leaf_fills, leaf_found, leaf_unwritten}
 use Rattle.prolly_answer.proofs.RootSteps.{leaf_wants, none_behind, seek_ends, seek_fails}
-use Rattle.prolly_answer.proofs.RootSteps.{some_behind}
-use Rattle.prolly_answer.proofs.RootSteps.{wants_first}
+use Rattle.prolly_answer.proofs.RootSteps.{some_behind, wants_first}
 use Rattle.prolly_answer.proofs.ScanSteps.{all_left, are_enough, are_left, are_wanted, lines_more}
 use Rattle.prolly_answer.proofs.ScanSteps.{none_yet, take_none}
 use Rattle.prolly_answer.proofs.answers.root_scan.write_leaves.Goals as goal

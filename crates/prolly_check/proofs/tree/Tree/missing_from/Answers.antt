@@ -1,8 +1,7 @@
 use Rattle.std.proofs.Common.{rules, ◌∙◌, sym, ap, subst}
-use Rattle.prolly_look_up.specs.Content.{chunks_of}
+use Rattle.prolly_look_up.specs.Content.{chunks_of, IsFileOf}
 use Rattle.prolly_check.specs.Chunks.{content_of, AreReferences}
 use Rattle.prolly_check.specs.Frames.{chunks_in}
-use Rattle.prolly_look_up.specs.Content.{IsFileOf}
 use Rattle.prolly_check.proofs.CheckedFile.{chunks_are}
 use Rattle.prolly_check.proofs.tree.Tree.missing_from.Goals as goal
 

@@ -5,7 +5,7 @@ use Rattle.std.proofs.lemmas.Bool.Decides.{Decides-eqb}
 use Rattle.std.proofs.lemmas.List.{nil_from_length}
 use Rattle.prolly_look_up.specs.Content.{chunks_of}
 use Rattle.prolly_look_up.specs.HeldPairs.{pairs_held}
-use Rattle.prolly_look_up.specs.Leaves.{pairs_from}
+use Rattle.prolly_look_up.specs.PairsFrom.{pairs_from}
 use Rattle.prolly_look_up.specs.ScanWay.{AreFirstFrom}
 use Rattle.prolly_look_up.specs.Sought.Sought.{Key}
 use Rattle.prolly_look_up.specs.Way.{IsOrdered}

@@ -5,8 +5,7 @@ use Rattle.prolly_entry.specs.Overlay.{or_else}
 use Rattle.prolly_check.specs.FirstFlaw.{end_flaw}
 use Rattle.prolly_look_up.specs.lemmas.SameBytes.{equal, unequal}
 use Rattle.prolly_check.proofs.ChunkSteps.{ends_as_difference, none_differs, is_bad, is_cut}
-use Rattle.prolly_check.proofs.ChunkSteps.{is_right}
-use Rattle.prolly_check.proofs.ChunkSteps.{is_trailing, record_is, root_is, taken_record}
+use Rattle.prolly_check.proofs.ChunkSteps.{is_right, is_trailing, record_is, root_is, taken_record}
 use Rattle.prolly_check.proofs.stream.chunks_read.ChunksRead.test_end_record.Goals as goal
 
 pub returns-in_err-finish-clause-ends : goal.returns-in_err-finish-clause-ends

@@ -6,7 +6,7 @@ use Rattle.prolly_file.specs.Bytes.{are_bytes}
 use Rattle.prolly_file.specs.BytesLaws.{both_true, bytes_from_test, test_from_bytes}
 use Rattle.prolly_file.proofs.device.rejoined.RejoinedSource.read.Goals as goal
 
--- Where bytes are bytes, beside what else is true, so are those from a place on.
+-- Where bytes are bytes, beside what else is true, so are those from an offset on.
 still_bytes : (bytes : List ℕ) (at : ℕ) (other : Bool) → (are_bytes bytes && other) ≡ true →
     (are_bytes (take (length bytes - at) (drop at bytes)) && other) ≡ true
 still_bytes bytes at other tested =

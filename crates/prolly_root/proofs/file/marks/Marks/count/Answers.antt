@@ -8,7 +8,7 @@ use Rattle.prolly_root.proofs.file.marks.Marks.count.Goals as goal
 
 pub loop-lower-preserved : goal.loop-lower-preserved
 loop-lower-preserved c = record {
-  places = c.loop-lower.invariant.places;
+  marks = c.loop-lower.invariant.marks;
   begun = λ content is next are.
       let runs = c.loop-lower.self.runs in
       let lower = c.loop-lower.lower in

@@ -7,7 +7,7 @@ use Rattle.prolly_root.proofs.file.marks.Marks.count.Given as goal
 
 abbrev pub invariant-loop-lower : goal.invariant-loop-lower
 invariant-loop-lower l = record {
-  places : l.self.places ≡ l.initial.self.places;
+  marks : l.self.marks ≡ l.initial.self.marks;
   begun : (content : Content) → IsFrame content l.fn.frame → l.next ≡ l.fn.frame.number + 1 →
       AreRuns content l.fn.frame.number l.initial.self.runs →
       Begun content l.fn.frame.number l.lower l.self.runs;

@@ -11,7 +11,7 @@ loop-frame-init g c = record {
     at,
     refl,
     c.begin-marks.ensures.runs content,
-    c.begin-marks.ensures.places content at,
+    c.begin-marks.ensures.marks content at,
   );
 }
 

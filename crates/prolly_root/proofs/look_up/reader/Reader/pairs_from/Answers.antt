@@ -1,6 +1,6 @@
 use Rattle.std.proofs.Common.{ap, refl, take, ◌∙◌}
 use Rattle.prolly_look_up.specs.HeldPairs.{pairs_held}
-use Rattle.prolly_look_up.specs.Leaves.{pairs_from}
+use Rattle.prolly_look_up.specs.PairsFrom.{pairs_from}
 use Rattle.prolly_root.specs.Reader.{AreFirstFound}
 use Rattle.prolly_root.proofs.Descending.{finds, hands_on, looks_up_so, some_way}
 use Rattle.prolly_root.proofs.look_up.reader.Reader.pairs_from.Goals as goal

@@ -1,4 +1,4 @@
--- A walk over two maps side by side.
+-- What the sides of a walk over two maps have in hand, and which of them comes first.
 use Rattle.std.specs.Prelude.{◌≡◌, List, [], ◌∷◌, Option, Some, None}
 use Rattle.std.specs.declared.cmp.Ordering.{Ordering}
 use Rattle.std.specs.declared.cmp.Ordering.TheVariants.{Less, Greater}
@@ -6,9 +6,9 @@ use Rattle.prolly_entry.specs.Keys.{key_order}
 use Rattle.prolly_entry.specs.Pair.{Pair}
 
 -- The pairs in hand, if there are some.
-abbrev pub pairs_in : Option (List Pair) → List Pair
-pairs_in None = []
-pairs_in (Some pairs) = pairs
+abbrev pub pairs_in_hand : Option (List Pair) → List Pair
+pairs_in_hand None = []
+pairs_in_hand (Some pairs) = pairs
 
 -- The list begins with the pair.
 abbrev pub StartsWith : Pair → List Pair → Type 0

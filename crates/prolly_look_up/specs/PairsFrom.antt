@@ -1,4 +1,4 @@
--- The pairs of a map from a key on.
+-- The pairs of a map from a key on, and marks of how many are left.
 use Rattle.std.specs.Prelude.{◌≡◌, ℕ, not, List, ◌++◌, length}
 use Rattle.std.specs.Ordering.{is_lt}
 use Rattle.std.specs.List.{filter}
