@@ -9,7 +9,7 @@ ghost use Rattle.prolly_tree.specs.Tree.{last_key};
 
 use prolly_chunk::ChunkEvent;
 use prolly_entry::{Ref, Version};
-use prolly_look_up::{Pairs, leaf_event, pairs_of};
+use prolly_look_up::{LEAF, Pairs, pairs_of};
 use std::alloc::{AllocError, Global};
 use std::marker::Model;
 
@@ -39,7 +39,6 @@ impl Model for OldLeaf {
 impl OldLeaf {
     /// The leaf with these bytes, which has pairs, and whose reference was compared. Goes over the
     /// pairs once, and takes memory for the last key. (A leaf is the same in each version.)
-    #[tactic(auto, using(crate::proofs::Leaves::whole_one))]
     pub fn new(
         alloc: Global,
         version: Version,
@@ -51,10 +50,9 @@ impl OldLeaf {
         requires reference { reference.0 ≡ reference_of chunk.items }
         ensures { IfOk result (λ leaf. leaf ≡ pairs_held chunk.items) }
     {
-        let event = leaf_event(version, &chunk);
-        let (level, count) = (event.level(), event.count());
-        let key = Vec::from_slice(alloc, event.key())?;
-        let event = ChunkEvent::new(level, key, reference, chunk, count);
+        let (key, count) = pairs_of(version, &chunk).last_key_and_count();
+        let key = Vec::from_slice(alloc, key)?;
+        let event = ChunkEvent::new(LEAF, key, reference, chunk, count);
         Ok(OldLeaf { event })
     }
 

@@ -4,15 +4,12 @@ ghost use Rattle.std.specs.Prelude.{IsTrue, IfSome, IfNone, MatchOption, ◌<◌
 ghost use Rattle.prolly_entry.specs.Pair.{Pair as PairValue};
 ghost use Rattle.prolly_entry.specs.Child.{value_of};
 ghost use Rattle.prolly_entry.specs.Spelling.{pair_spelling};
-ghost use Rattle.prolly_entry.specs.declared.version.Version.TheVariants.{One};
-ghost use Rattle.prolly_tree.specs.Chunk.{chunk_of};
 ghost use Rattle.prolly_tree.specs.RecordFile.{record_file};
 ghost use Rattle.prolly_tree.specs.Tree.{last_key};
 ghost use Rattle.prolly_look_up.specs.Entries.{Holds, IsLeaf, pairs_in, IsSomeLeaf, IsWhole, IsNode};
 ghost use Rattle.prolly_look_up.specs.Entries.{children_in};
 ghost use Rattle.prolly_look_up.specs.HeldPairs.{pairs_held};
 
-use prolly_chunk::BorrowedEvent;
 use prolly_entry::{Child, Version, split_pair};
 use std::marker::Model;
 
@@ -157,18 +154,6 @@ pub fn pairs_of(version: Version, chunk: &[u8]) -> Pairs<'_>
         return Pairs::new(&chunk[1..]);
     }
     Pairs::new(&[])
-}
-
-/// A chunk that was tested, and is a leaf with pairs, as the event that the levels of a tree take. Takes
-/// no memory and no hash, and goes over the pairs once.
-pub fn leaf_event(version: Version, chunk: &[u8]) -> BorrowedEvent<'_>
-    requires whole { IsWhole version chunk.now }
-    requires some { 0 < length (pairs_held chunk.now) }
-    ensures event { result ≡ chunk_of One 0 (pairs_held chunk.now) }
-    ensures bytes { result.bytes ≡ chunk.now }
-{
-    let (key, count) = pairs_of(version, chunk).last_key_and_count();
-    BorrowedEvent::new(LEAF, key, count, chunk)
 }
 
 /// The key and the value of the first pair of the entries of a leaf, and the entries behind it.

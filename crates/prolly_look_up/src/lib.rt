@@ -19,9 +19,7 @@ mod sought;
 mod step;
 
 pub use copies::{copy_pairs, first_pairs};
-pub use entries::{
-    LEAF, Pairs, is_node, leaf_event, pairs_of, split_first_child, split_first_pair,
-};
+pub use entries::{LEAF, Pairs, is_node, pairs_of, split_first_child, split_first_pair};
 pub use found::{pair_sought, value_in};
 pub use many_threads::ManyThreads;
 pub use rest::rest_from;
