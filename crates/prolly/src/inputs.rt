@@ -4,7 +4,7 @@ use crate::refusal::Refusal;
 use crate::streams::Stream;
 use prolly_answer::{Fault, INPUT_LIMIT, NameFault};
 use prolly_check::CheckFault;
-use prolly_file::{Blocks, FromFile, FromRead};
+use prolly_io::{Blocks, FromFile, FromRead};
 use prolly_root::FileChunks;
 use std::fs;
 use std::fs::File;

@@ -4,7 +4,7 @@ use crate::inputs::{Chunks, Input, refuse_read_twice};
 use crate::known_root::KnownRoot;
 use crate::refusal::Refusal;
 use prolly_entry::{Ref, Version};
-use prolly_file::FromRead;
+use prolly_io::FromRead;
 use std::fs::File;
 
 /// The tree that the words name: that of a chunk file, which is checked, or where they give a root, the

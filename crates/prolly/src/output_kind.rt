@@ -1,7 +1,7 @@
 //! What kind of file a command writes, and whether a file is one.
 use prolly_answer::NameFault;
 use prolly_entry::{FrontRecord, KEY_LIMIT, VALUE_LIMIT, front_record};
-use prolly_file::{FromRead, take_front};
+use prolly_io::{FromRead, take_front};
 use std::alloc::AllocError;
 use std::fs;
 

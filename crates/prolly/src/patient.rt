@@ -1,5 +1,5 @@
 //! Standard streams that may be non-blocking.
-use prolly_file::FromRead;
+use prolly_io::FromRead;
 use std::io::{ErrorKind, IsTerminal, Read, Write};
 use std::rt::Stdin;
 use std::time::Duration;

@@ -7,7 +7,7 @@ use crate::place::Replaced;
 use crate::refusal::Refusal;
 use crate::sinks::buffered;
 use crate::target::Target;
-use prolly_file::{Buffered, FromRead, ToWrite};
+use prolly_io::{Buffered, FromRead, ToWrite};
 use prolly_sort::{RunStore, StoreFault};
 use std::fs;
 use std::fs::File;

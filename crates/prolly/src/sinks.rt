@@ -1,7 +1,7 @@
 //! What commands write to.
 use crate::patient::Patient;
 use prolly_answer::Answer;
-use prolly_file::{Buffered, Sink, ToWrite};
+use prolly_io::{Buffered, Sink, ToWrite};
 use std::alloc::AllocError;
 use std::io;
 use std::io::Write;

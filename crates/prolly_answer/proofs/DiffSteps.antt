@@ -16,10 +16,10 @@ use Rattle.prolly_entry.specs.lemmas.RisingRecords.{AllAbove, IsRising, is_risin
 use Rattle.prolly_tree.specs.Difference.{IsChangeTo, IsDifference}
 use Rattle.prolly_tree.specs.LookUp.{find}
 use Rattle.prolly_tree.specs.lemmas.Differences.{some_difference}
-use Rattle.prolly_file.specs.Failures.{after_failure}
-use Rattle.prolly_file.specs.Sink.{IsSettled, SinkView}
+use Rattle.prolly_io.specs.Failures.{after_failure}
+use Rattle.prolly_io.specs.Sink.{IsSettled, SinkView}
 use Rattle.prolly_range.specs.lemmas.Unfailed.{other_failures}
-use Rattle.prolly_file.specs.Writes.{Writes}
+use Rattle.prolly_io.specs.Writes.{Writes}
 use Rattle.prolly_tree.specs.Walks.{Maps, AreMaps, IsFirstChange}
 use Rattle.std.specs.Prelude.{IfOk, OnErr}
 use Rattle.prolly_check.specs.Chunks.{IsFile}

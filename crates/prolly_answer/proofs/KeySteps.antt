@@ -13,7 +13,7 @@ use Rattle.prolly_entry.specs.Record.{Record, keys_of}
 use Rattle.prolly_entry.specs.declared.version.Version.{Version}
 use Rattle.prolly_root.specs.declared.root_fault.RootFault.{RootFault}
 use Rattle.std.specs.List.{AllZip}
-use Rattle.prolly_file.specs.Sink.{SinkView, TakesPrefix}
+use Rattle.prolly_io.specs.Sink.{SinkView, TakesPrefix}
 use Rattle.prolly_text.specs.declared.notation.Notation.{Notation}
 use Rattle.prolly_tree.specs.LookUp.{find}
 use Rattle.prolly_tree.specs.lemmas.Trees.{in_back, in_front}

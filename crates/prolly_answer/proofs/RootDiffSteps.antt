@@ -10,8 +10,8 @@ use Rattle.prolly_chunk.specs.Missing.{AreSo, lacking}
 use Rattle.prolly_entry.specs.Pair.{Pair}
 use Rattle.prolly_entry.specs.Record.{Record}
 use Rattle.prolly_entry.specs.declared.version.Version.{Version}
-use Rattle.prolly_file.specs.Failures.{after_failure}
-use Rattle.prolly_file.specs.Sink.{IsSettled, SinkView}
+use Rattle.prolly_io.specs.Failures.{after_failure}
+use Rattle.prolly_io.specs.Sink.{IsSettled, SinkView}
 use Rattle.prolly_root.specs.RootFault.{TellsFailure}
 use Rattle.prolly_root.specs.declared.root_fault.RootFault.{RootFault}
 use Rattle.prolly_root.specs.declared.root_fault.RootFault.TheVariants as roots

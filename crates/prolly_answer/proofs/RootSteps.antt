@@ -14,9 +14,9 @@ use Rattle.prolly_look_up.specs.Way.{IsWayTo}
 use Rattle.prolly_entry.specs.Keys.{key_order}
 use Rattle.prolly_entry.specs.Pair.{Pair}
 use Rattle.prolly_entry.specs.declared.version.Version.{Version}
-use Rattle.prolly_file.specs.Failures.{after_failure}
-use Rattle.prolly_file.specs.Sink.{IsSettled, SinkView}
-use Rattle.prolly_file.specs.Writes.{Writes}
+use Rattle.prolly_io.specs.Failures.{after_failure}
+use Rattle.prolly_io.specs.Sink.{IsSettled, SinkView}
+use Rattle.prolly_io.specs.Writes.{Writes}
 use Rattle.prolly_root.specs.Reader.{ReaderView}
 use Rattle.prolly_root.specs.declared.root_fault.RootFault.{RootFault}
 use Rattle.prolly_text.specs.RecordForms.{spelled, written_records}

@@ -8,8 +8,8 @@ use Rattle.std.proofs.lemmas.List.Concat.{flat_map-append}
 use Rattle.prolly_look_up.specs.ScanWay.{AreScanned, EndsEmpty, IsScanWay, from_behind, joined}
 use Rattle.prolly_entry.specs.Pair.{Pair}
 use Rattle.prolly_entry.specs.declared.version.Version.{Version}
-use Rattle.prolly_file.specs.Failures.{after_failure}
-use Rattle.prolly_file.specs.Sink.{IsSettled, SinkView}
+use Rattle.prolly_io.specs.Failures.{after_failure}
+use Rattle.prolly_io.specs.Sink.{IsSettled, SinkView}
 use Rattle.prolly_range.specs.lemmas.Unfailed.{other_failures}
 use Rattle.prolly_text.specs.declared.notation.Notation.{Notation}
 use Rattle.prolly_answer.specs.LookUps.{pair_lines, pair_text}

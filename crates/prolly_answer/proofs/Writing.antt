@@ -1,9 +1,9 @@
 -- Bytes that a sink is to take, part by part.
 use Rattle.std.proofs.Common.{◌≡◌, ℕ, true, List, [], ◌++◌, Result, Ok, Err, refl, sym, ap}
 use Rattle.std.proofs.Common.{◌∙◌, subst, append_assoc, append-nil}
-use Rattle.prolly_file.specs.Failures.{after_failure}
-use Rattle.prolly_file.specs.Sink.{IsSettled, SinkView}
-use Rattle.prolly_file.specs.Writes.{Writes}
+use Rattle.prolly_io.specs.Failures.{after_failure}
+use Rattle.prolly_io.specs.Sink.{IsSettled, SinkView}
+use Rattle.prolly_io.specs.Writes.{Writes}
 use Rattle.prolly_range.specs.lemmas.Unfailed.{other_failures}
 use Rattle.prolly_answer.specs.Outputs.{TookAll, TookPart, TookPrefix}
 pub use Rattle.prolly_answer.specs.Outputs.{TookSoFar}

@@ -4,7 +4,7 @@ use Rattle.prolly_report.specs.declared.report.Report.{Report}
 use Rattle.prolly_report.specs.declared.apply_fault.ApplyFault.{ApplyFault}
 use Rattle.prolly_report.specs.declared.apply_fault.ApplyFault.TheVariants as applied
 use Rattle.prolly_entry.specs.declared.version.Version.{Version}
-use Rattle.prolly_file.specs.declared.format.header.Header.{Header}
+use Rattle.prolly_io.specs.declared.format.header.Header.{Header}
 use Rattle.prolly_root.specs.declared.root_fault.RootFault.{RootFault}
 use Rattle.prolly_answer.specs.Answers.{ShowsFault, ShowsLine}
 use Rattle.prolly_answer.specs.Build.{report_text}

@@ -3,7 +3,7 @@ use Rattle.std.specs.Prelude.{◌≡◌, ◌≢◌, ◌⊎◌, ℕ, zero, suc, �
 use Rattle.std.specs.Prelude.{[], ◌++◌, codes, if◌then◌else◌, length, Result, IfOk}
 use Rattle.std.specs.Fmt.{decimal}
 use Rattle.std.specs.declared.alloc.AllocError.{AllocError}
-use Rattle.prolly_file.specs.Source.{SourceView}
+use Rattle.prolly_io.specs.Source.{SourceView}
 use Rattle.prolly_text.specs.FaultyLines.{AreExplained}
 use Rattle.prolly_text.specs.declared.lines.explain.LineCounts.{LineCounts}
 use Rattle.prolly_text.specs.declared.lines.form.LineForm.{LineForm}

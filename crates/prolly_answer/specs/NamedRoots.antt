@@ -7,7 +7,7 @@ use Rattle.prolly_check.specs.declared.verdict.fault.CheckFault.TheVariants.{Tru
 use Rattle.prolly_entry.specs.Cut.{sha512_cut}
 use Rattle.prolly_entry.specs.Reference.{reference_text}
 use Rattle.prolly_entry.specs.declared.reference.Ref.{Ref}
-use Rattle.prolly_file.specs.Failures.{after_failure}
+use Rattle.prolly_io.specs.Failures.{after_failure}
 use Rattle.prolly_root.specs.NamedRoot.{TellsEnd}
 use Rattle.prolly_root.specs.declared.file.named_root_fault.NamedRootFault.{NamedRootFault}
 use Rattle.prolly_root.specs.declared.file.named_root_fault.NamedRootFault.TheVariants as named

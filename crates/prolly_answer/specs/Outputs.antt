@@ -1,9 +1,9 @@
 -- What a command that makes a file does to the sink that it is lent, and what it answers.
 use Rattle.std.specs.Prelude.{◌≡◌, ◌≢◌, ℕ, ◌⊎◌, true, List, ◌++◌, Option, Some, None, Result, Ok, Err}
 use Rattle.prolly_entry.specs.Record.{Record}
-use Rattle.prolly_file.specs.Failures.{after_failure}
-use Rattle.prolly_file.specs.Sink.{IsSettled, SinkView, TakesPrefix}
-use Rattle.prolly_file.specs.Writes.{Writes}
+use Rattle.prolly_io.specs.Failures.{after_failure}
+use Rattle.prolly_io.specs.Sink.{IsSettled, SinkView, TakesPrefix}
+use Rattle.prolly_io.specs.Writes.{Writes}
 use Rattle.prolly_answer.specs.declared.answers.answer.Answer.{Answer}
 use Rattle.prolly_answer.specs.declared.faults.fault.Fault.{Fault}
 use Rattle.prolly_answer.specs.declared.faults.fault.Fault.TheVariants as faults

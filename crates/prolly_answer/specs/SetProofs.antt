@@ -7,8 +7,8 @@ use Rattle.prolly_look_up.specs.Way.{Clash}
 use Rattle.prolly_entry.specs.Cut.{sha512_cut}
 use Rattle.prolly_entry.specs.Pair.{Pair, IsPair}
 use Rattle.prolly_entry.specs.declared.version.Version.{Version}
-use Rattle.prolly_file.specs.Frame.{IsSmall}
-use Rattle.prolly_file.specs.Sink.{IsSettled, SinkView}
+use Rattle.prolly_io.specs.Frame.{IsSmall}
+use Rattle.prolly_io.specs.Sink.{IsSettled, SinkView}
 use Rattle.prolly_range.specs.KeySet.{KeySet, is_before}
 use Rattle.prolly_range.specs.KeySet.KeySet.{Keys, Range}
 use Rattle.prolly_range.specs.Prover.{MayFailTo, MayStop, TellsSink, TellsSource, WritesPart}

@@ -4,8 +4,8 @@ use Rattle.std.specs.Prelude.{Option, Some, None, Result, IfOk}
 use Rattle.std.specs.List.{AllZip}
 use Rattle.std.specs.Fmt.{decimal}
 use Rattle.prolly_entry.specs.Record.{Record}
-use Rattle.prolly_file.specs.Sink.{IsSettled, SinkView}
-use Rattle.prolly_file.specs.Source.{SourceView}
+use Rattle.prolly_io.specs.Sink.{IsSettled, SinkView}
+use Rattle.prolly_io.specs.Source.{SourceView}
 use Rattle.prolly_sort.specs.Overlaid.{overlaid, written}
 use Rattle.prolly_sort.specs.Run.{AreDoubled}
 use Rattle.prolly_sort.specs.Shelf.{CameTo, counted}

@@ -6,7 +6,7 @@ use Rattle.std.specs.declared.alloc.AllocError.{AllocError}
 use Rattle.prolly_entry.specs.Cut.{sha512_cut}
 use Rattle.prolly_entry.specs.Reference.{reference_text}
 use Rattle.prolly_tree.specs.File.{root_reference}
-use Rattle.prolly_file.specs.Source.{HandedOutFewer, SourceView}
+use Rattle.prolly_io.specs.Source.{HandedOutFewer, SourceView}
 use Rattle.prolly_look_up.specs.Content.{chunks_of, Content}
 use Rattle.prolly_check.specs.Numbers.{AreLevels}
 use Rattle.prolly_chunk.specs.Missing.{chunks_size}

@@ -4,7 +4,7 @@ use Rattle.std.specs.Prelude.{Result, IfOk}
 use Rattle.std.specs.Fmt.{decimal}
 use Rattle.std.specs.Option.{option_copied}
 use Rattle.std.specs.declared.alloc.AllocError.{AllocError}
-use Rattle.prolly_file.specs.Source.{SourceView}
+use Rattle.prolly_io.specs.Source.{SourceView}
 use Rattle.prolly_load.specs.Survey.{IsSurvey, key_bytes}
 use Rattle.prolly_load.specs.declared.tally.FlawedRecord.{FlawedRecord}
 use Rattle.prolly_load.specs.declared.tally.Survey.{Survey}

@@ -7,7 +7,7 @@ ghost use Rattle.prolly_answer.specs.ChunkBytes.{nothing_sampled};
 use crate::input::RECORD_LIMIT;
 use crate::lines::append_number;
 use prolly_entry::{NextRecord, next_record};
-use prolly_file::{Source, SourceFault, take_front};
+use prolly_io::{Source, SourceFault, take_front};
 use std::alloc::{AllocError, Global};
 use std::marker::Model;
 
@@ -54,7 +54,7 @@ impl Sample {
 
     /// Takes the first bytes of a record file off its source, as many as the sample still wants, and
     /// counts the entries that the records in them put. Gives these bytes, which are to be put back
-    /// before the source: see [`Rejoined`](prolly_file::Rejoined).
+    /// before the source: see [`Rejoined`](prolly_io::Rejoined).
     ///
     /// A record counts where it is whole and good, and so are all before it; a removal counts for
     /// nothing. At a `SourceFault` what was read before it is gone. An `AllocError` is want of memory

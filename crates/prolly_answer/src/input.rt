@@ -3,7 +3,7 @@ ghost use Rattle.std.specs.Prelude.{◌≡◌, ◌≢◌, ◌≤◌, true, lengt
 ghost use Rattle.prolly_answer.specs.Input.{IsReadWhole, IsInputFault};
 
 use crate::faults::Fault;
-use prolly_file::{Source, WholeFault, read_whole};
+use prolly_io::{Source, WholeFault, read_whole};
 use std::alloc::Global;
 
 /// How many bytes a command reads at most of an input that it reads whole.

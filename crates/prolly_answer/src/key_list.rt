@@ -5,7 +5,7 @@ ghost use Rattle.prolly_answer.specs.KeyLists.{IsKeyListFault, ReadsKeys};
 
 use crate::faults::Fault;
 use crate::input::input_of;
-use prolly_file::Source;
+use prolly_io::Source;
 use prolly_text::{Notation, keys_of_lines};
 use std::alloc::Global;
 

@@ -11,7 +11,7 @@ ghost use Rattle.prolly_text.specs.declared.lines.form.RecordForm.TheVariants.{L
 
 use crate::faults::OutputFault;
 use prolly_check::Leaves;
-use prolly_file::{Sink, write_all};
+use prolly_io::{Sink, write_all};
 use prolly_look_up::Pairs;
 use prolly_text::{Notation, append_line, append_name};
 use std::alloc::{AllocError, Global};

@@ -2,7 +2,7 @@
 use anyhow::{Result, bail};
 use prolly_check::{Tree, check};
 use prolly_diff::Differences;
-use prolly_file::FromRead;
+use prolly_io::FromRead;
 use std::alloc::Global;
 use std::fs;
 use std::fs::Files;

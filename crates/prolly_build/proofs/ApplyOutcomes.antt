@@ -10,8 +10,8 @@ use Rattle.prolly_entry.specs.Overlay.{overlay}
 use Rattle.prolly_entry.specs.Pair.{Pair}
 use Rattle.prolly_entry.specs.Record.{Record}
 use Rattle.prolly_entry.specs.declared.version.Version.{Version}
-use Rattle.prolly_file.specs.Source.{SourceView}
-use Rattle.prolly_file.specs.Sink.{SinkView}
+use Rattle.prolly_io.specs.Source.{SourceView}
+use Rattle.prolly_io.specs.Sink.{SinkView}
 use Rattle.prolly_link.specs.Identity.{LinkId}
 use Rattle.prolly_link.specs.Progress.{end_given}
 use Rattle.prolly_link.specs.Views.{Batching, Receiving, Whole}

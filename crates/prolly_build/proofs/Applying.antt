@@ -14,7 +14,7 @@ use Rattle.prolly_entry.specs.lemmas.Lists.{prefix_trans}
 use Rattle.prolly_entry.specs.Pair.{Pair}
 use Rattle.prolly_entry.specs.Prefix.{IsPrefix}
 use Rattle.prolly_entry.specs.Record.{Record, keys_of}
-use Rattle.prolly_file.specs.Source.{SourceView}
+use Rattle.prolly_io.specs.Source.{SourceView}
 use Rattle.prolly_laws.specs.Merging.{cut_behind_stop, merged_part_is_small, overlay_is_small}
 use Rattle.prolly_link.specs.Views.{Batching, Whole}
 use Rattle.prolly_link.specs.declared.message.End.{End}

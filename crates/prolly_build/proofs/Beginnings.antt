@@ -8,7 +8,7 @@ use Rattle.prolly_tree.specs.Chunk.{Chunk}
 use Rattle.prolly_tree.specs.File.{header, frame}
 use Rattle.prolly_entry.specs.lemmas.Spellings.{eight_bytes}
 use Rattle.prolly_entry.specs.lemmas.Lists.{apart, cell, cells}
-use Rattle.prolly_file.specs.Sink.{SinkView}
+use Rattle.prolly_io.specs.Sink.{SinkView}
 use Rattle.prolly_build.specs.Config.{Settings}
 use Rattle.prolly_build.specs.BuiltFile.{NoEndIsBegun}
 use Rattle.prolly_build.specs.WriterState.{AreSmall}

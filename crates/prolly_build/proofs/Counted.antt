@@ -9,7 +9,7 @@ use Rattle.prolly_entry.specs.Record.{Record}
 use Rattle.prolly_entry.specs.declared.next.Flaw.{Flaw}
 use Rattle.prolly_entry.specs.declared.next.Flaw.TheVariants as flaws
 use Rattle.prolly_laws.specs.Readings.{reading_is}
-use Rattle.prolly_file.specs.Source.{SourceView}
+use Rattle.prolly_io.specs.Source.{SourceView}
 use Rattle.prolly_link.specs.Views.{Batching, Whole}
 use Rattle.prolly_link.specs.declared.message.End.{End}
 use Rattle.prolly_link.specs.declared.message.End.TheVariants.{Clean, Fault}

@@ -2,7 +2,7 @@
 use Rattle.std.proofs.Common.{◌≡◌, ℕ, zero, suc, List, ◌∷◌, All, map, refl, ap, sym, subst, ◌∙◌}
 use Rattle.prolly_tree.specs.Merge.{Input}
 use Rattle.prolly_entry.specs.Record.{Record}
-use Rattle.prolly_file.specs.Source.{SourceView}
+use Rattle.prolly_io.specs.Source.{SourceView}
 use Rattle.prolly_link.specs.Views.{Batching, Receiving, Whole}
 use Rattle.prolly_link.specs.Progress.{end_given, HasEnded}
 use Rattle.prolly_link.specs.declared.fault.RunFault.{RunFault}

@@ -1,13 +1,13 @@
 -- What is told of the reads of an old tree whose source is given back.
 use Rattle.std.proofs.Common.{◌≡◌, ◌≢◌, ℕ, Bool, List, Option, Some, None, Result}
 use Rattle.std.proofs.Common.{Ok, Err, OnOk, inl, inr, ap, sym, subst, ◌∙◌, arith}
-use Rattle.prolly_file.specs.Failures.{after_failure}
+use Rattle.prolly_io.specs.Failures.{after_failure}
 use Rattle.prolly_apply.specs.OldLoaded.{TellsReadsOf, load_end}
 use Rattle.prolly_look_up.specs.Content.{Content}
 use Rattle.prolly_entry.specs.Pair.{Pair}
 use Rattle.prolly_entry.specs.Record.{Record}
 use Rattle.prolly_entry.specs.declared.version.Version.{Version}
-use Rattle.prolly_file.specs.Sink.{SinkView}
+use Rattle.prolly_io.specs.Sink.{SinkView}
 use Rattle.prolly_link.specs.Identity.{LinkId}
 use Rattle.prolly_link.specs.Progress.{end_given}
 use Rattle.prolly_link.specs.Views.{Receiving, Whole}

@@ -1,7 +1,7 @@
 -- What holds of no loader, and of one more, holds of all.
 use Rattle.std.proofs.Common.{ℕ, ◌+◌, List, [], ◌∷◌}
 use Rattle.prolly_entry.specs.Record.{Record}
-use Rattle.prolly_file.specs.Source.{SourceView}
+use Rattle.prolly_io.specs.Source.{SourceView}
 use Rattle.prolly_link.specs.Views.{Batching, Whole}
 use Rattle.prolly_build.specs.RunResult.{AreLoaded}
 use Rattle.prolly_build.specs.Workers.{IsLoadedFrom}

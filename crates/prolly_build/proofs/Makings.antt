@@ -17,7 +17,7 @@ use Rattle.prolly_entry.specs.Reference.{reference_of}
 use Rattle.prolly_tree.specs.Tree.{tree_of, level_count}
 use Rattle.prolly_laws.specs.Stages.{composition, enough_stages, within_is_prefix}
 use Rattle.prolly_laws.specs.Trees.{pairs_are}
-use Rattle.prolly_file.specs.Sink.{SinkView, TakesPrefix}
+use Rattle.prolly_io.specs.Sink.{SinkView, TakesPrefix}
 use Rattle.prolly_link.specs.Views.{Whole}
 use Rattle.prolly_link.specs.declared.message.End.{End}
 use Rattle.prolly_link.specs.declared.message.End.TheVariants.{Clean, Fault}

@@ -7,7 +7,7 @@ use Rattle.std.specs.Prelude.{IsErrAnd, IfOk, IfErr, OnOk}
 use Rattle.prolly_tree.specs.Chunk.{Chunk}
 use Rattle.prolly_tree.specs.File.{header}
 use Rattle.prolly_tree.specs.Pipeline.{before_second}
-use Rattle.prolly_file.specs.Sink.{SinkView, TakesPrefix}
+use Rattle.prolly_io.specs.Sink.{SinkView, TakesPrefix}
 use Rattle.prolly_link.specs.Views.{Receiving}
 use Rattle.prolly_link.specs.Progress.{end_given}
 use Rattle.prolly_link.specs.declared.message.End.{End}

@@ -21,8 +21,8 @@ use Rattle.prolly_laws.specs.Stages.{composition, within_is_prefix}
 use Rattle.prolly_laws.specs.Merging.{all_rising, fronts_merge, rising_two_as_one, two_of_all}
 use Rattle.prolly_laws.specs.Merging.{overlay_of_two, overlay_is_small}
 use Rattle.prolly_laws.specs.Readings.{begins_all, first_are_good, one_reading, reading_is}
-use Rattle.prolly_file.specs.Source.{SourceView}
-use Rattle.prolly_file.specs.Sink.{SinkView}
+use Rattle.prolly_io.specs.Source.{SourceView}
+use Rattle.prolly_io.specs.Sink.{SinkView}
 use Rattle.prolly_link.specs.Views.{Batching, Whole}
 use Rattle.prolly_link.specs.declared.message.End.{End}
 use Rattle.prolly_link.specs.declared.message.End.TheVariants.{Fault}

@@ -10,8 +10,8 @@ use Rattle.prolly_entry.specs.Pair.{Pair}
 use Rattle.prolly_tree.specs.Pipeline.{pipeline_events}
 use Rattle.prolly_entry.specs.Record.{Record}
 use Rattle.prolly_laws.specs.Merging.{overlay_is_small}
-use Rattle.prolly_file.specs.Source.{SourceView}
-use Rattle.prolly_file.specs.Sink.{SinkView}
+use Rattle.prolly_io.specs.Source.{SourceView}
+use Rattle.prolly_io.specs.Sink.{SinkView}
 use Rattle.prolly_link.specs.Views.{Whole}
 use Rattle.prolly_link.specs.declared.message.End.{End}
 use Rattle.prolly_link.specs.declared.message.End.TheVariants.{Clean, Fault}

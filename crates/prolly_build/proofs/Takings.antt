@@ -9,7 +9,7 @@ use Rattle.prolly_tree.specs.File.{header}
 use Rattle.prolly_entry.specs.Pair.{Pair}
 use Rattle.prolly_tree.specs.Pipeline.{pipeline_events, before_second, within_stages}
 use Rattle.prolly_laws.specs.Stages.{composition}
-use Rattle.prolly_file.specs.Sink.{SinkView, TakesPrefix}
+use Rattle.prolly_io.specs.Sink.{SinkView, TakesPrefix}
 use Rattle.prolly_link.specs.Views.{Whole}
 use Rattle.prolly_link.specs.declared.message.End.{End}
 use Rattle.prolly_link.specs.declared.message.End.TheVariants.{Clean, Fault}

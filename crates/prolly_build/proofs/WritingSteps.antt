@@ -11,7 +11,7 @@ use Rattle.prolly_entry.specs.Prefix.{IsPrefix}
 use Rattle.prolly_entry.specs.lemmas.Lists.{all_append, prefix_trans}
 use Rattle.prolly_tree.specs.lemmas.Stages.{count, count_true, count_false}
 use Rattle.prolly_laws.specs.Stages.{within_is_prefix}
-use Rattle.prolly_file.specs.Sink.{SinkView, TakesPrefix}
+use Rattle.prolly_io.specs.Sink.{SinkView, TakesPrefix}
 use Rattle.prolly_build.specs.declared.run.writer.OpenFile.{OpenFile}
 use Rattle.prolly_build.specs.declared.run.writer.LastChunk.{LastChunk}
 use Rattle.prolly_build.specs.declared.run.writer.WriterState.{WriterState}

@@ -14,8 +14,8 @@ use Rattle.prolly_tree.specs.Difference.{IsMap, puts}
 use Rattle.prolly_tree.specs.File.{header, root_reference}
 use Rattle.prolly_tree.specs.Merge.{Input, stop, stop_fault, merged_part}
 use Rattle.prolly_tree.specs.Passing.{map_input}
-use Rattle.prolly_file.specs.Sink.{SinkView, TakesPrefix}
-use Rattle.prolly_file.specs.Source.{SourceView}
+use Rattle.prolly_io.specs.Sink.{SinkView, TakesPrefix}
+use Rattle.prolly_io.specs.Source.{SourceView}
 use Rattle.prolly_link.specs.declared.fault.RunFault.{RunFault}
 use Rattle.prolly_link.specs.declared.fault.RunFault.TheVariants.{Memory, Write, NoThread, Lost}
 use Rattle.prolly_root.specs.RootFault.{MayFail}

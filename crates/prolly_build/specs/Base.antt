@@ -8,7 +8,7 @@ use Rattle.prolly_link.specs.Progress.{HasEnded}
 use Rattle.prolly_link.specs.declared.message.Progress.TheVariants.{Ended}
 use Rattle.prolly_link.specs.declared.fault.RunFault.{RunFault}
 use Rattle.prolly_link.specs.declared.fault.RunFault.TheVariants.{Lost}
-use Rattle.prolly_file.specs.Sink.{SinkView}
+use Rattle.prolly_io.specs.Sink.{SinkView}
 use Rattle.prolly_tree.specs.Chunk.{Chunk}
 use Rattle.prolly_build.specs.BuiltFile.{IsBegun}
 use Rattle.prolly_build.specs.Config.{Settings}

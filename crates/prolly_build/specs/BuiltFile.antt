@@ -12,8 +12,8 @@ use Rattle.prolly_entry.specs.Prefix.{IsPrefix}
 use Rattle.prolly_entry.specs.Reading.{IsReading}
 use Rattle.prolly_entry.specs.Record.{Record}
 use Rattle.prolly_tree.specs.Tree.{level_count}
-use Rattle.prolly_file.specs.Source.{SourceView}
-use Rattle.prolly_file.specs.Sink.{IsSettled, SinkView, TakesPrefix}
+use Rattle.prolly_io.specs.Source.{SourceView}
+use Rattle.prolly_io.specs.Sink.{IsSettled, SinkView, TakesPrefix}
 use Rattle.prolly_link.specs.declared.message.End.{End}
 use Rattle.prolly_link.specs.declared.message.End.TheVariants.{Clean, Fault}
 use Rattle.prolly_link.specs.declared.fault.RunFault.{RunFault}

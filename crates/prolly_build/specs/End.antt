@@ -7,7 +7,7 @@ use Rattle.prolly_tree.specs.Chunk.{Chunk}
 use Rattle.prolly_tree.specs.Events.{faulty}
 use Rattle.prolly_tree.specs.File.{header}
 use Rattle.prolly_tree.specs.Pipeline.{pipeline_events, before_second}
-use Rattle.prolly_file.specs.Sink.{SinkView, TakesPrefix}
+use Rattle.prolly_io.specs.Sink.{SinkView, TakesPrefix}
 use Rattle.prolly_link.specs.Views.{Whole}
 use Rattle.prolly_link.specs.declared.message.End.TheVariants.{Clean, Fault}
 use Rattle.prolly_link.specs.declared.fault.RunFault.{RunFault}

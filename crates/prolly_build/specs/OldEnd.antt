@@ -2,7 +2,7 @@
 use Rattle.std.specs.Prelude.{◌≡◌, ◌⊎◌, Bool, List, Option, Result, Ok, Err}
 use Rattle.prolly_entry.specs.Pair.{Pair}
 use Rattle.prolly_entry.specs.Record.{Record}
-use Rattle.prolly_file.specs.Sink.{SinkView}
+use Rattle.prolly_io.specs.Sink.{SinkView}
 use Rattle.prolly_link.specs.Views.{Receiving, Whole}
 use Rattle.prolly_link.specs.Progress.{HasEnded}
 use Rattle.prolly_link.specs.declared.fault.RunFault.{RunFault}

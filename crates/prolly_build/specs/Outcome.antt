@@ -1,7 +1,7 @@
 -- What a build has answered, and what it has made of its sources and of the sink then.
 use Rattle.std.specs.Prelude.{◌≡◌, ◌≢◌, List, Result, IfOk, IfErr, OnOk}
-use Rattle.prolly_file.specs.Sink.{SinkView}
-use Rattle.prolly_file.specs.Source.{SourceView}
+use Rattle.prolly_io.specs.Sink.{SinkView}
+use Rattle.prolly_io.specs.Source.{SourceView}
 use Rattle.prolly_link.specs.declared.fault.RunFault.{RunFault}
 use Rattle.prolly_link.specs.declared.fault.RunFault.TheVariants.{Memory, Write, NoThread, Lost}
 use Rattle.prolly_build.specs.BuiltFile.{IsBegun, IsBuilt, IsUnmade, IsStartFault, IsWriterFault}

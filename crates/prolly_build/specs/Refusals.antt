@@ -9,8 +9,8 @@ use Rattle.prolly_entry.specs.Prefix.{IsPrefix}
 use Rattle.prolly_entry.specs.Reading.{IsReading}
 use Rattle.prolly_entry.specs.Record.{Record}
 use Rattle.prolly_entry.specs.declared.next.Flaw.{Flaw}
-use Rattle.prolly_file.specs.Source.{SourceView}
-use Rattle.prolly_file.specs.Sink.{SinkView, TakesPrefix}
+use Rattle.prolly_io.specs.Source.{SourceView}
+use Rattle.prolly_io.specs.Sink.{SinkView, TakesPrefix}
 use Rattle.prolly_build.specs.Config.{Settings}
 use Rattle.prolly_build.specs.WriterState.{frames_of}
 

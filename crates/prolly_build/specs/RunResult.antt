@@ -3,8 +3,8 @@ use Rattle.std.specs.Prelude.{◌≡◌, ℕ, ◌-◌, ◌+◌, List, [], ◌∷
 use Rattle.prolly_tree.specs.Chunk.{Chunk}
 use Rattle.prolly_entry.specs.Record.{Record}
 use Rattle.prolly_tree.specs.File.{header}
-use Rattle.prolly_file.specs.Source.{SourceView}
-use Rattle.prolly_file.specs.Sink.{SinkView}
+use Rattle.prolly_io.specs.Source.{SourceView}
+use Rattle.prolly_io.specs.Sink.{SinkView}
 use Rattle.prolly_link.specs.Views.{Batching, Receiving, Whole}
 use Rattle.prolly_link.specs.Progress.{end_given, HasEnded}
 use Rattle.prolly_link.specs.declared.message.Progress.TheVariants.{Open}

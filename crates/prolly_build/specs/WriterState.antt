@@ -8,7 +8,7 @@ use Rattle.prolly_tree.specs.Events.{has_level, greatest_count}
 use Rattle.prolly_tree.specs.Pipeline.{before_second, HasSecond}
 use Rattle.prolly_entry.specs.Prefix.{IsPrefix}
 use Rattle.prolly_entry.specs.Reference.{reference_of}
-use Rattle.prolly_file.specs.Sink.{IsSettled, SinkView, TakesPrefix}
+use Rattle.prolly_io.specs.Sink.{IsSettled, SinkView, TakesPrefix}
 use Rattle.prolly_link.specs.declared.message.End.{End}
 use Rattle.prolly_link.specs.declared.message.End.TheVariants.{Clean, Fault}
 use Rattle.prolly_link.specs.declared.fault.RunFault.{RunFault}

@@ -13,7 +13,7 @@ use crate::old_end::{AppliedChanges, end_old};
 use crate::run::{OldBase, OldLinks, run_scoped};
 use crate::start::{AllStart, Lent, Permit};
 use prolly_entry::Ref;
-use prolly_file::{Sink, Source};
+use prolly_io::{Sink, Source};
 use prolly_link::RunFault;
 use prolly_report::ApplyFault;
 use prolly_root::ReadAhead;

@@ -2,7 +2,7 @@
 ghost use Rattle.std.specs.Prelude.{◌≡◌, ◌≢◌, ◌+◌, ◌-◌, ◌<◌, ◌≤◌, ◌↔◌, [], All, Err, map, vec_len, IfErr};
 ghost use Rattle.prolly_link.specs.declared.fault.RunFault.TheVariants.{TooManyFiles};
 ghost use Rattle.prolly_build.specs.Config.{AreLawful};
-ghost use Rattle.prolly_file.specs.Sink.{SinkView};
+ghost use Rattle.prolly_io.specs.Sink.{SinkView};
 ghost use Rattle.prolly_link.specs.Progress.{end_given, HasEnded};
 ghost use Rattle.prolly_tree.specs.File.{header};
 ghost use Rattle.prolly_build.specs.Base.{AreFilesEnded, AreFilesPaired};
@@ -16,7 +16,7 @@ use crate::links::{StageLinks, both};
 use crate::run::{Base, BaseResult, RunResult, meet_files, new_files, run_scoped};
 use crate::start::{AllStart, CutLeaves, Lent, MergeLast, Permit};
 use prolly_entry::{Pair, Record};
-use prolly_file::{Sink, Source};
+use prolly_io::{Sink, Source};
 use prolly_link::{BatchReceiver, RunFault};
 use prolly_report::Report;
 use prolly_stage::Gate;

@@ -2,7 +2,7 @@
 ghost use Rattle.std.specs.Prelude.{◌≡◌, ◌-◌, List, ℕ, IfOk, IfErr, OnOk};
 ghost use Rattle.prolly_tree.specs.File.{header};
 ghost use Rattle.prolly_tree.specs.Chunk.{Chunk};
-ghost use Rattle.prolly_file.specs.Sink.{SinkView};
+ghost use Rattle.prolly_io.specs.Sink.{SinkView};
 ghost use Rattle.prolly_link.specs.Progress.{end_given, HasEnded};
 ghost use Rattle.prolly_link.specs.declared.message.End.TheVariants.{Clean};
 ghost use Rattle.prolly_build.specs.RunResult.{IsHaltFault};
@@ -15,7 +15,7 @@ use crate::config::Config;
 use crate::links::meet_link;
 use crate::run::{OpenFile, WriterResult, WriterState};
 use prolly_chunk::ChunkEvent;
-use prolly_file::Sink;
+use prolly_io::Sink;
 use prolly_link::{BatchReceiver, BatchSender, ClosedBatch, End, RunFault};
 use prolly_report::Report;
 use std::sync::Wait;

@@ -1,6 +1,6 @@
 //! Laws of what a build leaves behind a fault, and of what is told of an old tree, as functions that do
 //! nothing and whose contracts are the laws.
-ghost use Rattle.prolly_file.specs.Sink.{SinkView};
+ghost use Rattle.prolly_io.specs.Sink.{SinkView};
 ghost use Rattle.prolly_build.specs.Config.{Settings};
 ghost use Rattle.prolly_build.specs.BuiltFile.{NoEndIsBegun};
 ghost use Rattle.prolly_build.specs.GivenBack.{IsTrueOfReads};

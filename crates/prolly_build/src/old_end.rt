@@ -1,6 +1,6 @@
 //! The end of a run over an old tree: its answer, and the source that is given back.
 ghost use Rattle.std.specs.Prelude.{◌≡◌, ◌-◌, Some};
-ghost use Rattle.prolly_file.specs.Sink.{SinkView};
+ghost use Rattle.prolly_io.specs.Sink.{SinkView};
 ghost use Rattle.prolly_link.specs.Progress.{end_given, HasEnded};
 ghost use Rattle.prolly_tree.specs.File.{header};
 ghost use Rattle.prolly_build.specs.Applied.{IsTold};
@@ -15,7 +15,7 @@ use crate::run::{BaseResult, RunResult, meet_old};
 use crate::start::{AppliedEnds, OldRead};
 use prolly_apply::{OLD_TREE, OldLeaf};
 use prolly_entry::Record;
-use prolly_file::Sink;
+use prolly_io::Sink;
 use prolly_link::{ClosedBatch, RunFault};
 use prolly_report::{ApplyFault, Report};
 use prolly_root::RootFault;

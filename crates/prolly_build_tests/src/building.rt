@@ -2,7 +2,8 @@
 use crate::expect::{expect_bytes, expect_numbers, expect_outcome};
 use prolly_build::{Config, ConfigFault, Permit, Report, build, build_with};
 use prolly_entry::{Pair, Sha512Cut, Version};
-use prolly_file::{ScriptSink, ScriptSource, scratch_as};
+use prolly_file::scratch_as;
+use prolly_io::{ScriptSink, ScriptSource};
 use prolly_link::RunFault;
 use prolly_stage::{Gate, OpenGate};
 use std::alloc::Global;

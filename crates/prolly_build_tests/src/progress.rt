@@ -1,6 +1,6 @@
 //! Progress: that bytes are counted, and that something is shown, or nothing.
 use crate::expect::expect_eq;
-use prolly_file::{ScriptSink, ScriptSource, Sink, SinkFault, Source, SourceFault};
+use prolly_io::{ScriptSink, ScriptSource, Sink, SinkFault, Source, SourceFault};
 use prolly_progress::{CountedSink, CountedSource, CountingGate, Counts, Progress, watched};
 use prolly_stage::{Gate, OLD_TREE, Worker};
 use std::alloc::Global;

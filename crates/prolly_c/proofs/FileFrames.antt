@@ -7,10 +7,10 @@ use Rattle.std.proofs.lemmas.List.{length-append}
 use Rattle.std.specs.List.{flat_map, AllByRecursion}
 use Rattle.prolly_entry.specs.Pair.{Pair}
 use Rattle.prolly_entry.specs.declared.version.Version.{Version}
-use Rattle.prolly_file.specs.Frame.{IsSmall, framed, has_no_frame}
-use Rattle.prolly_file.specs.FrameLaws.{begins_frame, one_front}
-use Rattle.prolly_file.specs.Header.{header_fault, header_tests}
-use Rattle.prolly_file.specs.declared.format.header.HeaderFault.{HeaderFault}
+use Rattle.prolly_io.specs.Frame.{IsSmall, framed, has_no_frame}
+use Rattle.prolly_io.specs.FrameLaws.{begins_frame, one_front}
+use Rattle.prolly_io.specs.Header.{header_fault, header_tests}
+use Rattle.prolly_io.specs.declared.format.header.HeaderFault.{HeaderFault}
 use Rattle.prolly_look_up.specs.Content.{chunks_of, Content, chunk_bytes, IsFileOf}
 use Rattle.prolly_check.specs.ReadChunks.{AllHold, IsRead}
 use Rattle.prolly_look_up.specs.Entries.{Holds}

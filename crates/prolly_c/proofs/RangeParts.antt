@@ -14,7 +14,7 @@ use Rattle.prolly_entry.specs.Pair.{Pair, IsPair}
 use Rattle.prolly_entry.specs.Spelling.{pair_spelling}
 use Rattle.prolly_entry.specs.lemmas.Lists.{all_front}
 use Rattle.prolly_entry.specs.lemmas.Orders.{below_greater}
-use Rattle.prolly_file.specs.Frame.{framed, frame_start}
+use Rattle.prolly_io.specs.Frame.{framed, frame_start}
 use Rattle.prolly_range.specs.KeySet.{is_before, pairs_wanted}
 use Rattle.prolly_range.specs.KeySet.KeySet.{Range}
 use Rattle.prolly_tree.specs.lemmas.Maps.{Above, Rises}

@@ -14,8 +14,8 @@ use Rattle.prolly_entry.specs.Pair.{Pair}
 use Rattle.prolly_entry.specs.declared.version.Version.{Version}
 use Rattle.prolly_entry.specs.declared.version.Version.TheVariants.{One, Two}
 use Rattle.prolly_entry.specs.lemmas.Lists.{all_append}
-use Rattle.prolly_file.specs.Frame.{IsSmall, framed, has_no_frame}
-use Rattle.prolly_file.specs.FrameLaws.{begins_frame, one_front}
+use Rattle.prolly_io.specs.Frame.{IsSmall, framed, has_no_frame}
+use Rattle.prolly_io.specs.FrameLaws.{begins_frame, one_front}
 use Rattle.prolly_range.specs.KeySet.{KeySet, is_before, met_first, met_in, pairs_wanted}
 use Rattle.prolly_range.specs.KeySet.KeySet.{Range}
 use Rattle.prolly_range.specs.SetProof.{AreTaken, Due, IsSetProof, child_due, due_below}

@@ -9,7 +9,7 @@ use Rattle.prolly_look_up.specs.Way.{IsOrdered}
 use Rattle.prolly_entry.specs.Pair.{Pair}
 use Rattle.prolly_entry.specs.Version.{version_byte}
 use Rattle.prolly_entry.specs.declared.version.Version.{Version}
-use Rattle.prolly_file.specs.Frame.{IsSmall}
+use Rattle.prolly_io.specs.Frame.{IsSmall}
 use Rattle.prolly_range.specs.KeySet.{KeySet, pairs_wanted}
 use Rattle.prolly_range.specs.KeySet.KeySet.{Range}
 use Rattle.prolly_range.specs.SetProof.{AreTaken, Due, IsSetProof, ShowsClash, pairs_there}

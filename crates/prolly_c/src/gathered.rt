@@ -1,7 +1,7 @@
 //! A sink into memory.
 ghost use Rattle.std.specs.Prelude.{◌≡◌, true, []};
 
-use prolly_file::{Sink, SinkFault};
+use prolly_io::{Sink, SinkFault};
 use std::alloc::Global;
 
 /// What was written, in memory. A write fails where memory for it is refused, and no other does.

@@ -1,7 +1,7 @@
 //! Bytes in memory as a source.
 ghost use Rattle.std.specs.Prelude.{◌≡◌, true, min, length, take, drop, ◌++◌};
 
-use prolly_file::{Source, SourceFault};
+use prolly_io::{Source, SourceFault};
 
 /// Bytes that the caller has in memory, as a source. It is honest, and no read of it fails.
 #[derive(Drop)]
@@ -20,8 +20,8 @@ impl<'a> Lent<'a> {
 }
 
 impl<'a> Source for Lent<'a> {
-    ghost use Rattle.prolly_file.specs.Bytes.{are_bytes};
-    ghost use Rattle.prolly_file.specs.BytesLaws.{bytes_from_test};
+    ghost use Rattle.prolly_io.specs.Bytes.{are_bytes};
+    ghost use Rattle.prolly_io.specs.BytesLaws.{bytes_from_test};
 
     ghost seen = { λ s. record {
       is_honest = are_bytes s.left.now;

@@ -10,7 +10,7 @@ ghost use Rattle.prolly_c.specs.RangeProofs.{IsSomeRangeProof};
 
 use crate::gathered::Gathered;
 use prolly_entry::{Ref, Version};
-use prolly_file::InMemory;
+use prolly_io::InMemory;
 use prolly_range::{KeySet, ProveFault, prove_set};
 use prolly_root::{FileChunks, Reader, RootFault};
 use std::alloc::Global;

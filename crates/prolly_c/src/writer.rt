@@ -3,7 +3,7 @@ ghost use Rattle.std.specs.Prelude.{◌≡◌, ◌≤◌, ◌<◌, ◌+◌, ◌-
 ghost use Rattle.std.specs.Prelude.{IfSome, MatchOption};
 ghost use Rattle.prolly_entry.specs.Pair.{Pair};
 ghost use Rattle.prolly_entry.specs.declared.version.Version.{Version};
-ghost use Rattle.prolly_file.specs.Frame.{framed};
+ghost use Rattle.prolly_io.specs.Frame.{framed};
 ghost use Rattle.prolly_look_up.specs.Content.{Content, IsFileOf};
 ghost use Rattle.prolly_look_up.specs.Entries.{Holds};
 ghost use Rattle.prolly_c.specs.Runs.{AreRuns, IsEnd, IsRun, run_count};
@@ -12,7 +12,7 @@ ghost use Rattle.prolly_c.specs.Writing.{Passes, Spells, Wrote, WroteChunk};
 use crate::run::Run;
 use prolly_check::laws::files_are_accepted;
 use prolly_entry::split_pair;
-use prolly_file::{FRAME_FRONT, HEADER_SIZE, front_frame};
+use prolly_io::{FRAME_FRONT, HEADER_SIZE, front_frame};
 use prolly_look_up::LEAF;
 
 /// How many pairs a run has at most.

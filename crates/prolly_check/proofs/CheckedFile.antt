@@ -20,9 +20,9 @@ use Rattle.prolly_tree.specs.Chunk.{Chunk, chunk_of, chunks, post_order, IsIn}
 use Rattle.prolly_tree.specs.File.{header, end_record}
 use Rattle.prolly_tree.specs.Tree.{Tree, bytes_of, tree_of}
 use Rattle.prolly_tree.specs.lemmas.Splits.{flat}
-use Rattle.prolly_file.specs.Frame.{framed, has_no_frame, IsSmall, BeginsFrame}
-use Rattle.prolly_file.specs.Header.{header_tests, header_fault, version_of}
-use Rattle.prolly_file.specs.declared.format.header.Header.{Header}
+use Rattle.prolly_io.specs.Frame.{framed, has_no_frame, IsSmall, BeginsFrame}
+use Rattle.prolly_io.specs.Header.{header_tests, header_fault, version_of}
+use Rattle.prolly_io.specs.declared.format.header.Header.{Header}
 use Rattle.prolly_look_up.specs.Content.{chunks_of, Content, root_bytes, chunk_bytes, IsFileOf}
 use Rattle.prolly_check.specs.Chunks.{IsChecked, content_of, IsLaidOut, HasAt, IsIndex}
 use Rattle.prolly_check.specs.Chunks.{AreReferences}

@@ -25,7 +25,7 @@ use Rattle.prolly_entry.specs.lemmas.Lists.{all_append, all_back, all_front}
 use Rattle.prolly_tree.specs.Chunk.{chunks as tree_chunks}
 use Rattle.prolly_tree.specs.File.{root_reference}
 use Rattle.prolly_tree.specs.lemmas.Splits.{flat}
-use Rattle.prolly_file.specs.Frame.{framed, has_no_frame, IsSmall}
+use Rattle.prolly_io.specs.Frame.{framed, has_no_frame, IsSmall}
 use Rattle.prolly_check.specs.ChunksRead.{AreRead, BodyRead, EndsAs, EndsChunks, HasFlaw, IsDecided}
 use Rattle.prolly_check.specs.Digests.{IsBroken}
 use Rattle.prolly_look_up.specs.Entries.{AreWhole, IsWhole}

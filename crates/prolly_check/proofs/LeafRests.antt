@@ -15,8 +15,8 @@ use Rattle.prolly_entry.specs.lemmas.Orders.{less_self}
 use Rattle.prolly_tree.specs.RecordFile.{record_file}
 use Rattle.prolly_tree.specs.Tree.{last_key}
 use Rattle.prolly_tree.specs.lemmas.Maps.{Above, Rises, rises, rises_back}
-use Rattle.prolly_file.specs.Sink.{SinkView, TakesPrefix}
-use Rattle.prolly_file.specs.Writes.{Writes}
+use Rattle.prolly_io.specs.Sink.{SinkView, TakesPrefix}
+use Rattle.prolly_io.specs.Writes.{Writes}
 use Rattle.prolly_check.specs.Chunks.{HasFile}
 use Rattle.prolly_look_up.specs.Content.{chunks_of, Content}
 use Rattle.prolly_look_up.specs.HeldPairs.{pairs_held}

@@ -20,10 +20,10 @@ use Rattle.prolly_entry.specs.lemmas.Lists.{all_append, all_back}
 use Rattle.prolly_tree.specs.lemmas.Splits.{flat}
 use Rattle.prolly_tree.specs.Chunk.{chunks as tree_chunks}
 use Rattle.prolly_tree.specs.File.{header, frame, root_reference}
-use Rattle.prolly_file.specs.Frame.{framed, has_no_frame, IsSmall}
-use Rattle.prolly_file.specs.FrameLaws.{begins_frame, frames_bytes, one_front}
-use Rattle.prolly_file.specs.Header.{header_fault, header_tests, version_of}
-use Rattle.prolly_file.specs.declared.format.header.HeaderFault.TheVariants as header_faults
+use Rattle.prolly_io.specs.Frame.{framed, has_no_frame, IsSmall}
+use Rattle.prolly_io.specs.FrameLaws.{begins_frame, frames_bytes, one_front}
+use Rattle.prolly_io.specs.Header.{header_fault, header_tests, version_of}
+use Rattle.prolly_io.specs.declared.format.header.HeaderFault.TheVariants as header_faults
 use Rattle.prolly_look_up.specs.Content.{Content, chunk_bytes}
 use Rattle.prolly_look_up.specs.Entries.{AreWhole, IsWhole}
 use Rattle.prolly_check.specs.FirstFault.{difference, ending_for, order_fault, rises_behind}

@@ -8,10 +8,10 @@ use Rattle.prolly_entry.specs.Pair.{Pair}
 use Rattle.prolly_entry.specs.Position.{Position}
 use Rattle.prolly_entry.specs.declared.version.Version.{Version}
 use Rattle.prolly_entry.specs.lemmas.Lists.{all_back}
-use Rattle.prolly_file.specs.Frame.{framed, has_no_frame, IsSmall}
-use Rattle.prolly_file.specs.FrameLaws.{begins_frame, one_front}
-use Rattle.prolly_file.specs.Header.{header_tests, header_fault, version_of}
-use Rattle.prolly_file.specs.declared.format.header.HeaderFault.{HeaderFault}
+use Rattle.prolly_io.specs.Frame.{framed, has_no_frame, IsSmall}
+use Rattle.prolly_io.specs.FrameLaws.{begins_frame, one_front}
+use Rattle.prolly_io.specs.Header.{header_tests, header_fault, version_of}
+use Rattle.prolly_io.specs.declared.format.header.HeaderFault.{HeaderFault}
 use Rattle.prolly_look_up.specs.Content.{Content}
 use Rattle.prolly_look_up.specs.Entries.{Holds, AreWhole}
 use Rattle.prolly_check.specs.ReadChunks.{IsRead}

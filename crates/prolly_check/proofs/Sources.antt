@@ -1,12 +1,12 @@
 -- What reads leave of a source.
 use Rattle.std.proofs.Common.{◌≡◌, ◌≢◌, ◌↔◌, true, Result, Ok, Err, IfErr, OnOk, IsErrOf, refl, ap}
 use Rattle.std.proofs.Common.{◌∙◌}
-use Rattle.prolly_file.specs.Source.{SourceView}
-use Rattle.prolly_file.specs.declared.device.part_reader.ReadFault.{ReadFault}
-use Rattle.prolly_file.specs.declared.device.part_reader.ReadFault.TheVariants as part
+use Rattle.prolly_io.specs.Source.{SourceView}
+use Rattle.prolly_io.specs.declared.device.part_reader.ReadFault.{ReadFault}
+use Rattle.prolly_io.specs.declared.device.part_reader.ReadFault.TheVariants as part
 use Rattle.prolly_check.specs.Incoming.{Reads, WasRead}
-use Rattle.prolly_file.specs.declared.format.header.HeaderFault.{HeaderFault}
-use Rattle.prolly_file.specs.declared.format.header.HeaderFault.TheVariants as header
+use Rattle.prolly_io.specs.declared.format.header.HeaderFault.{HeaderFault}
+use Rattle.prolly_io.specs.declared.format.header.HeaderFault.TheVariants as header
 use Rattle.prolly_check.specs.Verdict.{fault_of_header, fault_of_read}
 use Rattle.prolly_check.specs.declared.stream.fault.StreamFault.TheVariants as stream
 use Rattle.prolly_check.specs.declared.verdict.fault.CheckFault.{CheckFault}

@@ -22,9 +22,9 @@ use Rattle.prolly_entry.specs.lemmas.Spellings.{reference_length}
 use Rattle.prolly_tree.specs.Chunk.{chunks}
 use Rattle.prolly_tree.specs.File.{header, frame, file}
 use Rattle.prolly_tree.specs.lemmas.Splits.{flat}
-use Rattle.prolly_file.specs.Frame.{framed, IsSmall}
-use Rattle.prolly_file.specs.FrameLaws.{frames_bytes}
-use Rattle.prolly_file.specs.Header.{header_tests, header_fault, version_of}
+use Rattle.prolly_io.specs.Frame.{framed, IsSmall}
+use Rattle.prolly_io.specs.FrameLaws.{frames_bytes}
+use Rattle.prolly_io.specs.Header.{header_tests, header_fault, version_of}
 use Rattle.prolly_look_up.specs.Content.{Content, chunk_bytes, AllApart, IsFileOf}
 use Rattle.prolly_look_up.specs.Entries.{Holds}
 use Rattle.prolly_check.specs.ReadChunks.{AllHold, IsRead}

@@ -8,7 +8,7 @@ use Rattle.std.specs.declared.ops.Range.{Range}
 use Rattle.prolly_entry.specs.Reference.{reference_of}
 use Rattle.prolly_entry.specs.declared.reference.Ref.{Ref}
 use Rattle.prolly_tree.specs.Chunk.{IsIn}
-use Rattle.prolly_file.specs.declared.format.header.Header.{Header}
+use Rattle.prolly_io.specs.declared.format.header.Header.{Header}
 use Rattle.prolly_look_up.specs.Content.{Content, chunks_of, IsFileOf}
 use Rattle.prolly_look_up.specs.Entries.{AreWhole}
 use Rattle.prolly_check.specs.Frames.{IsWithin, chunks_in}

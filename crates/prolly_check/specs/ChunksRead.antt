@@ -7,7 +7,7 @@ use Rattle.prolly_entry.specs.Cut.{sha512_cut}
 use Rattle.prolly_entry.specs.Reference.{reference_of}
 use Rattle.prolly_entry.specs.declared.reference.Ref.{Ref}
 use Rattle.prolly_tree.specs.File.{root_reference}
-use Rattle.prolly_file.specs.Frame.{framed, IsSmall}
+use Rattle.prolly_io.specs.Frame.{framed, IsSmall}
 use Rattle.prolly_look_up.specs.Entries.{AreWhole}
 use Rattle.prolly_check.specs.FirstFault.{last_behind, order_fault}
 use Rattle.prolly_check.specs.FirstFlaw.{IsFlawBehind, MayBegin, flaw_at_end, record_flaw}

@@ -12,9 +12,9 @@ use Rattle.prolly_entry.specs.Prefix.{IsPrefix}
 use Rattle.prolly_entry.specs.declared.reference.Ref.{Ref}
 use Rattle.prolly_entry.specs.declared.version.Version.{Version}
 use Rattle.prolly_tree.specs.File.{file, root_reference}
-use Rattle.prolly_file.specs.Frame.{framed, IsSmall, has_no_frame}
-use Rattle.prolly_file.specs.Header.{header_tests, header_fault, version_of}
-use Rattle.prolly_file.specs.declared.format.header.HeaderFault.{HeaderFault}
+use Rattle.prolly_io.specs.Frame.{framed, IsSmall, has_no_frame}
+use Rattle.prolly_io.specs.Header.{header_tests, header_fault, version_of}
+use Rattle.prolly_io.specs.declared.format.header.HeaderFault.{HeaderFault}
 use Rattle.prolly_look_up.specs.Content.{Content, chunk_bytes}
 use Rattle.prolly_look_up.specs.Entries.{AreWhole, Holds, IsWhole}
 use Rattle.prolly_check.specs.FirstFault.{difference, ending_for, order_fault}

@@ -3,7 +3,7 @@ use Rattle.std.specs.List.{flat_map, AllByRecursion}
 use Rattle.std.specs.Prelude.{◌≡◌, ℕ, ◌-◌, ◌≤◌, List, ◌++◌, length, take, drop, map, true, not}
 use Rattle.std.specs.Prelude.{◌==◌, nat_lt, [], ◌∷◌, Result, Ok, Err, if◌then◌else◌}
 use Rattle.std.specs.declared.ops.Range.{Range}
-use Rattle.prolly_file.specs.Frame.{framed, IsSmall, has_no_frame}
+use Rattle.prolly_io.specs.Frame.{framed, IsSmall, has_no_frame}
 use Rattle.prolly_check.specs.declared.verdict.fault.CheckFault.{CheckFault}
 use Rattle.prolly_check.specs.declared.verdict.fault.CheckFault.TheVariants.{Truncated, Trailing}
 use Rattle.prolly_check.specs.declared.verdict.fault.CheckFault.TheVariants.{BadFrame}

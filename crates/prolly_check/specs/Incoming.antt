@@ -1,8 +1,8 @@
 -- The bytes of a source as they come.
 use Rattle.std.specs.Prelude.{◌≡◌, ◌≢◌, ◌↔◌, ℕ, ◌≤◌, true, List, length, slice_index, Result}
 use Rattle.std.specs.Prelude.{MatchResult}
-use Rattle.prolly_file.specs.Frame.{has_no_frame}
-use Rattle.prolly_file.specs.Source.{SourceView}
+use Rattle.prolly_io.specs.Frame.{has_no_frame}
+use Rattle.prolly_io.specs.Source.{SourceView}
 
 -- There are enough bytes to tell what stands where a frame is due: a whole frame, or something else
 -- than the beginning of one.

@@ -3,10 +3,10 @@ use Rattle.std.specs.Prelude.{◌≡◌, ◌⊎◌, ℕ, ◌<◌, ◌≤◌, ◌
 use Rattle.std.specs.Prelude.{Option, Some, None, Result, Ok, Err}
 use Rattle.prolly_entry.specs.Pair.{Pair}
 use Rattle.prolly_entry.specs.declared.version.Version.{Version}
-use Rattle.prolly_file.specs.Header.{header_tests, header_fault, version_of}
-use Rattle.prolly_file.specs.declared.format.header.HeaderFault.{HeaderFault}
-use Rattle.prolly_file.specs.declared.device.part_reader.ReadFault.{ReadFault}
-use Rattle.prolly_file.specs.declared.device.whole.WholeFault.{WholeFault}
+use Rattle.prolly_io.specs.Header.{header_tests, header_fault, version_of}
+use Rattle.prolly_io.specs.declared.format.header.HeaderFault.{HeaderFault}
+use Rattle.prolly_io.specs.declared.device.part_reader.ReadFault.{ReadFault}
+use Rattle.prolly_io.specs.declared.device.whole.WholeFault.{WholeFault}
 use Rattle.prolly_look_up.specs.Content.{Content, IsFileOf}
 use Rattle.prolly_check.specs.ReadChunks.{IsRead}
 use Rattle.prolly_check.specs.Frames.{IsFramed}
@@ -14,9 +14,9 @@ use Rattle.prolly_check.specs.FirstFault.{judged}
 use Rattle.prolly_check.specs.declared.verdict.fault.CheckFault.{CheckFault}
 use Rattle.prolly_check.specs.declared.verdict.fault.CheckFault.TheVariants.{Memory, Read, TooLong}
 use Rattle.prolly_check.specs.declared.verdict.fault.CheckFault.TheVariants.{BadHeader, Truncated}
-use Rattle.prolly_file.specs.declared.format.header.HeaderFault.TheVariants as header
-use Rattle.prolly_file.specs.declared.device.part_reader.ReadFault.TheVariants as part
-use Rattle.prolly_file.specs.declared.device.whole.WholeFault.TheVariants as whole
+use Rattle.prolly_io.specs.declared.format.header.HeaderFault.TheVariants as header
+use Rattle.prolly_io.specs.declared.device.part_reader.ReadFault.TheVariants as part
+use Rattle.prolly_io.specs.declared.device.whole.WholeFault.TheVariants as whole
 
 -- The fault is want of memory, or it is such a one.
 abbrev pub UnlessMemory : (CheckFault → Type 0) → CheckFault → Type 0

@@ -13,7 +13,7 @@ ghost use Rattle.prolly_check.specs.Verdict.{UnlessMemory};
 
 use crate::verdict::{CheckFault, ChunkDigest, ChunksAhead, chunk_at};
 use prolly_entry::Ref;
-use prolly_file::Header;
+use prolly_io::Header;
 use prolly_look_up::{Pairs, pairs_of};
 use std::alloc::{AllocError, Global};
 use std::marker::Model;

@@ -8,7 +8,7 @@ ghost use Rattle.prolly_chunk.specs.Missing.{chunks_size};
 
 use crate::chunks::{Chunks, Index};
 use prolly_entry::{Ref, Version};
-use prolly_file::Header;
+use prolly_io::Header;
 use prolly_look_up::Pairs;
 use std::marker::Model;
 

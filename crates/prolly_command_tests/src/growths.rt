@@ -15,7 +15,7 @@ use prolly_answer::{
 };
 use prolly_check::OneThread;
 use prolly_entry::{Ref, Version};
-use prolly_file::{FromRead, ScriptSink};
+use prolly_io::{FromRead, ScriptSink};
 use std::alloc::{AllocError, Global};
 use std::process::Abort;
 use std::test::Fail;

@@ -8,10 +8,10 @@ use Rattle.prolly_tree.specs.Chunk.{Chunk}
 use Rattle.prolly_tree.specs.Tree.{level_count}
 use Rattle.prolly_chunk.specs.LeafLevel.{LeafState, LeafTakes}
 use Rattle.prolly_chunk.specs.NodeLevel.{NodeState, NodeTakes}
-use Rattle.prolly_file.specs.declared.scratch_build.file.ScratchFault.{ScratchFault}
-use Rattle.prolly_file.specs.declared.scratch_build.file.ScratchFault.TheVariants.{Memory}
-use Rattle.prolly_file.specs.declared.scratch_build.file.ScratchFault.TheVariants.{OutOfOrder}
-use Rattle.prolly_file.specs.declared.scratch_build.file.ScratchFault.TheVariants.{TooTall}
+use Rattle.prolly_file.specs.declared.scratch_build.ScratchFault.{ScratchFault}
+use Rattle.prolly_file.specs.declared.scratch_build.ScratchFault.TheVariants.{Memory}
+use Rattle.prolly_file.specs.declared.scratch_build.ScratchFault.TheVariants.{OutOfOrder}
+use Rattle.prolly_file.specs.declared.scratch_build.ScratchFault.TheVariants.{TooTall}
 
 -- The tree has more levels than are allowed; want of memory may come anywhere.
 abbrev pub IsLevelFault : Cut → Version → List Pair → ℕ → ScratchFault → Type 0

@@ -8,10 +8,10 @@ use Rattle.prolly_entry.specs.Cut.{Cut}
 use Rattle.prolly_tree.specs.Tree.{level_count}
 use Rattle.prolly_tree.specs.File.{file, root_reference}
 use Rattle.prolly_entry.specs.declared.reference.Ref.{Ref}
-use Rattle.prolly_file.specs.declared.scratch_build.file.ScratchFault.{ScratchFault}
-use Rattle.prolly_file.specs.declared.scratch_build.file.ScratchFault.TheVariants.{Memory}
-use Rattle.prolly_file.specs.declared.scratch_build.file.ScratchFault.TheVariants.{OutOfOrder}
-use Rattle.prolly_file.specs.declared.scratch_build.file.ScratchFault.TheVariants.{TooTall}
+use Rattle.prolly_file.specs.declared.scratch_build.ScratchFault.{ScratchFault}
+use Rattle.prolly_file.specs.declared.scratch_build.ScratchFault.TheVariants.{Memory}
+use Rattle.prolly_file.specs.declared.scratch_build.ScratchFault.TheVariants.{OutOfOrder}
+use Rattle.prolly_file.specs.declared.scratch_build.ScratchFault.TheVariants.{TooTall}
 
 -- The keys of pairs, in their order.
 abbrev pub keys_in : List Pair → List (List ℕ)

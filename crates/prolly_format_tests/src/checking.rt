@@ -3,7 +3,8 @@
 use crate::expect::expect_eq;
 use prolly_check::{CheckFault, Tree, check};
 use prolly_entry::{Pair, Sha512Cut, Version};
-use prolly_file::{FromRead, scratch_as};
+use prolly_file::scratch_as;
+use prolly_io::FromRead;
 use prolly_test_parts::{chunk_file, pairs_of};
 use std::alloc::Global;
 use std::process::Abort;

@@ -1,6 +1,6 @@
 //! Chunk files, and the sources and sinks of bytes.
 use crate::expect::expect_eq;
-use prolly_file::{Sink, SinkFault, Source, SourceFault};
+use prolly_io::{Sink, SinkFault, Source, SourceFault};
 use std::process::Abort;
 
 mod blocks;

@@ -12,9 +12,8 @@ use prolly_entry::{
     Pair, Record, RecordFault, Ref, Sha512Cut, Version, append_child, append_child_as, append_pair,
     append_record, records,
 };
-use prolly_file::{
-    FromRead, ScratchFault, ScriptSink, Sink, SinkFault, WholeFault, read_whole, scratch_as,
-};
+use prolly_file::{ScratchFault, scratch_as};
+use prolly_io::{FromRead, ScriptSink, Sink, SinkFault, WholeFault, read_whole};
 use prolly_look_up::ManyThreads;
 use prolly_range::{ProveFault, SetFault};
 use prolly_root::{Reader, RootFault, Subtree};

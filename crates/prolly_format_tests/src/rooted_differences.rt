@@ -2,7 +2,7 @@
 use crate::expect::{expect_bytes, expect_eq};
 use crate::rooted::Rooted;
 use prolly_entry::{Pair, Version};
-use prolly_file::{Device, ScriptDevice};
+use prolly_io::{Device, ScriptDevice};
 use prolly_root::{FileChunks, RootFault, Subtree};
 use prolly_root_diff::{RootChange, RootDiffFault, RootDifferences};
 use std::alloc::{AllocError, Global};

@@ -6,7 +6,8 @@ mod ranges;
 
 use crate::expect::expect_eq;
 use prolly_entry::{Pair, Ref, Sha512Cut, Version};
-use prolly_file::{ScriptDevice, ScriptSink, ScriptSource, scratch_as};
+use prolly_file::scratch_as;
+use prolly_io::{ScriptDevice, ScriptSink, ScriptSource};
 use prolly_range::{KeySet, ProveFault, SetFault, SetVerifier, SortedKeys, prove_set};
 use prolly_root::FileChunks;
 use std::alloc::{AllocError, Global};

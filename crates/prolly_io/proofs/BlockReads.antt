@@ -6,7 +6,7 @@ use Rattle.std.specs.Prelude.{◌&&◌, min}
 use Rattle.std.specs.Str.{bytes_eq}
 use Rattle.std.proofs.lemmas.List.{drop-drop, drop-take, length-take-le, take-take, take_min}
 use Rattle.std.proofs.lemmas.Slice.Eq.{bytes_eq-Decides}
-use Rattle.prolly_file.specs.BytesLaws.{both_true}
+use Rattle.prolly_io.specs.BytesLaws.{both_true}
 
 -- ---- the test
 

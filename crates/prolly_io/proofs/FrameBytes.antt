@@ -8,7 +8,7 @@ use Rattle.std.proofs.lemmas.Nat.{be_bytes_8}
 use Rattle.std.proofs.lemmas.Bool.{cases_lt}
 use Rattle.std.proofs.lemmas.List.{length-take, length-take-le, get_or-take, get_or_past}
 use Rattle.std.proofs.lemmas.List.{take-append-drop, drop-drop}
-use Rattle.prolly_file.specs.Frame.{framed, BeginsFrame}
+use Rattle.prolly_io.specs.Frame.{framed, BeginsFrame}
 
 abbrev pub IsBytes : List ℕ → Type 0
 IsBytes bytes = (i : ℕ) → get_or bytes i 0 < 256

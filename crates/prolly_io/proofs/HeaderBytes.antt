@@ -4,9 +4,9 @@ use Rattle.std.proofs.Common.{drop, get_or, slice_index, Option, Some, ◌∙◌
 use Rattle.std.proofs.Math.Seq.{drop-cons}
 use Rattle.std.proofs.lemmas.Bool.{cond-true, cond-false}
 use Rattle.std.proofs.lemmas.List.{drop_all}
-use Rattle.prolly_file.specs.declared.format.header.HeaderFault.{HeaderFault}
-use Rattle.prolly_file.specs.declared.format.header.HeaderFault.TheVariants.{BadByte, Truncated}
-use Rattle.prolly_file.specs.Header.{header_fault}
+use Rattle.prolly_io.specs.declared.format.header.HeaderFault.{HeaderFault}
+use Rattle.prolly_io.specs.declared.format.header.HeaderFault.TheVariants.{BadByte, Truncated}
+use Rattle.prolly_io.specs.Header.{header_fault}
 
 -- what is wrong from an offset on
 abbrev pub at : List (ℕ → Bool) → List ℕ → ℕ → Option HeaderFault

@@ -2,10 +2,6 @@
 pub mod ScriptReads
 -- Bytes that are written one part after another.
 pub mod Written
--- Pairs whose keys rise, one pair after another.
-pub mod Rises
--- The levels of a tree, and its file.
-pub mod TreeChunks
 -- Bytes that are read behind the first ones of a buffer.
 pub mod Fronts
 -- Parts of bytes, from one offset to another.

@@ -1,16 +1,16 @@
 -- Bytes that are read behind a part of others.
 use Rattle.std.specs.Prelude.{Bool, true, Result, Ok, Err, IfOk}
 use Rattle.std.specs.Result.{result_unwrap_or}
-use Rattle.prolly_file.specs.Source.{HandsOut}
-use Rattle.prolly_file.specs.ReadBuffer.{Fills}
-use Rattle.prolly_file.specs.declared.device.read_buffer.Span.{Span}
-use Rattle.prolly_file.specs.Span.{part}
+use Rattle.prolly_io.specs.Source.{HandsOut}
+use Rattle.prolly_io.specs.ReadBuffer.{Fills}
+use Rattle.prolly_io.specs.declared.device.read_buffer.Span.{Span}
+use Rattle.prolly_io.specs.Span.{part}
 use Rattle.std.proofs.Common.{◌≡◌, ℕ, ◌+◌, ◌-◌, ◌<◌, ◌≤◌, List, ◌++◌, length, take, drop, sym, ap}
 use Rattle.std.proofs.Common.{◌∙◌, arith}
 use Rattle.std.proofs.lemmas.List.{length-take-le, append-nil, drop-take}
 use Rattle.std.proofs.lemmas.List.{drop-append-le}
 use borrow.Rule.Slice.PartMut.{put_mid}
-use Rattle.prolly_file.proofs.Fronts.{front_is}
+use Rattle.prolly_io.proofs.Fronts.{front_is}
 
 -- A part grows by the first bytes that are put behind it.
 grown : (bytes buf : List ℕ) (unparsed : Span) (k n : ℕ) → unparsed.start ≤ unparsed.end →

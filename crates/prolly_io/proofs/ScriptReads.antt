@@ -5,8 +5,8 @@ use Rattle.std.proofs.lemmas.List.{drop-drop, length-take-le, nil_from_length, t
 use Rattle.std.proofs.lemmas.List.Elements.{All-drop}
 use Rattle.std.proofs.Math.Seq.{take-append_seam, take-length}
 use Rattle.prolly_entry.specs.Byte.{IsByte}
-use Rattle.prolly_file.specs.Bytes.{are_bytes}
-use Rattle.prolly_file.specs.BytesLaws.{bytes_from_test, test_from_bytes}
+use Rattle.prolly_io.specs.Bytes.{are_bytes}
+use Rattle.prolly_io.specs.BytesLaws.{bytes_from_test, test_from_bytes}
 
 -- `&bytes[at..]`
 rest-slice : (bytes : List ℕ) (at : ℕ) → take (length bytes - at) (drop at bytes) ≡ drop at bytes

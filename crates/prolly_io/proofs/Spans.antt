@@ -2,8 +2,8 @@
 use Rattle.std.proofs.Common.{◌≡◌, ℕ, ◌+◌, ◌-◌, ◌≤◌, List, length, take, drop, ◌++◌, Option, Some}
 use Rattle.std.proofs.Common.{None, refl, sym, ap, ◌∙◌, subst, arith}
 use Rattle.std.specs.Option.{option_map}
-use Rattle.prolly_file.specs.declared.device.read_buffer.Span.{Span}
-use Rattle.prolly_file.specs.Span.{part, IsKeptBefore}
+use Rattle.prolly_io.specs.declared.device.read_buffer.Span.{Span}
+use Rattle.prolly_io.specs.Span.{part, IsKeptBefore}
 use Rattle.std.proofs.lemmas.List.{append-nil, drop_all, drop-take, drop-drop, length-take}
 use Rattle.std.proofs.lemmas.List.{take_all, take-take}
 

@@ -2,7 +2,7 @@
 use Rattle.std.proofs.Common.{◌≡◌, ◌∙◌, ◌+◌, ◌-◌, ℕ, List, ◌++◌, ap, append_assoc, arith, drop}
 use Rattle.std.proofs.Common.{length, length-drop, sym, take}
 use Rattle.std.proofs.lemmas.List.{drop-drop, take_all, take-append-drop}
-use Rattle.prolly_file.specs.Sink.{TakesPrefix}
+use Rattle.prolly_io.specs.Sink.{TakesPrefix}
 
 -- All of the bytes but the rest were taken.
 pub record IsWritten (old new bytes rest : List ℕ) : Type 0 where

@@ -1,10 +1,10 @@
 -- What a clause reads of a `Buffered`.
 use Rattle.std.specs.Prelude.{◌≡◌, ℕ, ◌+◌, ◌-◌, ◌≤◌, Bool, true, List, [], ◌++◌, length, drop}
 use Rattle.std.specs.Prelude.{vec_capacity, vec_len, Result, Ok, IfOk, OnOk, OnErr}
-use Rattle.prolly_file.specs.declared.device.sink.SinkFault.{SinkFault}
-use Rattle.prolly_file.specs.Failures.{CountsFailure}
-use Rattle.prolly_file.specs.Sink.{SinkView, Takes, CountsWriteFailure}
-use Rattle.prolly_file.specs.declared.device.buffered.Buffered.{Buffered}
+use Rattle.prolly_io.specs.declared.device.sink.SinkFault.{SinkFault}
+use Rattle.prolly_io.specs.Failures.{CountsFailure}
+use Rattle.prolly_io.specs.Sink.{SinkView, Takes, CountsWriteFailure}
+use Rattle.prolly_io.specs.declared.device.buffered.Buffered.{Buffered}
 
 -- The sink behind the buffer.
 abbrev pub sink_of : {W : Type 0} → Buffered W → W

@@ -7,8 +7,8 @@ use Rattle.std.proofs.lemmas.List.Elements.{All-nil, All-append}
 use Rattle.std.specs.Bool.{Decides}
 use Rattle.std.specs.Prelude.{nat_lt}
 use Rattle.prolly_entry.specs.Byte.{IsByte}
-use Rattle.prolly_file.specs.Bytes.{are_bytes}
-use Rattle.prolly_file.specs.Known.{known_bytes, are_known_bytes}
+use Rattle.prolly_io.specs.Bytes.{are_bytes}
+use Rattle.prolly_io.specs.Known.{known_bytes, are_known_bytes}
 
 -- The test decides whether each number is a byte.
 decided : (numbers : List ℕ) → Decides (are_bytes numbers) (All IsByte numbers)

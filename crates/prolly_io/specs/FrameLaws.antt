@@ -10,7 +10,7 @@ use Rattle.prolly_entry.specs.lemmas.Lists.{Apart, apart, cells}
 use Rattle.prolly_entry.specs.lemmas.Spellings.{eight_bytes}
 use Rattle.prolly_tree.specs.Chunk.{Chunk}
 use Rattle.prolly_tree.specs.File.{frame}
-use Rattle.prolly_file.specs.Frame.{framed, has_no_frame, IsSmall}
+use Rattle.prolly_io.specs.Frame.{framed, has_no_frame, IsSmall}
 
 regroup : (d more : List ℕ) →
     framed d ++ more ≡ 0x43 ∷ (to_be_bytes w64 (length d) ++ (d ++ more))

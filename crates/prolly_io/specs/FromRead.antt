@@ -1,8 +1,8 @@
 -- What a clause reads of a `FromRead`.
 use Rattle.std.specs.Prelude.{ℕ, Bool, false, List, [], Option, if◌then◌else◌}
-use Rattle.prolly_file.specs.Known.{known_bytes, are_known_bytes}
-use Rattle.prolly_file.specs.Source.{SourceView}
-use Rattle.prolly_file.specs.declared.device.from_read.FromRead.{FromRead}
+use Rattle.prolly_io.specs.Known.{known_bytes, are_known_bytes}
+use Rattle.prolly_io.specs.Source.{SourceView}
+use Rattle.prolly_io.specs.declared.device.from_read.FromRead.{FromRead}
 
 -- The reader said that it has no more bytes, so it is asked no more.
 abbrev pub has_ended : {R : Type 0} → FromRead R → Bool

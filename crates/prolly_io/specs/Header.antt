@@ -3,8 +3,8 @@ use Rattle.std.specs.Prelude.{ℕ, Bool, true, nat_le, ◌||◌, ◌==◌, get_o
 use Rattle.std.specs.Prelude.{Some, None, if◌then◌else◌}
 use Rattle.prolly_entry.specs.declared.version.Version.{Version}
 use Rattle.prolly_entry.specs.declared.version.Version.TheVariants.{One, Two}
-use Rattle.prolly_file.specs.declared.format.header.HeaderFault.{HeaderFault}
-use Rattle.prolly_file.specs.declared.format.header.HeaderFault.TheVariants.{BadByte, Truncated}
+use Rattle.prolly_io.specs.declared.format.header.HeaderFault.{HeaderFault}
+use Rattle.prolly_io.specs.declared.format.header.HeaderFault.TheVariants.{BadByte, Truncated}
 
 -- Which bytes may stand at each of its offsets: the letters PRLY, a version, at most 24 bits.
 abbrev pub header_tests : List (ℕ → Bool)

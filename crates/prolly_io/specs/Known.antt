@@ -1,6 +1,6 @@
 -- The bytes of a reader or a writer of std, which tells them or does not.
 use Rattle.std.specs.Prelude.{ℕ, Bool, false, List, [], Option, Some, None, unwrap_or}
-use Rattle.prolly_file.specs.Bytes.{are_bytes}
+use Rattle.prolly_io.specs.Bytes.{are_bytes}
 
 -- The bytes that it tells, or none where it tells nothing.
 abbrev pub known_bytes : Option (List ℕ) → List ℕ

@@ -38,10 +38,6 @@ pub mod FrameLaws
 pub mod EndRecord
 -- How far a writer of a chunk file is.
 pub mod Writer
--- What the plain builder answers.
-pub mod Scratch
--- What making the levels of a tree may come to.
-pub mod Levels
 -- The faults of reading. (This project's rules.)
 pub mod ReadFaults
 -- What is said of faults. (This project's texts.)

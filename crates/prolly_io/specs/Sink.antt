@@ -2,7 +2,7 @@
 use Rattle.std.specs.Prelude.{◌≡◌, ℕ, ◌<◌, Bool, true, List, ◌++◌, length, take, Result}
 use Rattle.std.specs.Prelude.{MatchResult}
 use Rattle.prolly_entry.specs.Prefix.{IsPrefix}
-use Rattle.prolly_file.specs.Failures.{after_failure}
+use Rattle.prolly_io.specs.Failures.{after_failure}
 
 -- What a contract sees of a sink: whether it keeps the bytes that it takes, those that it took so
 -- far, those of them that are where they end up, behind every buffer, and how many of its calls

@@ -1,6 +1,6 @@
 -- Spans of bytes: from one offset to another.
 use Rattle.std.specs.Prelude.{◌≡◌, ℕ, ◌+◌, ◌-◌, ◌≤◌, List, length, take, drop, Option, Some, None}
-use Rattle.prolly_file.specs.declared.device.read_buffer.Span.{Span}
+use Rattle.prolly_io.specs.declared.device.read_buffer.Span.{Span}
 
 -- The bytes of a span.
 abbrev pub part : List ℕ → Span → List ℕ

@@ -4,9 +4,9 @@ use Rattle.std.specs.Prelude.{OnOk, OnErr, IfOk}
 use Rattle.prolly_entry.specs.declared.version.Version.{Version}
 use Rattle.prolly_tree.specs.Events.{greatest_count}
 use Rattle.prolly_tree.specs.File.{header}
-use Rattle.prolly_file.specs.declared.format.writer.WriteFault.{WriteFault}
-use Rattle.prolly_file.specs.Failures.{CountsFailure}
-use Rattle.prolly_file.specs.Sink.{SinkView, TakesPrefix}
+use Rattle.prolly_io.specs.declared.format.writer.WriteFault.{WriteFault}
+use Rattle.prolly_io.specs.Failures.{CountsFailure}
+use Rattle.prolly_io.specs.Sink.{SinkView, TakesPrefix}
 
 -- The number of chunks that it wrote, and whether a call of it failed.
 pub record Progress : Type 0 where

@@ -1,7 +1,7 @@
 -- What comes of writing bytes to a sink.
 use Rattle.std.specs.Prelude.{◌≡◌, ℕ, true, List, ◌++◌, Result, OnOk, OnErr}
-use Rattle.prolly_file.specs.Failures.{CountsFailure}
-use Rattle.prolly_file.specs.Sink.{SinkView, TakesPrefix}
+use Rattle.prolly_io.specs.Failures.{CountsFailure}
+use Rattle.prolly_io.specs.Sink.{SinkView, TakesPrefix}
 
 -- All of the bytes were to be written to a sink that was seen as `old` and is seen as `new`: a sink
 -- that keeps what it takes took them all, or, at an error, some prefix of them, and keeps what it

@@ -3,7 +3,6 @@
 
 mod device;
 mod format;
-mod scratch_build;
 
 pub use device::{
     Blocks, Buffered, Device, FromFile, FromRead, InMemory, PartReader, ReadBuffer, ReadFault,
@@ -16,4 +15,3 @@ pub use format::{
     frame_start, front_frame, read_end, read_header, read_start, write_all, write_frame,
     write_whole,
 };
-pub use scratch_build::{ScratchFault, scratch, scratch_as};

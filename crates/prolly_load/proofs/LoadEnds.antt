@@ -14,7 +14,7 @@ use Rattle.prolly_link.specs.declared.message.End.{End}
 use Rattle.prolly_link.specs.declared.message.End.TheVariants.{Clean, Fault}
 use Rattle.prolly_link.specs.declared.fault.RunFault.{RunFault}
 use Rattle.prolly_link.specs.declared.fault.RunFault.TheVariants as faults
-use Rattle.prolly_file.specs.ReadBuffer.{Held}
+use Rattle.prolly_io.specs.ReadBuffer.{Held}
 use Rattle.prolly_load.specs.Fault.{end_in, fault_of}
 use Rattle.prolly_load.specs.Loaded.{IsReadTo, AreFirstGood, FailsAs, IsLoaded}
 use Rattle.prolly_load.specs.Loading.{IsUnderWay}

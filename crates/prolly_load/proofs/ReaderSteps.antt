@@ -2,14 +2,14 @@
 use Rattle.std.proofs.Common.{◌≡◌, ◌∙◌, ℕ, List, [], ◌∷◌, ◌++◌, Option, None}
 use Rattle.std.proofs.Common.{ap, subst, sym}
 use Rattle.prolly_entry.specs.Record.{Record}
-use Rattle.prolly_file.specs.Source.{SourceView}
+use Rattle.prolly_io.specs.Source.{SourceView}
 use Rattle.prolly_link.specs.Growth.{rest_is}
 use Rattle.prolly_link.specs.Progress.{HasEnded}
 use Rattle.prolly_link.specs.declared.fault.RunFault.TheVariants.{Memory}
 use Rattle.prolly_link.specs.declared.message.End.{End}
 use Rattle.prolly_link.specs.declared.message.End.TheVariants.{Fault}
 use Rattle.prolly_link.specs.declared.message.Progress.TheVariants.{Open}
-use Rattle.prolly_file.specs.ReadBuffer.{Held}
+use Rattle.prolly_io.specs.ReadBuffer.{Held}
 use Rattle.prolly_load.specs.Reader.{ComesTo, HasGiven, HasGivenFirst, IsLaterReading, IsOpen}
 use Rattle.prolly_load.specs.Reader.{IsReading, Reading}
 use Rattle.prolly_load.specs.lemmas.Readers.{memory_is_no_read}

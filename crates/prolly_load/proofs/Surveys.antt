@@ -16,7 +16,7 @@ use Rattle.prolly_laws.specs.Readings.{begins_all, ends_clean, ends_flawed, ends
 use Rattle.prolly_load.specs.declared.tally.FlawedRecord.{FlawedRecord}
 use Rattle.prolly_load.specs.declared.tally.Survey.{Survey}
 use Rattle.prolly_load.specs.declared.tally.Tally.{Tally}
-use Rattle.prolly_file.specs.ReadBuffer.{Held, Gains, GainsNothing}
+use Rattle.prolly_io.specs.ReadBuffer.{Held, Gains, GainsNothing}
 use Rattle.prolly_load.specs.Loaded.{ShowsNoFlaw}
 use Rattle.prolly_load.specs.Skipped.{PassesRecord}
 use Rattle.prolly_load.specs.Survey.{IsSurvey, key_bytes, told_key}

@@ -11,7 +11,7 @@ use Rattle.prolly_entry.specs.Reading.{Begins}
 use Rattle.prolly_entry.specs.Spelling.{record_spelling}
 use Rattle.prolly_entry.specs.NextRecord.{IsNext, IsUndecided, IsFlawed}
 use Rattle.prolly_laws.specs.Readings.{begins_more, begins_none, last_more}
-use Rattle.prolly_file.specs.ReadBuffer.{Held, Gains, GainsNothing}
+use Rattle.prolly_io.specs.ReadBuffer.{Held, Gains, GainsNothing}
 use Rattle.prolly_load.specs.Loading.{IsUnderWay}
 use Rattle.prolly_load.specs.declared.loader.Taken.{Taken}
 use Rattle.prolly_load.specs.declared.loader.Taken.TheVariants as takes

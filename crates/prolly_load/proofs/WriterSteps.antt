@@ -4,9 +4,9 @@ use Rattle.std.proofs.Common.{refl, sym, ap, ◌∙◌, subst, arith, append_ass
 use Rattle.std.proofs.lemmas.List.Concat.{flat_map-append}
 use Rattle.prolly_entry.specs.Record.{Record}
 use Rattle.prolly_entry.specs.Spelling.{record_spelling}
-use Rattle.prolly_file.specs.Failures.{after_failure}
-use Rattle.prolly_file.specs.Sink.{SinkView, IsSettled, TakesPrefix}
-use Rattle.prolly_file.specs.Writes.{Writes}
+use Rattle.prolly_io.specs.Failures.{after_failure}
+use Rattle.prolly_io.specs.Sink.{SinkView, IsSettled, TakesPrefix}
+use Rattle.prolly_io.specs.Writes.{Writes}
 use Rattle.prolly_load.specs.Writer.{AreWritten, IsWritten, Writing, outcome, spellings}
 
 -- ---- one write behind another

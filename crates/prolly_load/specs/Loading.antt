@@ -7,7 +7,7 @@ use Rattle.prolly_entry.specs.Record.{Record}
 use Rattle.prolly_link.specs.declared.message.End.{End}
 use Rattle.prolly_link.specs.declared.message.End.TheVariants.{Fault}
 use Rattle.prolly_link.specs.declared.fault.RunFault.TheVariants.{Memory}
-use Rattle.prolly_file.specs.ReadBuffer.{Held}
+use Rattle.prolly_io.specs.ReadBuffer.{Held}
 use Rattle.prolly_load.specs.Loaded.{IsLoaded}
 
 -- Some records are sent: they begin the bytes that were handed out, and behind them are the

@@ -5,7 +5,7 @@ use Rattle.prolly_entry.specs.Keys.{Rising}
 use Rattle.prolly_entry.specs.Prefix.{IsPrefix}
 use Rattle.prolly_entry.specs.Record.{Record, IsRecord, keys_of}
 use Rattle.prolly_entry.specs.Spelling.{record_spelling}
-use Rattle.prolly_file.specs.Source.{SourceView}
+use Rattle.prolly_io.specs.Source.{SourceView}
 use Rattle.prolly_link.specs.Identity.{no_link}
 use Rattle.prolly_link.specs.LaterReceiver.{IsLater}
 use Rattle.prolly_link.specs.Progress.{HasEnded}
@@ -15,7 +15,7 @@ use Rattle.prolly_link.specs.declared.message.End.TheVariants.{Clean, Fault}
 use Rattle.prolly_link.specs.declared.fault.RunFault.TheVariants.{Read, Memory}
 use Rattle.prolly_link.specs.declared.message.Progress.{Progress}
 use Rattle.prolly_link.specs.declared.message.Progress.TheVariants.{Open, Ended, Lost}
-use Rattle.prolly_file.specs.ReadBuffer.{Held}
+use Rattle.prolly_io.specs.ReadBuffer.{Held}
 use Rattle.prolly_load.specs.Loaded.{IsLoaded}
 use Rattle.prolly_load.specs.Loading.{IsUnderWay}
 

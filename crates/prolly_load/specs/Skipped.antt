@@ -5,7 +5,7 @@ use Rattle.prolly_entry.specs.Record.{Record as RecordValue}
 use Rattle.prolly_entry.specs.Spelling.{record_spelling}
 use Rattle.prolly_load.specs.declared.surveyor.Skipped.{Skipped}
 use Rattle.prolly_load.specs.declared.surveyor.Skipped.TheVariants.{Record, Nothing, Flawed}
-use Rattle.prolly_file.specs.ReadBuffer.{Held}
+use Rattle.prolly_io.specs.ReadBuffer.{Held}
 use Rattle.prolly_load.specs.Survey.{is_removal}
 use Rattle.prolly_load.specs.Taken.{TakesRecord}
 

@@ -4,7 +4,7 @@ use Rattle.prolly_entry.specs.Record.{Record as RecordValue}
 use Rattle.prolly_entry.specs.NextRecord.{IsNext, IsUndecided, IsFlawed}
 use Rattle.prolly_load.specs.declared.loader.Taken.{Taken}
 use Rattle.prolly_load.specs.declared.loader.Taken.TheVariants.{Record, Nothing, Flawed}
-use Rattle.prolly_file.specs.ReadBuffer.{Held}
+use Rattle.prolly_io.specs.ReadBuffer.{Held}
 
 -- The next good record was taken: its bytes are gone from the unparsed ones, and its key is kept.
 pub record TakesRecord (limit count : ℕ) (old new : Held) (r : RecordValue) : Type 0 where

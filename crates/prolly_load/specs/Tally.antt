@@ -8,7 +8,7 @@ use Rattle.prolly_entry.specs.Reading.{key_length}
 use Rattle.prolly_load.specs.declared.tally.FlawedRecord.{FlawedRecord}
 use Rattle.prolly_load.specs.declared.tally.Survey.{Survey}
 use Rattle.prolly_load.specs.declared.tally.Tally.{Tally}
-use Rattle.prolly_file.specs.ReadBuffer.{Held}
+use Rattle.prolly_io.specs.ReadBuffer.{Held}
 use Rattle.prolly_load.specs.Survey.{IsSurvey, key_bytes, told_key}
 
 -- The key of a record with this flaw is whole, where the flaw lies behind it.

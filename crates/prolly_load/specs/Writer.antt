@@ -3,8 +3,8 @@ use Rattle.std.specs.Prelude.{◌≡◌, ◌≤◌, ℕ, Bool, true, false, List
 use Rattle.std.specs.List.{flat_map}
 use Rattle.prolly_entry.specs.Record.{Record}
 use Rattle.prolly_entry.specs.Spelling.{record_spelling}
-use Rattle.prolly_file.specs.Sink.{SinkView, IsSettled, TakesPrefix}
-use Rattle.prolly_file.specs.Writes.{Writes}
+use Rattle.prolly_io.specs.Sink.{SinkView, IsSettled, TakesPrefix}
+use Rattle.prolly_io.specs.Writes.{Writes}
 use Rattle.prolly_link.specs.Identity.{LinkId, sink_link}
 use Rattle.prolly_link.specs.declared.message.End.{End}
 

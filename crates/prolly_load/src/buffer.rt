@@ -1,6 +1,6 @@
 //! The buffer that records are parsed in.
 use prolly_entry::{KEY_LIMIT, VALUE_LIMIT};
-use prolly_file::ReadBuffer;
+use prolly_io::ReadBuffer;
 
 /// The size of the longest record: two lengths, a key and a value.
 const RECORD_BYTES: usize = 6 + KEY_LIMIT + VALUE_LIMIT;

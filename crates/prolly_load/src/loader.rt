@@ -11,7 +11,7 @@ ghost use Rattle.prolly_load.specs.Fault.{end_in, fault_of};
 
 use crate::buffer::Buffer;
 use prolly_entry::{Flaw, KEY_START, NextRecord, Pair, Record, RecordAt, next_record};
-use prolly_file::Source;
+use prolly_io::Source;
 use prolly_link::{End, Out, RunFault};
 use std::alloc::{AllocError, Global};
 use std::sync::Wait;

@@ -6,7 +6,7 @@ use crate::buffer::Buffer;
 use crate::loader::next_of;
 use crate::passed::Passed;
 use prolly_entry::Record;
-use prolly_file::Source;
+use prolly_io::Source;
 use prolly_link::{End, In, Next};
 use std::alloc::{AllocError, Global};
 use std::marker::Model;

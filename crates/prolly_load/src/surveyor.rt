@@ -8,7 +8,7 @@ ghost use Rattle.prolly_load.specs.Skipped.{Skips};
 use crate::buffer::Buffer;
 use crate::tally::{Survey, Tally, copied, flawed_record};
 use prolly_entry::{Flaw, KEY_START, NextRecord, next_record};
-use prolly_file::{Source, SourceFault};
+use prolly_io::{Source, SourceFault};
 use std::alloc::{AllocError, Global};
 
 /// What the bytes that a source has left hold, as a record file of which at most `limit` records

@@ -1,12 +1,12 @@
 //! A record file as an end that records go into.
 ghost use Rattle.std.specs.Prelude.{◌≡◌, [], true, false, length, min};
-ghost use Rattle.prolly_file.specs.Sink.{IsSettled};
-ghost use Rattle.prolly_file.specs.Writes.{Writes};
+ghost use Rattle.prolly_io.specs.Sink.{IsSettled};
+ghost use Rattle.prolly_io.specs.Writes.{Writes};
 ghost use Rattle.prolly_load.specs.Writer.{IsWritten, new_writing, outcome};
 
 use crate::passed::Passed;
 use prolly_entry::{Record, append_record};
-use prolly_file::{Sink, write_all};
+use prolly_io::{Sink, write_all};
 use prolly_link::{End, Out};
 use std::alloc::Global;
 use std::marker::Model;

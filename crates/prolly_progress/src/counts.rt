@@ -4,7 +4,7 @@ ghost use Rattle.std.specs.Io.Iter.{u64_saturate};
 ghost use Rattle.std.specs.Duration.{as_nanos};
 
 use crate::progress::Progress;
-use prolly_file::{Sink, SinkFault, Source, SourceFault};
+use prolly_io::{Sink, SinkFault, Source, SourceFault};
 use prolly_stage::{Gate, OLD_TREE, Worker};
 use std::sync::Wait;
 use std::sync::atomic::{AtomicU64, Ordering};

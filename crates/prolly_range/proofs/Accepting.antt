@@ -10,8 +10,8 @@ use Rattle.prolly_look_up.specs.Way.{FallsTo, IsNamed}
 use Rattle.prolly_look_up.specs.lemmas.Ways.{no_flaw}
 use Rattle.prolly_entry.specs.Pair.{Pair}
 use Rattle.prolly_entry.specs.declared.version.Version.{Version}
-use Rattle.prolly_file.specs.Frame.{framed, IsSmall}
-use Rattle.prolly_file.specs.FrameLaws.{begins_frame, one_front}
+use Rattle.prolly_io.specs.Frame.{framed, IsSmall}
+use Rattle.prolly_io.specs.FrameLaws.{begins_frame, one_front}
 use Rattle.prolly_root.specs.ProofFault.{IsFrameFault}
 use Rattle.prolly_root.specs.declared.proof.fault.ProofFault.{ProofFault}
 use Rattle.prolly_root.specs.declared.proof.fault.ProofFault.TheVariants as proofs

@@ -2,7 +2,7 @@
 use Rattle.std.proofs.Common.{◌≡◌, ℕ, ◌≤◌, ◌+◌, List, length, take, drop, arith}
 use Rattle.std.proofs.lemmas.Grind.{common_steps}
 use Rattle.std.specs.Int.{w64, from_be_bytes}
-use Rattle.prolly_file.specs.Frame.{BeginsFrame}
+use Rattle.prolly_io.specs.Frame.{BeginsFrame}
 use Rattle.prolly_range.specs.Frames.{IsFrameOf}
 
 -- They begin with it, and its own first nine tell that there are no more.

@@ -12,7 +12,7 @@ use Rattle.prolly_look_up.specs.Entries.{first_child}
 use Rattle.prolly_look_up.specs.Kinds.{Entries, kind_of}
 use Rattle.prolly_look_up.specs.Kinds.Entries.{Leaf, Node}
 use Rattle.prolly_look_up.specs.Way.{FallsTo, level_of}
-use Rattle.prolly_file.specs.Frame.{IsSmall}
+use Rattle.prolly_io.specs.Frame.{IsSmall}
 use Rattle.prolly_range.specs.KeySet.{KeySet, Met, met_first, met_in, part_behind, part_below}
 use Rattle.prolly_range.specs.SetProof.{Due, Takes, child_due, due_below}
 use Rattle.prolly_range.specs.ToGo.{bound_of, to_go, weight}

@@ -1,6 +1,6 @@
 -- The frames of a proof, as they come.
 use Rattle.std.specs.Prelude.{◌≡◌, ℕ, List}
-use Rattle.prolly_file.specs.Frame.{framed, IsSmall}
+use Rattle.prolly_io.specs.Frame.{framed, IsSmall}
 use Rattle.prolly_root.specs.ProofFault.{IsFrameFault}
 use Rattle.prolly_range.specs.declared.fault.SetFault.{SetFault}
 use Rattle.prolly_range.specs.declared.fault.SetFault.TheVariants.{Memory, Proof, Read, Stopped}

@@ -11,7 +11,7 @@ use Rattle.prolly_entry.specs.Cut.{sha512_cut}
 use Rattle.prolly_entry.specs.Pair.{Pair, IsPair}
 use Rattle.prolly_entry.specs.Version.{version_byte}
 use Rattle.prolly_entry.specs.declared.version.Version.{Version}
-use Rattle.prolly_file.specs.Frame.{framed, IsSmall}
+use Rattle.prolly_io.specs.Frame.{framed, IsSmall}
 use Rattle.prolly_tree.specs.Difference.{IsMap}
 use Rattle.prolly_tree.specs.File.{root_reference}
 use Rattle.prolly_tree.specs.Tree.{Tree, bytes_of, greatest_key, tree_of}

@@ -3,9 +3,9 @@ use Rattle.std.specs.Prelude.{◌≡◌, ℕ, ◌⊎◌, Bool, true, List, [], �
 use Rattle.std.specs.List.{AllByRecursion, flat_map}
 use Rattle.prolly_entry.specs.Pair.{Pair}
 use Rattle.prolly_entry.specs.declared.version.Version.{Version}
-use Rattle.prolly_file.specs.Frame.{framed, IsSmall}
-use Rattle.prolly_file.specs.declared.device.part_reader.ReadFault.{ReadFault}
-use Rattle.prolly_file.specs.declared.device.part_reader.ReadFault.TheVariants as part
+use Rattle.prolly_io.specs.Frame.{framed, IsSmall}
+use Rattle.prolly_io.specs.declared.device.part_reader.ReadFault.{ReadFault}
+use Rattle.prolly_io.specs.declared.device.part_reader.ReadFault.TheVariants as part
 use Rattle.prolly_root.specs.ProofFault.{IsChunkFault, IsFrameFault}
 use Rattle.prolly_root.specs.declared.proof.fault.ProofFault.{ProofFault}
 use Rattle.prolly_root.specs.declared.proof.fault.ProofFault.TheVariants as proofs

@@ -2,7 +2,7 @@
 ghost use Rattle.std.specs.Prelude.{[], ◌∷◌, IfErr, IfOk, OnErr, OnOk};
 ghost use Rattle.prolly_look_up.specs.Content.{Content, IsFileOf};
 ghost use Rattle.prolly_entry.specs.Cut.{sha512_cut};
-ghost use Rattle.prolly_file.specs.Sink.{IsSettled};
+ghost use Rattle.prolly_io.specs.Sink.{IsSettled};
 ghost use Rattle.prolly_root.specs.ProofFile.{IsProofOf};
 ghost use Rattle.prolly_tree.specs.File.{root_reference};
 ghost use Rattle.prolly_range.specs.KeySet.{set_of};
@@ -13,7 +13,7 @@ use crate::key_set::KeySet;
 use crate::prove_fault::ProveFault;
 use crate::prover::prove_set;
 use prolly_check::Tree;
-use prolly_file::{InMemory, Sink};
+use prolly_io::{InMemory, Sink};
 use prolly_root::{FileChunks, proof_of};
 use std::alloc::{AllocError, Global};
 

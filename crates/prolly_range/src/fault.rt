@@ -1,7 +1,7 @@
 //! Why a proof of a set of keys shows nothing more.
 ghost use Rattle.std.specs.Prelude.{◌≡◌};
 
-use prolly_file::ReadFault;
+use prolly_io::ReadFault;
 use prolly_root::ProofFault;
 use std::alloc::AllocError;
 use std::error::Error;

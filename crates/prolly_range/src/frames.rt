@@ -5,7 +5,7 @@ ghost use Rattle.std.specs.Int.{w64, from_be_bytes};
 ghost use Rattle.prolly_range.specs.Frames.{IsFrameOf, IsNoFrame};
 
 use crate::fault::SetFault;
-use prolly_file::{CHUNK_LIMIT, FRAME_LETTER, FRAME_START, PartReader, Source, frame_at};
+use prolly_io::{CHUNK_LIMIT, FRAME_LETTER, FRAME_START, PartReader, Source, frame_at};
 use prolly_root::ProofFault;
 use std::alloc::Global;
 

@@ -1,7 +1,7 @@
 //! Why the proof of a set of keys was not written.
 ghost use Rattle.std.specs.Prelude.{◌≡◌};
 
-use prolly_file::{SinkFault, WriteFault};
+use prolly_io::{SinkFault, WriteFault};
 use prolly_root::RootFault;
 use std::alloc::AllocError;
 use std::error::Error;

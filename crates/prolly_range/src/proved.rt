@@ -6,7 +6,7 @@ ghost use Rattle.prolly_range.specs.KeySet.{pairs_wanted, set_of};
 
 use crate::key_set::KeySet;
 use prolly_entry::Version;
-use prolly_file::FRAME_START;
+use prolly_io::FRAME_START;
 use prolly_look_up::{Pairs, pairs_of};
 use std::marker::Model;
 

@@ -2,7 +2,7 @@
 ghost use Rattle.std.specs.Prelude.{◌≡◌, ◌≢◌, ◌↔◌, ◌++◌, [], ◌∷◌, true, false, map};
 ghost use Rattle.std.specs.Prelude.{ℕ, Err, IfErr, IfOk, IsErrOf, MatchOption, OnErr, OnOk};
 ghost use Rattle.prolly_entry.specs.declared.version.Version.{Version as VersionValue};
-ghost use Rattle.prolly_file.specs.Writer.{next_count};
+ghost use Rattle.prolly_io.specs.Writer.{next_count};
 ghost use Rattle.prolly_look_up.specs.Way.{FallsTo, IsNamed};
 ghost use Rattle.prolly_root.specs.ProofFault.{IsChunkFault};
 ghost use Rattle.prolly_range.specs.Dues.{due_of};
@@ -20,7 +20,7 @@ use crate::key_set::KeySet;
 use crate::proved::ProvedChunk;
 use crate::start::{PROOF_START, test_start};
 use prolly_entry::{Ref, Version};
-use prolly_file::{FRAME_START, PartReader, Source};
+use prolly_io::{FRAME_START, PartReader, Source};
 use prolly_look_up::test_chunk;
 use prolly_root::ProofFault;
 use std::alloc::{AllocError, Global};
@@ -36,7 +36,7 @@ use std::marker::Model;
 /// gives.
 ///
 /// Memory is taken for one chunk, as its bytes come, and for the references of the children in which
-/// keys are sought of the nodes above it. A chunk longer than [`CHUNK_LIMIT`](prolly_file::CHUNK_LIMIT)
+/// keys are sought of the nodes above it. A chunk longer than [`CHUNK_LIMIT`](prolly_io::CHUNK_LIMIT)
 /// is told as want of memory.
 #[derive(Drop)]
 pub struct SetVerifier<'a> {

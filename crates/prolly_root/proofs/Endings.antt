@@ -11,8 +11,8 @@ use Rattle.prolly_root.specs.declared.file.named_root_fault.NamedRootFault.{Name
 use Rattle.prolly_root.specs.declared.file.named_root_fault.NamedRootFault.TheVariants as faults
 use Rattle.prolly_entry.specs.Cut.{sha512_cut}
 use Rattle.prolly_entry.specs.declared.reference.Ref.{Ref}
-use Rattle.prolly_file.specs.EndRecord.{IsNoEnd, NamesRoot}
-use Rattle.prolly_file.specs.Frame.{framed}
+use Rattle.prolly_io.specs.EndRecord.{IsNoEnd, NamesRoot}
+use Rattle.prolly_io.specs.Frame.{framed}
 use Rattle.prolly_tree.specs.Chunk.{chunks}
 use Rattle.prolly_tree.specs.File.{root_reference}
 use Rattle.prolly_root.specs.NamedRoot.{NamesRootOf, TellsRoot, last_bytes}

@@ -7,7 +7,7 @@ use Rattle.std.proofs.lemmas.List.{take_all, take_more, length-append, same_from
 use Rattle.std.proofs.lemmas.List.Concat.{flat_map-append}
 use Rattle.prolly_entry.specs.declared.version.Version.{Version}
 use Rattle.prolly_entry.specs.lemmas.Lists.{all_append, all_back, all_front}
-use Rattle.prolly_file.specs.Frame.{framed, IsSmall, has_no_frame}
+use Rattle.prolly_io.specs.Frame.{framed, IsSmall, has_no_frame}
 use Rattle.prolly_root.specs.ProofFile.{proof_file, IsProof, proof_start, ProofsSayOne}
 use Rattle.std.proofs.lemmas.Bool.{false≢true}
 use Rattle.std.specs.Int.{w64, to_be_bytes}
@@ -26,7 +26,7 @@ use Rattle.std.specs.Borrow.{Bor}
 use Rattle.std.specs.Prelude.{IfErr}
 use Rattle.prolly_look_up.specs.lemmas.Ways.{no_flaw, no_way_on, one_way_on}
 use Rattle.prolly_entry.specs.declared.version.Version.TheVariants.{One, Two}
-use Rattle.prolly_file.specs.FrameLaws.{begins_frame, one_front}
+use Rattle.prolly_io.specs.FrameLaws.{begins_frame, one_front}
 use Rattle.prolly_root.specs.declared.proof.fault.ProofFault.TheVariants as faults
 
 -- ---- appending the frames

@@ -22,7 +22,7 @@ use Rattle.prolly_root.specs.declared.root_fault.RootFault.{RootFault}
 use Rattle.prolly_root.specs.lemmas.Places.{level_is}
 use Rattle.prolly_root.proofs.Walking.{IsLower, all_lower, top_last, apart, behind}
 use Rattle.prolly_root.proofs.Walking.{ending, front, front_length}
-use Rattle.prolly_file.specs.Frame.{framed}
+use Rattle.prolly_io.specs.Frame.{framed}
 use Rattle.prolly_root.specs.ChunkSource.{IsChildNumber, root_level, root_tree}
 use Rattle.prolly_root.specs.declared.file.walk.Frame.{Frame}
 

@@ -15,14 +15,14 @@ use Rattle.prolly_entry.specs.Cut.{sha512_cut}
 use Rattle.prolly_entry.specs.declared.version.Version.{Version}
 use Rattle.prolly_entry.specs.lemmas.Lists.{all_append, all_back}
 use Rattle.prolly_entry.specs.lemmas.Spellings.{reference_length}
-use Rattle.prolly_file.specs.Frame.{framed}
-use Rattle.prolly_file.specs.FrameLaws.{frames_bytes}
-use Rattle.prolly_file.specs.declared.format.frame.FrameStart.{FrameStart}
-use Rattle.prolly_file.specs.declared.format.frame.FrameStart.TheVariants.{Chunk as ChunkStart, End}
+use Rattle.prolly_io.specs.Frame.{framed}
+use Rattle.prolly_io.specs.FrameLaws.{frames_bytes}
+use Rattle.prolly_io.specs.declared.format.frame.FrameStart.{FrameStart}
+use Rattle.prolly_io.specs.declared.format.frame.FrameStart.TheVariants.{Chunk as ChunkStart, End}
 use Rattle.prolly_tree.specs.Chunk.{Chunk, chunk_of, chunks, post_order}
 use Rattle.prolly_tree.specs.File.{end_record, header, root_reference}
 use Rattle.prolly_tree.specs.Tree.{Tree, bytes_of, tree_of}
-use Rattle.prolly_file.specs.Device.{DeviceView}
+use Rattle.prolly_io.specs.Device.{DeviceView}
 use Rattle.prolly_root.specs.Walk.{GoesOver, HoldsFile, IsFrame, IsStartOf, IsWalk}
 use Rattle.prolly_root.specs.Walk.{NoneBetween, StaysSame, chunks_below, chunks_of_tree, offset_of}
 use Rattle.prolly_root.specs.declared.root_fault.RootFault.{RootFault}

@@ -8,15 +8,15 @@ use Rattle.prolly_root.specs.declared.file.named_root_fault.NamedRootFault.TheVa
 use Rattle.prolly_root.specs.declared.file.named_root_fault.NamedRootFault.TheVariants.{Read, Truncated}
 use Rattle.prolly_entry.specs.Cut.{sha512_cut}
 use Rattle.prolly_entry.specs.declared.reference.Ref.{Ref}
-use Rattle.prolly_file.specs.EndRecord.{IsNoEnd, NamesRoot}
-use Rattle.prolly_file.specs.Failures.{after_failure}
-use Rattle.prolly_file.specs.Header.{header_fault, header_tests, version_of}
-use Rattle.prolly_file.specs.declared.format.header.Header.{Header}
-use Rattle.prolly_file.specs.declared.format.header.HeaderFault.TheVariants as header_faults
+use Rattle.prolly_io.specs.EndRecord.{IsNoEnd, NamesRoot}
+use Rattle.prolly_io.specs.Failures.{after_failure}
+use Rattle.prolly_io.specs.Header.{header_fault, header_tests, version_of}
+use Rattle.prolly_io.specs.declared.format.header.Header.{Header}
+use Rattle.prolly_io.specs.declared.format.header.HeaderFault.TheVariants as header_faults
 use Rattle.prolly_root.specs.RootFault.{OnlyRead}
 use Rattle.prolly_root.specs.declared.root_fault.RootFault.{RootFault}
 use Rattle.prolly_root.specs.declared.root_fault.RootFault.TheVariants as roots
-use Rattle.prolly_file.specs.declared.format.header.HeaderFault.{HeaderFault}
+use Rattle.prolly_io.specs.declared.format.header.HeaderFault.{HeaderFault}
 use Rattle.prolly_tree.specs.File.{root_reference}
 
 -- ---- the header

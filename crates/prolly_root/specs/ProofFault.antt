@@ -8,7 +8,7 @@ use Rattle.prolly_look_up.specs.Way.{Lead, LevelsFall, level_of}
 use Rattle.prolly_look_up.specs.declared.step.ChunkFlaw.{ChunkFlaw}
 use Rattle.prolly_look_up.specs.declared.step.ChunkFlaw.TheVariants as flaws
 use Rattle.prolly_entry.specs.declared.version.Version.{Version}
-use Rattle.prolly_file.specs.Frame.{framed, has_no_frame, IsSmall}
+use Rattle.prolly_io.specs.Frame.{framed, has_no_frame, IsSmall}
 use Rattle.prolly_root.specs.ProofFile.{IsProof, proof_file, proof_start}
 use Rattle.prolly_root.specs.declared.proof.fault.ProofFault.{ProofFault}
 use Rattle.prolly_root.specs.declared.proof.fault.ProofFault.TheVariants as faults

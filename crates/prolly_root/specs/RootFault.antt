@@ -1,6 +1,6 @@
 -- What a look-up by a root may tell.
 use Rattle.std.specs.Prelude.{◌≡◌, ℕ, ◌⊎◌, Result, Ok, Err}
-use Rattle.prolly_file.specs.Failures.{after_failure}
+use Rattle.prolly_io.specs.Failures.{after_failure}
 use Rattle.prolly_root.specs.declared.root_fault.RootFault.{RootFault}
 use Rattle.prolly_root.specs.declared.root_fault.RootFault.TheVariants.{Memory, Read}
 

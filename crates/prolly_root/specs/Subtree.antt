@@ -2,7 +2,7 @@
 use Rattle.std.specs.Prelude.{◌≡◌, ℕ, suc, ◌-◌, ◌+◌, List, ◌++◌, length, Option, None, Some}
 use Rattle.std.specs.Prelude.{IfSome, Result, Ok, Err}
 use Rattle.prolly_look_up.specs.Content.{chunks_of, Content}
-use Rattle.prolly_file.specs.Device.{DeviceView}
+use Rattle.prolly_io.specs.Device.{DeviceView}
 use Rattle.prolly_tree.specs.Tree.{Tree}
 use Rattle.prolly_root.specs.Marks.{AreMarks}
 use Rattle.prolly_root.specs.RootFault.{OnlyRead}

@@ -6,10 +6,10 @@ use Rattle.prolly_look_up.specs.Content.{chunks_of, Content, nth_chunk, IsFileOf
 use Rattle.prolly_look_up.specs.Way.{level_of}
 use Rattle.prolly_entry.specs.Cut.{sha512_cut}
 use Rattle.prolly_entry.specs.declared.version.Version.{Version}
-use Rattle.prolly_file.specs.Device.{DeviceView}
-use Rattle.prolly_file.specs.Frame.{framed}
-use Rattle.prolly_file.specs.declared.format.frame.FrameStart.{FrameStart}
-use Rattle.prolly_file.specs.declared.format.frame.FrameStart.TheVariants.{Chunk, End}
+use Rattle.prolly_io.specs.Device.{DeviceView}
+use Rattle.prolly_io.specs.Frame.{framed}
+use Rattle.prolly_io.specs.declared.format.frame.FrameStart.{FrameStart}
+use Rattle.prolly_io.specs.declared.format.frame.FrameStart.TheVariants.{Chunk, End}
 use Rattle.prolly_root.specs.RootFault.{OnlyRead, TellsReads}
 use Rattle.prolly_root.specs.declared.root_fault.RootFault.{RootFault}
 use Rattle.prolly_root.specs.declared.file.walk.Frame.{Frame}

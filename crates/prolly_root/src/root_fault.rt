@@ -2,7 +2,7 @@
 ghost use Rattle.std.specs.Prelude.{◌≡◌};
 
 use prolly_entry::FaultText;
-use prolly_file::SourceFault;
+use prolly_io::SourceFault;
 use prolly_look_up::ChunkFlaw;
 use std::alloc::AllocError;
 use std::error::Error;

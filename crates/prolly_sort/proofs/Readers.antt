@@ -9,7 +9,7 @@ use Rattle.prolly_entry.specs.Overlay.{AllRising, raw_overlay, with_record, with
 use Rattle.prolly_entry.specs.Overlay.{with_records}
 use Rattle.prolly_entry.specs.Record.{IsRecord, Record, keys_of}
 use Rattle.prolly_entry.specs.lemmas.Lists.{all_back, all_front}
-use Rattle.prolly_file.specs.Source.{SourceView}
+use Rattle.prolly_io.specs.Source.{SourceView}
 use Rattle.prolly_link.specs.Growth.{items_between}
 use Rattle.prolly_link.specs.Identity.{no_link}
 use Rattle.prolly_link.specs.Progress.{end_given}

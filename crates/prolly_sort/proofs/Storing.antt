@@ -3,7 +3,7 @@ use Rattle.std.proofs.Common.{◌≡◌, List, [], ◌∷◌, ◌++◌, flat_map
 use Rattle.std.proofs.Common.{append-nil}
 use Rattle.std.proofs.lemmas.List.Concat.{flat_map-append}
 use Rattle.prolly_entry.specs.Record.{Record}
-use Rattle.prolly_file.specs.Source.{SourceView}
+use Rattle.prolly_io.specs.Source.{SourceView}
 use Rattle.prolly_merge.specs.Each.{Each}
 use Rattle.prolly_sort.specs.declared.key_rule.KeyRule.{KeyRule}
 use Rattle.prolly_sort.specs.declared.stored_runs.StoredRun.{StoredRun}

@@ -4,9 +4,9 @@ use Rattle.std.proofs.Common.{ap, sym, ◌∙◌, refl, arith, zero, suc, ◌+�
 use Rattle.std.proofs.lemmas.List.Concat.{flat_map-append}
 use Rattle.prolly_entry.specs.Record.{Record}
 use Rattle.prolly_entry.specs.Spelling.{record_spelling}
-use Rattle.prolly_file.specs.Failures.{after_failure}
-use Rattle.prolly_file.specs.Sink.{SinkView, TakesPrefix}
-use Rattle.prolly_file.specs.Writes.{Writes}
+use Rattle.prolly_io.specs.Failures.{after_failure}
+use Rattle.prolly_io.specs.Sink.{SinkView, TakesPrefix}
+use Rattle.prolly_io.specs.Writes.{Writes}
 use Rattle.prolly_sort.specs.declared.place.Place.{Place}
 use Rattle.prolly_sort.specs.Overlaid.{written}
 use Rattle.prolly_sort.specs.Place.{record_in, records_in}

@@ -6,8 +6,8 @@ use Rattle.std.specs.List.{AllByRecursion, flat_map}
 use Rattle.prolly_entry.specs.Position.{Position, last_position}
 use Rattle.prolly_entry.specs.Keys.{Rising}
 use Rattle.prolly_entry.specs.Record.{IsRecord, Record, keys_of}
-use Rattle.prolly_file.specs.Sink.{IsSettled, SinkView}
-use Rattle.prolly_file.specs.Source.{SourceView}
+use Rattle.prolly_io.specs.Sink.{IsSettled, SinkView}
+use Rattle.prolly_io.specs.Source.{SourceView}
 use Rattle.prolly_load.specs.Reader.{Reading, new_reading}
 use Rattle.prolly_merge.specs.Each.{Each}
 use Rattle.prolly_sort.specs.declared.key_rule.KeyRule.{KeyRule}

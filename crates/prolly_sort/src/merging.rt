@@ -2,7 +2,7 @@
 ghost use Rattle.std.specs.Prelude.{◌≡◌, [], List, IfErr, IfOk, OnOk, true};
 ghost use Rattle.std.specs.List.{AllByRecursion};
 ghost use Rattle.prolly_entry.specs.Record.{IsRecord, Record as RecordValue};
-ghost use Rattle.prolly_file.specs.Sink.{IsSettled};
+ghost use Rattle.prolly_io.specs.Sink.{IsSettled};
 ghost use Rattle.prolly_link.specs.declared.message.End.TheVariants.{Clean};
 ghost use Rattle.prolly_sort.specs.Shelf.{AreStored, HoldsIn, IsRunFile, readings_of};
 ghost use Rattle.prolly_sort.specs.Told.{AreTold, IsToldOf, doubled_fault};
@@ -13,7 +13,7 @@ use crate::number::number_of;
 use crate::sorted_file::SortedFile;
 use crate::store::{RunStore, StoreFault};
 use crate::stored_runs::{MOST_RECORDS, StoredRun};
-use prolly_file::{Sink, Source};
+use prolly_io::{Sink, Source};
 use prolly_link::{End, RunFault};
 use prolly_load::{RecordReader, RecordWriter, WrittenRecords};
 use prolly_merge::{Doubled, MergedUnique, merge_records, merge_unique};

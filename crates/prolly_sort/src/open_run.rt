@@ -2,7 +2,7 @@
 ghost use Rattle.std.specs.Prelude.{◌≡◌, ◌++◌, [], List, IfOk, OnOk, true};
 ghost use Rattle.prolly_entry.specs.Keys.{Rising};
 ghost use Rattle.prolly_entry.specs.Record.{Record as RecordValue, keys_of};
-ghost use Rattle.prolly_file.specs.Sink.{IsSettled};
+ghost use Rattle.prolly_io.specs.Sink.{IsSettled};
 ghost use Rattle.prolly_sort.specs.Overlaid.{overlaid};
 ghost use Rattle.prolly_sort.specs.Shelf.{HoldsOpen, IsRunFile, key_bytes, position_behind};
 ghost use Rattle.prolly_sort.specs.Told.{Obeys};
@@ -12,7 +12,7 @@ use crate::sorted_file::SortedFile;
 use crate::sorted_run::SortedRun;
 use crate::store::StoreFault;
 use prolly_entry::key_rises;
-use prolly_file::{Sink, WriteFault};
+use prolly_io::{Sink, WriteFault};
 use std::alloc::{AllocError, Global};
 
 /// A run in the file that is being written. Records whose keys are greater go behind it.

@@ -14,7 +14,7 @@ use crate::sorted_file::SortedFile;
 use crate::sorted_run::SortedRun;
 use crate::store::{RunStore, StoreFault};
 use prolly_entry::Record;
-use prolly_file::{Sink, Source};
+use prolly_io::{Sink, Source};
 use std::alloc::Global;
 use std::mem;
 use std::sync::Wait;

@@ -14,7 +14,7 @@ use crate::sorted_file::SortedFile;
 use crate::sorted_run::SortedRun;
 use crate::store::RunStore;
 use crate::stored_runs::StoredRuns;
-use prolly_file::{Sink, Source};
+use prolly_io::{Sink, Source};
 use std::alloc::Global;
 use std::sync::Wait;
 

@@ -2,7 +2,7 @@
 ghost use Rattle.std.specs.Prelude.{◌≡◌};
 
 use crate::place::Place;
-use prolly_file::{Sink, WriteFault, write_all};
+use prolly_io::{Sink, WriteFault, write_all};
 use std::marker::Model;
 
 /// Records in memory, in the order of their keys. Contracts see the list of them.
@@ -28,8 +28,8 @@ impl Model for SortedRun {
 
 impl SortedRun {
     ghost use Rattle.std.specs.Prelude.{length, option_map, slice_get, OnOk};
-    ghost use Rattle.prolly_file.specs.Sink.{IsSettled};
-    ghost use Rattle.prolly_file.specs.Writes.{Writes};
+    ghost use Rattle.prolly_io.specs.Sink.{IsSettled};
+    ghost use Rattle.prolly_io.specs.Writes.{Writes};
     ghost use Rattle.prolly_sort.specs.Overlaid.{written};
     ghost use Rattle.prolly_sort.specs.Shown.{shown_record};
     ghost use Rattle.prolly_sort.specs.Shelf.{first_position};

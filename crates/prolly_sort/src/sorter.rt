@@ -8,7 +8,7 @@ use crate::pile::Pile;
 use crate::sorted_file::SortedFile;
 use crate::store::RunStore;
 use prolly_entry::Record;
-use prolly_file::{Sink, Source};
+use prolly_io::{Sink, Source};
 use std::alloc::Global;
 use std::sync::Wait;
 

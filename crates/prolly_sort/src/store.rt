@@ -1,8 +1,8 @@
 //! Where runs wait until they are merged.
 ghost use Rattle.std.specs.Prelude.{◌≡◌, [], true, Bool, IfOk};
-ghost use Rattle.prolly_file.specs.Sink.{IsSettled};
+ghost use Rattle.prolly_io.specs.Sink.{IsSettled};
 
-use prolly_file::{Sink, Source};
+use prolly_io::{Sink, Source};
 use std::alloc::AllocError;
 use std::error::Error;
 use std::fmt;

@@ -11,7 +11,7 @@ use crate::key_rule::KeyRule;
 use crate::merging::merged;
 use crate::sorted_file::SortedFile;
 use crate::store::{RunStore, StoreFault};
-use prolly_file::{Sink, Source};
+use prolly_io::{Sink, Source};
 use std::alloc::Global;
 use std::sync::Wait;
 

@@ -10,7 +10,7 @@ use crate::sorters::{
     TWO_A_HALF, TWO_A_RUN, falling as falling_numbers, file_below, records_at, sorted,
 };
 use prolly_entry::Record;
-use prolly_file::{ScriptSink, ScriptSource};
+use prolly_io::{ScriptSink, ScriptSource};
 use prolly_sort::{DoubledKey, PushFault, Run, Sorter, SorterFault, StoreFault};
 use std::alloc::Global;
 use std::process::Abort;

@@ -1,7 +1,7 @@
 //! Runs of a few records.
 use crate::expect::{expect_bytes, expect_eq};
 use prolly_entry::{Pair, Record};
-use prolly_file::{ScriptSink, WriteFault};
+use prolly_io::{ScriptSink, WriteFault};
 use prolly_sort::{DoubledKey, PushFault, Run, SortedRun};
 use std::alloc::Global;
 use std::process::Abort;

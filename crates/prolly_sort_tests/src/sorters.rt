@@ -3,7 +3,7 @@ use crate::expect::{expect_bytes, expect_eq};
 use crate::files::{Failing, Files};
 use crate::runs::record_of;
 use prolly_entry::Record;
-use prolly_file::{ScriptSink, ScriptSource};
+use prolly_io::{ScriptSink, ScriptSource};
 use prolly_sort::{SortedFile, Sorter, SorterFault, StoreFault};
 use std::alloc::Global;
 use std::process::Abort;

@@ -1,7 +1,7 @@
 //! A source without an end.
 ghost use Rattle.std.specs.Prelude.{◌≤◌};
 
-use prolly_file::{Source, SourceFault};
+use prolly_io::{Source, SourceFault};
 
 /// A source that gives zeros for ever.
 #[derive(Drop)]

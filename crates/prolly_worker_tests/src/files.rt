@@ -4,7 +4,7 @@ ghost use Rattle.std.specs.Prelude.{◌<◌};
 use crate::links::comparing::{expect_bytes, expect_eq, expect_sent};
 use crate::loading::{FILES, READ_FAILED, THREE_PUTS, bytes_of, expect_records};
 use prolly_entry::Record;
-use prolly_file::{FromRead, ScriptSink, ScriptSource, Source};
+use prolly_io::{FromRead, ScriptSink, ScriptSource, Source};
 use prolly_link::{ClosedList, End, In, Next, Out};
 use prolly_load::{RecordReader, RecordWriter, WrittenRecords};
 use prolly_merge::merge_two;

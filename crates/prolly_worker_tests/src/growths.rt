@@ -13,7 +13,7 @@ use crate::old_trees::load_three;
 use crate::stages::lists::{leaves_of, two_stages};
 use crate::stages::{KEYS, levels_of};
 use prolly_entry::{KeyCut, Version};
-use prolly_file::{FromRead, ScriptSink};
+use prolly_io::{FromRead, ScriptSink};
 use prolly_link::{End, In, LinkFault, ListOut, Next, Out, RunFault, batch_link, link};
 use prolly_load::RecordReader;
 use prolly_merge::{merge, merge_records, merge_two, merge_unique};

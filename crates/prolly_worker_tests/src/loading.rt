@@ -3,7 +3,7 @@ ghost use Rattle.std.specs.Prelude.{◌<◌};
 
 use crate::links::comparing::expect_sent;
 use prolly_entry::{Record, append_record};
-use prolly_file::{FromRead, ScriptSource, Source};
+use prolly_io::{FromRead, ScriptSource, Source};
 use prolly_link::{ClosedList, End, ListOut, RunFault};
 use prolly_load::{Loaded, load};
 use prolly_test_parts::Zeros;

@@ -3,7 +3,7 @@ pub(crate) mod records;
 
 use crate::links::comparing::{expect_all_taken, expect_bytes, expect_eq, expect_sent};
 use prolly_entry::{Pair, Record};
-use prolly_file::FromRead;
+use prolly_io::FromRead;
 use prolly_link::{End, In, ListIn, ListOut, Receiver, RunFault, link};
 use prolly_load::load;
 use prolly_merge::{merge, merge_two};

@@ -14,7 +14,7 @@ use crate::target::Target;
 use prolly_answer::{Answer, Fault, agreed_header, answer_apply};
 use prolly_build::{ApplyFault, CHANGES_LIMIT, Config, ConfigFault, Report, apply_changes};
 use prolly_entry::{Ref, Version};
-use prolly_file::{Blocks, FromFile, FromRead, Header, Sink, ToWrite};
+use prolly_io::{Blocks, FromFile, FromRead, Header, Sink, ToWrite};
 use prolly_line::Command;
 use prolly_link::RunFault;
 use prolly_progress::{CountedSink, CountedSource, CountingGate, Counts};

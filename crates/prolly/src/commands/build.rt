@@ -14,7 +14,7 @@ use crate::sinks::buffered;
 use crate::target::Target;
 use prolly_answer::{Answer, Fault, Sample, answer_build};
 use prolly_build::{Config, FILES_LIMIT, Report, build};
-use prolly_file::{FromRead, Rejoined, Sink, Source, SourceFault, ToWrite};
+use prolly_io::{FromRead, Rejoined, Sink, Source, SourceFault, ToWrite};
 use prolly_line::Command;
 use prolly_link::RunFault;
 use prolly_progress::{CountedSink, CountedSource, CountingGate, Counts};

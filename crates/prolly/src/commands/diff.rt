@@ -19,7 +19,7 @@ use prolly_answer::{
 };
 use prolly_check::CheckFault;
 use prolly_entry::Version;
-use prolly_file::{FromRead, ToWrite};
+use prolly_io::{FromRead, ToWrite};
 use prolly_line::{Command, RootPair};
 use std::alloc::AllocError;
 use std::fs::File;

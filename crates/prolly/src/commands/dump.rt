@@ -14,7 +14,7 @@ use crate::sinks::buffered;
 use crate::streams::Stream;
 use crate::target::Target;
 use prolly_answer::{Answer, Notation, RecordForm, answer_dump, answer_dump_by_root};
-use prolly_file::ToWrite;
+use prolly_io::ToWrite;
 use prolly_line::Command;
 use std::alloc::AllocError;
 use std::io::Write;

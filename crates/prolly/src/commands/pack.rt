@@ -11,7 +11,7 @@ use crate::refusal::Refusal;
 use crate::run_files::{RunFile, RunFiles};
 use crate::target::Target;
 use prolly_answer::{Answer, LineForm, SortedPack, answer_pack_in, answer_pack_sorted};
-use prolly_file::ToWrite;
+use prolly_io::ToWrite;
 use prolly_line::{Command, WriteMode};
 use std::sync::Wait;
 

@@ -15,7 +15,7 @@ use crate::target::Target;
 use prolly_answer::{
     Answer, answer_prove, answer_prove_by_root, answer_prove_set, answer_prove_set_by_root,
 };
-use prolly_file::ToWrite;
+use prolly_io::ToWrite;
 use prolly_line::Command;
 use prolly_range::KeySet;
 use std::alloc::AllocError;

@@ -5,7 +5,7 @@ use crate::output_kind::OutputKind;
 use crate::refusal::Refusal;
 use crate::target::Target;
 use prolly_answer::Fault;
-use prolly_file::FromRead;
+use prolly_io::FromRead;
 use prolly_line::WriteMode;
 use prolly_link::RunFault;
 use prolly_progress::{CountedSource, Counts};

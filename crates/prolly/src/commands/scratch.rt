@@ -13,7 +13,7 @@ use crate::refusal::Refusal;
 use crate::target::Target;
 use prolly_answer::{Answer, Fault, Sample, answer_scratch};
 use prolly_entry::Version;
-use prolly_file::{Rejoined, Sink, ToWrite};
+use prolly_io::{Rejoined, Sink, ToWrite};
 use prolly_line::Command;
 use std::alloc::AllocError;
 use std::fs::File;

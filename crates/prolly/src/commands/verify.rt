@@ -12,7 +12,7 @@ use crate::refusal::Refusal;
 use crate::sinks::stdout_sink;
 use crate::streams::Stream;
 use prolly_answer::{Answer, Fault, NameFault, Notation, answer_verify, answer_verify_set};
-use prolly_file::FromRead;
+use prolly_io::FromRead;
 use prolly_line::{Command, Sought};
 use prolly_range::KeySet;
 use std::alloc::AllocError;

@@ -6,7 +6,7 @@ use crate::answers::answer::Answer;
 use crate::answers::build::line_of;
 use crate::faults::Fault;
 use prolly_entry::Version;
-use prolly_file::Header;
+use prolly_io::Header;
 use prolly_report::{ApplyFault, Report};
 use prolly_root::RootFault;
 use std::alloc::{AllocError, Global};

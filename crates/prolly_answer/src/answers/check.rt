@@ -13,7 +13,7 @@ use prolly_check::{
     CheckFault, ChunkHasher, OneThread, StreamFault, Tree, check_by, check_by_root,
 };
 use prolly_entry::{Ref, Version};
-use prolly_file::Source;
+use prolly_io::Source;
 use std::alloc::{AllocError, Global};
 
 /// What `check` answers: `ok`, the text of the root, and the numbers of bits and chunks, where the

@@ -22,7 +22,7 @@ use crate::input::INPUT_LIMIT;
 use crate::lines::append_number;
 use prolly_check::{ChunkHasher, Missing, Tree, check_by};
 use prolly_diff::Differences;
-use prolly_file::{Sink, Source, write_all};
+use prolly_io::{Sink, Source, write_all};
 use prolly_text::{RecordForm, append_change};
 use std::alloc::{AllocError, Global};
 

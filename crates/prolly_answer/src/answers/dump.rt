@@ -12,7 +12,7 @@ use crate::faults::{Fault, OutputFault};
 use crate::input::INPUT_LIMIT;
 use crate::lines::write_lines;
 use prolly_check::{ChunkHasher, Tree, check_by};
-use prolly_file::{Sink, Source, WriteFault};
+use prolly_io::{Sink, Source, WriteFault};
 use prolly_text::RecordForm;
 use std::alloc::{AllocError, Global};
 

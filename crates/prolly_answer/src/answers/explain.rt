@@ -8,7 +8,7 @@ use crate::answers::stat::numbers_of;
 use crate::faults::Fault;
 use crate::input::RECORD_LIMIT;
 use crate::lines::append_number;
-use prolly_file::{Source, SourceFault};
+use prolly_io::{Source, SourceFault};
 use prolly_load::{FlawedRecord, Survey, survey};
 use prolly_text::{Notation, append_flaw};
 use std::alloc::{AllocError, Global};

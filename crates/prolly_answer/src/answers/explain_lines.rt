@@ -6,7 +6,7 @@ ghost use Rattle.std.specs.Prelude.{◌≡◌, IfOk};
 use crate::answers::answer::Answer;
 use crate::faults::Fault;
 use crate::lines::append_number;
-use prolly_file::{Source, WholeFault};
+use prolly_io::{Source, WholeFault};
 use prolly_text::{LineCounts, LineForm, append_faulty_lines};
 use std::alloc::{AllocError, Global};
 

@@ -3,7 +3,7 @@ ghost use Rattle.std.specs.Prelude.{◌≡◌, ◌↔◌, IsTrue};
 ghost use Rattle.prolly_answer.specs.Outputs.{IsSettledAs};
 
 use crate::faults::{Fault, OutputFault, RootOutputFault};
-use prolly_file::{Sink, SinkFault};
+use prolly_io::{Sink, SinkFault};
 
 /// Flushes the sink, and answers the outcome, or else that this failed. A sink of which a write
 /// failed is left as it is.

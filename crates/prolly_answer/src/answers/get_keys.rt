@@ -12,7 +12,7 @@ use crate::faults::{Fault, OutputFault};
 use crate::input::INPUT_LIMIT;
 use crate::lines::append_pair_text;
 use prolly_check::{ChunkHasher, Tree, check_by};
-use prolly_file::{Sink, Source, write_all};
+use prolly_io::{Sink, Source, write_all};
 use prolly_text::Notation;
 use std::alloc::{AllocError, Global};
 

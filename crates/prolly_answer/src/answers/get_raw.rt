@@ -7,7 +7,7 @@ use crate::answers::answer::Answer;
 use crate::faults::Fault;
 use crate::input::INPUT_LIMIT;
 use prolly_check::{ChunkHasher, check_by};
-use prolly_file::Source;
+use prolly_io::Source;
 use prolly_root::RootFault;
 use std::alloc::{AllocError, Global};
 

@@ -8,7 +8,7 @@ ghost use Rattle.prolly_answer.specs.NamedRoots.{TellsNamedRead, check_fault};
 use crate::answers::answer::Answer;
 use crate::faults::Fault;
 use prolly_check::CheckFault;
-use prolly_file::Device;
+use prolly_io::Device;
 use prolly_root::{NamedRootFault, named_root};
 use std::alloc::{AllocError, Global};
 

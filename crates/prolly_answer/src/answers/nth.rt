@@ -13,7 +13,7 @@ use crate::faults::Fault;
 use crate::input::INPUT_LIMIT;
 use prolly_check::{ChunkHasher, NoCounts, OneThread, check_by};
 use prolly_entry::Pair;
-use prolly_file::Source;
+use prolly_io::Source;
 use prolly_root::RootFault;
 use prolly_text::Notation;
 use std::alloc::{AllocError, Global};

@@ -8,7 +8,7 @@ ghost use Rattle.prolly_answer.specs.SortedPack.{ShowsSorted, SortsTo};
 
 use crate::answers::answer::Answer;
 use crate::faults::Fault;
-use prolly_file::{Sink, Source};
+use prolly_io::{Sink, Source};
 use prolly_sort::{RunStore, SortedFile, Sorter};
 use prolly_text::{LineForm, RecordLines};
 use std::alloc::{AllocError, Global};

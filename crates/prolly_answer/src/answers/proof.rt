@@ -15,7 +15,7 @@ use crate::faults::Fault;
 use crate::input::{INPUT_LIMIT, input_of};
 use prolly_check::{ChunkHasher, check_by};
 use prolly_entry::{Ref, Version};
-use prolly_file::{Sink, Source, WriteFault, write_whole};
+use prolly_io::{Sink, Source, WriteFault, write_whole};
 use prolly_range::prove_checked_key;
 use prolly_root::{ChunkSource, Reader, RootFault, verify};
 use prolly_text::Notation;

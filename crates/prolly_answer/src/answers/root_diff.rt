@@ -18,7 +18,7 @@ use crate::answers::diff::{ChangeCounts, stat_line, status_of};
 use crate::answers::flushed::settled;
 use crate::faults::{Fault, OutputFault};
 use prolly_entry::{Ref, Version};
-use prolly_file::{Sink, write_all};
+use prolly_io::{Sink, write_all};
 use prolly_root::ChunkSource;
 use prolly_root_diff::laws::walks_are_right;
 use prolly_root_diff::{RootChange, RootDiffFault, RootDifferences};

@@ -14,7 +14,7 @@ use crate::answers::root_scan::key_behind;
 use crate::faults::{Fault, OutputFault, RootOutputFault};
 use crate::lines::append_lines;
 use prolly_entry::{Ref, Version};
-use prolly_file::{Sink, write_all};
+use prolly_io::{Sink, write_all};
 use prolly_look_up::{ManyThreads, Pairs};
 use prolly_root::{ReadAhead, Reader};
 use prolly_text::RecordForm;

@@ -10,7 +10,7 @@ use crate::answers::flushed::settled;
 use crate::answers::get_keys::write_found;
 use crate::faults::{Fault, RootOutputFault};
 use prolly_entry::{Ref, Version};
-use prolly_file::Sink;
+use prolly_io::Sink;
 use prolly_root::{ChunkSource, Reader};
 use prolly_text::Notation;
 use std::alloc::{AllocError, Global};

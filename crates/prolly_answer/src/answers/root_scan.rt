@@ -15,7 +15,7 @@ use crate::answers::flushed::settled;
 use crate::answers::scan::append_first;
 use crate::faults::{Fault, OutputFault, RootOutputFault};
 use prolly_entry::{Ref, Version};
-use prolly_file::{Sink, write_all};
+use prolly_io::{Sink, write_all};
 use prolly_look_up::{ManyThreads, Pairs};
 use prolly_root::{ReadAhead, Reader};
 use prolly_text::Notation;

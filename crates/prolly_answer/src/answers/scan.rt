@@ -9,7 +9,7 @@ use crate::faults::Fault;
 use crate::input::INPUT_LIMIT;
 use crate::lines::append_pair_text;
 use prolly_check::{ChunkHasher, Leaves, OneThread, check_by};
-use prolly_file::Source;
+use prolly_io::Source;
 use prolly_look_up::Pairs;
 use prolly_text::Notation;
 use std::alloc::{AllocError, Global};

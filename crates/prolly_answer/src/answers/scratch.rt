@@ -12,7 +12,8 @@ use crate::answers::answer::Answer;
 use crate::faults::Fault;
 use crate::input::{RECORD_LIMIT, input_of};
 use prolly_entry::{Pair, RecordFault, Ref, Sha512Cut, Version, records};
-use prolly_file::{ScratchFault, Sink, Source, WriteFault, scratch_as, write_whole};
+use prolly_file::{ScratchFault, scratch_as};
+use prolly_io::{Sink, Source, WriteFault, write_whole};
 use prolly_link::RunFault;
 use std::alloc::{AllocError, Global};
 

@@ -11,7 +11,7 @@ use crate::faults::Fault;
 use crate::input::INPUT_LIMIT;
 use prolly_check::{ChunkHasher, check_by};
 use prolly_entry::{Ref, Version};
-use prolly_file::{Sink, Source};
+use prolly_io::{Sink, Source};
 use prolly_range::{KeySet, prove_checked_set, prove_set};
 use prolly_root::ChunkSource;
 use std::alloc::{AllocError, Global};

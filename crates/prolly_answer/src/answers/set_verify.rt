@@ -12,7 +12,7 @@ use crate::answers::flushed::settled;
 use crate::answers::shown_lines::{append_alone, append_shown};
 use crate::faults::{Fault, OutputFault};
 use prolly_entry::{Ref, Version};
-use prolly_file::{Sink, Source, write_all};
+use prolly_io::{Sink, Source, write_all};
 use prolly_range::laws::shown_in_order;
 use prolly_range::{KeySet, ProvedChunk, SetVerifier};
 use prolly_text::Notation;

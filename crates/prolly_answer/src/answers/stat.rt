@@ -11,7 +11,7 @@ use crate::answers::answer::Answer;
 use crate::faults::Fault;
 use crate::input::{INPUT_LIMIT, RECORD_LIMIT};
 use prolly_check::{ChunkHasher, Tree, check_by};
-use prolly_file::{Rejoined, Source, SourceFault, take_front};
+use prolly_io::{Rejoined, Source, SourceFault, take_front};
 use prolly_load::{Survey, fault_of, survey};
 use prolly_text::{
     Notation, RecordNumbers, TreeNumbers, append_json, append_records, append_records_json,

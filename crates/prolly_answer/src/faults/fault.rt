@@ -5,7 +5,7 @@ ghost use Rattle.prolly_answer.specs.Faults.{fault_status, root_side_text, side_
 ghost use Rattle.prolly_answer.specs.Faults.{store_status, stream_status};
 
 use prolly_check::{CheckFault, StreamFault};
-use prolly_file::SinkFault;
+use prolly_io::SinkFault;
 use prolly_link::RunFault;
 use prolly_root::{ProofFault, RootFault};
 use prolly_sort::{SorterFault, StoreFault};

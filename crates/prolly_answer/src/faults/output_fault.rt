@@ -2,7 +2,7 @@
 ghost use Rattle.std.specs.Prelude.{◌≡◌};
 
 use crate::faults::fault::Fault;
-use prolly_file::{SinkFault, WriteFault};
+use prolly_io::{SinkFault, WriteFault};
 use std::alloc::AllocError;
 
 /// Why what is put together part by part is not written whole.

@@ -3,7 +3,7 @@ ghost use Rattle.std.specs.Prelude.{◌≡◌};
 
 use crate::faults::fault::Fault;
 use crate::faults::output_fault::OutputFault;
-use prolly_file::SinkFault;
+use prolly_io::SinkFault;
 use prolly_root::RootFault;
 use std::alloc::AllocError;
 

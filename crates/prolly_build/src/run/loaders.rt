@@ -8,7 +8,7 @@ use crate::run::writer::{WriterResult, write_chunks};
 use crate::start::{Context, Input, Load, Permit, Runtime};
 use prolly_chunk::ChunkEvent;
 use prolly_entry::Record;
-use prolly_file::Sink;
+use prolly_io::Sink;
 use prolly_link::{BatchReceiver, BatchSender, ClosedBatch};
 use prolly_stage::Gate;
 

@@ -15,7 +15,7 @@ use crate::run::writer::WriterResult;
 use crate::start::{Context, Input, MergeTwo, Permit, Runtime};
 use prolly_chunk::ChunkEvent;
 use prolly_entry::Record;
-use prolly_file::Sink;
+use prolly_io::Sink;
 use prolly_link::{BatchReceiver, BatchSender, ClosedBatch};
 use prolly_stage::Gate;
 use std::sync::Wait;

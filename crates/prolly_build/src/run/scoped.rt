@@ -11,7 +11,7 @@ use crate::run::base::{Base, RunResult};
 use crate::run::stages::run_from_top;
 use crate::start::{Context, Input, Job, Lent, Permit, Runtime};
 use prolly_chunk::ChunkEvent;
-use prolly_file::Sink;
+use prolly_io::Sink;
 use prolly_stage::Gate;
 use std::thread;
 use std::thread::Scope;

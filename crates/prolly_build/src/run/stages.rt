@@ -13,7 +13,7 @@ use crate::links::{NewLink, meet_link};
 use crate::run::base::{Base, RunResult, run_base};
 use crate::start::{Context, CutNodes, Input, Job, Permit, Runtime};
 use prolly_chunk::ChunkEvent;
-use prolly_file::Sink;
+use prolly_io::Sink;
 use prolly_link::{BatchReceiver, BatchSender, ClosedBatch};
 use prolly_stage::Gate;
 use std::sync::Wait;

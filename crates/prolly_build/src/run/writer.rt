@@ -3,7 +3,7 @@
 ghost use Rattle.std.specs.Prelude.{◌≡◌, ℕ, List, [], ◌≤◌, ◌∷◌, ◌++◌};
 ghost use Rattle.prolly_tree.specs.Chunk.{Chunk};
 ghost use Rattle.prolly_tree.specs.File.{header};
-ghost use Rattle.prolly_file.specs.Sink.{SinkView};
+ghost use Rattle.prolly_io.specs.Sink.{SinkView};
 ghost use Rattle.prolly_link.specs.Progress.{HasEnded, end_given};
 ghost use Rattle.prolly_build.specs.RunResult.{IsWriterDone};
 ghost use Rattle.prolly_build.specs.WriterState.{HasWritten};
@@ -11,7 +11,7 @@ ghost use Rattle.prolly_build.specs.WriterState.{HasWritten};
 use crate::config::Config;
 use prolly_chunk::ChunkEvent;
 use prolly_entry::{Ref, Version};
-use prolly_file::{FileWriter, Sink};
+use prolly_io::{FileWriter, Sink};
 use prolly_link::{BatchReceiver, End, In, Next, RunFault};
 use std::sync::Wait;
 

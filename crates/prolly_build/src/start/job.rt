@@ -4,7 +4,7 @@ ghost use Rattle.std.specs.Thread.{IsSync};
 ghost use Rattle.prolly_link.specs.Identity.{LinkId};
 ghost use Rattle.prolly_link.specs.Views.{Whole};
 
-use prolly_file::Source;
+use prolly_io::Source;
 use prolly_link::{BatchSender, ClosedBatch, Out};
 use prolly_stage::Worker;
 use std::alloc::Global;

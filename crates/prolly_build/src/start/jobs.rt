@@ -3,7 +3,7 @@
 use crate::start::job::Job;
 use prolly_chunk::ChunkEvent;
 use prolly_entry::{Pair, Record, Sha512Cut, Version};
-use prolly_file::Source;
+use prolly_io::Source;
 use prolly_link::{BatchReceiver, Out};
 use prolly_load::{Loaded, load};
 use prolly_merge::{Merged, MergedTwo, merge, merge_two};

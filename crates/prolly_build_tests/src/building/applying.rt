@@ -3,7 +3,7 @@ use super::*;
 use crate::expect::expect_eq;
 use prolly_build::{ApplyFault, apply_changes, apply_changes_with};
 use prolly_entry::Ref;
-use prolly_file::ScriptDevice;
+use prolly_io::ScriptDevice;
 use prolly_root::{FileChunks, RootFault};
 use prolly_stage::Worker;
 use std::sync::atomic::{AtomicUsize, Ordering};

@@ -7,7 +7,7 @@ use crate::expect::expect_eq;
 use prolly_build::laws::no_failed_read_is_told;
 use prolly_build::{AppliedChanges, ApplyFault, apply_changes};
 use prolly_entry::Ref;
-use prolly_file::{InMemory, ScriptDevice};
+use prolly_io::{InMemory, ScriptDevice};
 use prolly_root::{FileChunks, ReadAhead, RootFault};
 
 /// Lays changes over the tree with this root in a file in memory, of which no read fails.

@@ -1,7 +1,7 @@
 //! Builds that do not start.
 use super::*;
 use crate::expect::expect_eq;
-use prolly_file::{Source, SourceFault};
+use prolly_io::{Source, SourceFault};
 use prolly_stage::Worker;
 use std::sync::atomic::{AtomicUsize, Ordering};
 

@@ -3,7 +3,7 @@ ghost use Rattle.std.specs.Prelude.{◌<◌};
 
 use super::faults::{OUT_OF_ORDER, THREE_PUTS, WRITE_FAILED, expect_begun, source_of};
 use super::*;
-use prolly_file::{FromRead, ToWrite};
+use prolly_io::{FromRead, ToWrite};
 use prolly_test_parts::{chunk_file, joined};
 
 const FIVE: &[u8] = b"a1b1c1d1e1";

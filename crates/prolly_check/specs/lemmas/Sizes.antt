@@ -4,8 +4,8 @@ use Rattle.std.specs.Int.{w64, to_be_bytes}
 use Rattle.std.specs.List.{flat_map}
 use Rattle.std.proofs.lemmas.List.{length-append}
 use Rattle.prolly_entry.specs.declared.version.Version.{Version}
-use Rattle.prolly_file.specs.Frame.{framed}
-use Rattle.prolly_file.specs.FrameLaws.{frames_bytes}
+use Rattle.prolly_io.specs.Frame.{framed}
+use Rattle.prolly_io.specs.FrameLaws.{frames_bytes}
 use Rattle.prolly_look_up.specs.Content.{Content, IsFileOf, chunks_of}
 use Rattle.prolly_look_up.specs.Entries.{AreWhole}
 use Rattle.prolly_look_up.specs.HeldPairs.{pairs_held}

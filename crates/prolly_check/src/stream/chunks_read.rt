@@ -3,7 +3,7 @@ ghost use Rattle.std.specs.Prelude.{◌≡◌, ◌≢◌, ◌<◌, ◌≤◌, �
 ghost use Rattle.std.specs.Prelude.{get_or, IfErr, IfOk, OnOk, MatchResult};
 ghost use Rattle.std.specs.List.{AllByRecursion};
 ghost use Rattle.std.specs.Option.{option_map};
-ghost use Rattle.prolly_file.specs.Frame.{has_no_frame};
+ghost use Rattle.prolly_io.specs.Frame.{has_no_frame};
 ghost use Rattle.prolly_check.specs.ChunksRead.{AreRead, BodyRead, EndsChunks, EndsRecord};
 ghost use Rattle.prolly_check.specs.ChunksRead.{GoesOver, TakesChunk};
 ghost use Rattle.prolly_check.specs.Digests.{AreDigests, IsDigest};
@@ -18,7 +18,7 @@ use crate::verdict::{
     CheckFault, ChunkDigest, ChunkHasher, ChunksAhead, Follower, chunk_at, find_frames, last_in,
 };
 use prolly_entry::{Ref, Sha512Cut, Version};
-use prolly_file::{END_LETTER, END_SIZE, FRAME_LETTER, end_record};
+use prolly_io::{END_LETTER, END_SIZE, FRAME_LETTER, end_record};
 use std::alloc::{AllocError, Global};
 use std::ops::Range;
 

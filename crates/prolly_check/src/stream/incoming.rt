@@ -4,7 +4,7 @@ ghost use Rattle.std.specs.Prelude.{IfOk, OnOk};
 ghost use Rattle.prolly_check.specs.Incoming.{IsFilled, Reads};
 
 use crate::verdict::CheckFault;
-use prolly_file::{CHUNK_LIMIT, FRAME_LETTER, FRAME_START, PartReader, Source, frame_at};
+use prolly_io::{CHUNK_LIMIT, FRAME_LETTER, FRAME_START, PartReader, Source, frame_at};
 
 /// How many bytes of a file are looked at together: as many as this, and more only where a frame is
 /// larger. Threads share the chunks of a window out, so it has to hold many of them.

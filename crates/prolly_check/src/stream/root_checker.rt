@@ -13,7 +13,7 @@ use crate::stream::fault::StreamFault;
 use crate::stream::incoming::{fill, let_go};
 use crate::verdict::{CheckFault, ChunkHasher, cut_of};
 use prolly_entry::{Ref, Version};
-use prolly_file::{HEADER_SIZE, Header, PartReader, Source, read_header};
+use prolly_io::{HEADER_SIZE, Header, PartReader, Source, read_header};
 use std::alloc::Global;
 
 /// What is said of a file that is that of the tree of a root.
@@ -35,7 +35,7 @@ pub struct RootReport {
 /// Takes time linear in the bytes, and hashes what [`check`](crate::check) hashes. Holds a window
 /// of 16 MiB, or twice a chunk that is larger, some 80 bytes for each chunk in it, and one open chunk
 /// of each level, whatever the file's size. For a chunk longer than
-/// [`CHUNK_LIMIT`](prolly_file::CHUNK_LIMIT) no memory is taken.
+/// [`CHUNK_LIMIT`](prolly_io::CHUNK_LIMIT) no memory is taken.
 pub fn check_by_root<H: ChunkHasher, S: Source>(
     hasher: &H,
     alloc: Global,

@@ -20,7 +20,7 @@ use crate::verdict::fault::CheckFault;
 use crate::verdict::frames::{find_frames, test_ending};
 use crate::verdict::order::test_order;
 use prolly_entry::{Ref, Sha512Cut, Version};
-use prolly_file::{HEADER_SIZE, Header, Source, end_record, read_header, read_whole};
+use prolly_io::{HEADER_SIZE, Header, Source, end_record, read_header, read_whole};
 use std::alloc::Global;
 use std::ops::Range;
 

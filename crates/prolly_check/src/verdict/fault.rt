@@ -1,7 +1,7 @@
 //! Why bytes are no chunk file.
 
 use prolly_entry::FaultText;
-use prolly_file::{HeaderFault, ReadFault, WholeFault};
+use prolly_io::{HeaderFault, ReadFault, WholeFault};
 use std::alloc::AllocError;
 use std::error::Error;
 use std::fmt;

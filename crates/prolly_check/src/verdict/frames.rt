@@ -1,10 +1,10 @@
 //! The frames of a chunk file, and what follows them.
 ghost use Rattle.std.specs.Prelude.{◌≡◌, ◌≤◌, true, Ok, Err, length, drop, IfOk, IfErr};
-ghost use Rattle.prolly_file.specs.Frame.{has_no_frame};
+ghost use Rattle.prolly_io.specs.Frame.{has_no_frame};
 ghost use Rattle.prolly_check.specs.Frames.{FramesTo, IsWithin, chunk_in, ending_of, chunks_in};
 
 use crate::verdict::fault::CheckFault;
-use prolly_file::{END_LETTER, END_SIZE, FRAME_LETTER, FRAME_START, frame_at};
+use prolly_io::{END_LETTER, END_SIZE, FRAME_LETTER, FRAME_START, frame_at};
 use std::alloc::{AllocError, Global};
 use std::ops::Range;
 

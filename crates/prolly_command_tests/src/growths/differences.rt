@@ -4,7 +4,7 @@ use crate::tools::look_up_answers::file_of_three;
 use prolly_answer::{Notation, RecordForm, answer_diff};
 use prolly_check::OneThread;
 use prolly_entry::Version;
-use prolly_file::{FromRead, ScriptSink};
+use prolly_io::{FromRead, ScriptSink};
 use std::test::Fail;
 
 /// The record file of b=1 and c=1.

@@ -8,7 +8,7 @@ use prolly_answer::{
 };
 use prolly_check::OneThread;
 use prolly_entry::Version;
-use prolly_file::{FromRead, ScriptSink};
+use prolly_io::{FromRead, ScriptSink};
 use prolly_range::{KeySet, SortedKeys};
 use std::alloc::Global;
 use std::process::Abort;

@@ -10,7 +10,7 @@ use prolly_answer::{
 };
 use prolly_check::OneThread;
 use prolly_entry::{Pair, Ref, Version};
-use prolly_file::{FromRead, ScriptDevice, ScriptSink};
+use prolly_io::{FromRead, ScriptDevice, ScriptSink};
 use prolly_look_up::ManyThreads;
 use prolly_root::{FileChunks, Reader, RootFault};
 use std::alloc::{AllocError, Global};

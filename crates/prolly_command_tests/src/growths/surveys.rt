@@ -4,7 +4,7 @@ use prolly_answer::{
     LineForm, Notation, StatForm, answer_explain, answer_explain_lines, answer_stat,
 };
 use prolly_check::OneThread;
-use prolly_file::FromRead;
+use prolly_io::FromRead;
 
 #[test]
 fn a_record_file_is_explained_or_wants_memory(rt: HostRuntime) {

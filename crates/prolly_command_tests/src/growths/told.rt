@@ -8,7 +8,7 @@ use prolly_answer::{
 };
 use prolly_check::OneThread;
 use prolly_entry::Ref;
-use prolly_file::FromRead;
+use prolly_io::FromRead;
 use prolly_report::Report;
 use std::test::Fail;
 

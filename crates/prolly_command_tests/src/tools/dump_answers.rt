@@ -3,7 +3,7 @@ use super::expect_answer;
 use crate::expect::expect_bytes;
 use prolly_answer::{Notation, RecordForm, answer_dump};
 use prolly_check::OneThread;
-use prolly_file::{FromRead, ScriptSink, ScriptSource};
+use prolly_io::{FromRead, ScriptSink, ScriptSource};
 use prolly_test_parts::chunk_file;
 use std::alloc::Global;
 use std::process::Abort;

@@ -8,7 +8,8 @@ use prolly_answer::{
 };
 use prolly_check::OneThread;
 use prolly_entry::{Ref, Sha512Cut, Version};
-use prolly_file::{FromRead, ScriptDevice, ScriptSink, ScriptSource, scratch_as};
+use prolly_file::scratch_as;
+use prolly_io::{FromRead, ScriptDevice, ScriptSink, ScriptSource};
 use prolly_range::{KeySet, SortedKeys};
 use prolly_root::FileChunks;
 use prolly_test_parts::pairs_of;

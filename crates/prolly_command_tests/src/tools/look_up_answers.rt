@@ -6,7 +6,8 @@ use prolly_answer::{
 };
 use prolly_check::OneThread;
 use prolly_entry::{Sha512Cut, Version};
-use prolly_file::{FromRead, scratch_as};
+use prolly_file::scratch_as;
+use prolly_io::FromRead;
 use prolly_test_parts::pairs_of;
 use std::alloc::Global;
 use std::process::Abort;

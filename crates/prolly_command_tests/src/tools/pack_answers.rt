@@ -2,7 +2,7 @@
 use super::expect_answer;
 use crate::expect::expect_bytes;
 use prolly_answer::answer_pack;
-use prolly_file::{FromRead, ScriptSink};
+use prolly_io::{FromRead, ScriptSink};
 use std::test::Fail;
 
 /// Lines, the write that fails, and what comes of them: the status, what is shown on standard

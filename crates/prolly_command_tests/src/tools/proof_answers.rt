@@ -4,7 +4,7 @@ use crate::expect::expect_bytes;
 use prolly_answer::{Notation, answer_prove, answer_verify};
 use prolly_check::OneThread;
 use prolly_entry::{Ref, Version};
-use prolly_file::{FromRead, ScriptSink};
+use prolly_io::{FromRead, ScriptSink};
 use prolly_test_parts::{chunk_file, joined};
 use std::alloc::Global;
 use std::process::Abort;

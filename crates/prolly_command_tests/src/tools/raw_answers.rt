@@ -7,7 +7,7 @@ use prolly_answer::{
 };
 use prolly_check::OneThread;
 use prolly_entry::Version;
-use prolly_file::FromRead;
+use prolly_io::FromRead;
 use std::test::Fail;
 
 /// Keys, the status, and the value.

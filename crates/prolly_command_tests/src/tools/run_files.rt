@@ -1,5 +1,5 @@
 //! Files in memory in which sorted runs wait.
-use prolly_file::{ScriptSink, ScriptSource};
+use prolly_io::{ScriptSink, ScriptSource};
 use prolly_sort::{RunStore, StoreFault};
 use std::alloc::Global;
 

@@ -3,7 +3,7 @@ use super::expect_answer;
 use crate::expect::expect_bytes;
 use prolly_answer::answer_scratch;
 use prolly_entry::Version;
-use prolly_file::{ScriptSink, ScriptSource};
+use prolly_io::{ScriptSink, ScriptSource};
 use std::alloc::Global;
 use std::process::Abort;
 use std::test::Fail;

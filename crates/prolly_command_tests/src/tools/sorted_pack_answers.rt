@@ -3,7 +3,7 @@ use super::expect_answer;
 use crate::expect::{expect_bytes, expect_eq};
 use crate::tools::run_files::RunFiles;
 use prolly_answer::{LineForm, answer_pack_sorted};
-use prolly_file::{FromRead, ScriptSource};
+use prolly_io::{FromRead, ScriptSource};
 use std::test::Fail;
 
 /// How many bytes a run takes.

@@ -4,7 +4,7 @@ use super::{FILE_OF_NONE, LEAF_OF_A, LEAF_OF_B, checked, file_of_three, file_wit
 use crate::expect::{expect_bytes, expect_eq};
 use prolly_check::{CheckFault, check};
 use prolly_entry::{Ref, Version};
-use prolly_file::{FromRead, ScriptSource, Source};
+use prolly_io::{FromRead, ScriptSource, Source};
 use prolly_test_parts::{Zeros, joined};
 use std::alloc::{AllocError, Global};
 use std::process::Abort;

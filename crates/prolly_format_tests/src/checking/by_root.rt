@@ -6,7 +6,7 @@ use super::{FILE_OF_NONE, checked, file_cut_by, file_of_three, flip, put};
 use crate::expect::expect_eq;
 use prolly_check::{CheckFault, OneThread, RootReport, StreamFault, check_by_root};
 use prolly_entry::{Ref, Version};
-use prolly_file::{FromRead, ScriptSource};
+use prolly_io::{FromRead, ScriptSource};
 use prolly_look_up::ManyThreads;
 use prolly_test_parts::pairs_of;
 use std::alloc::{AllocError, Global};

@@ -4,7 +4,7 @@ use super::{FILE_OF_NONE, checked, file_of, file_of_three, tree_of_three};
 use crate::expect::{expect_bytes, expect_eq};
 use prolly_check::Tree;
 use prolly_entry::{Version, records};
-use prolly_file::{ScriptSink, ToWrite, WriteFault};
+use prolly_io::{ScriptSink, ToWrite, WriteFault};
 use std::alloc::Global;
 use std::process::Abort;
 use std::test::Fail;

@@ -4,7 +4,7 @@ use super::{FILE_OF_NONE, checked, file_cut_by, file_of_three, flip};
 use crate::expect::expect_eq;
 use prolly_check::{CheckFault, Tree, check_by};
 use prolly_entry::Version;
-use prolly_file::FromRead;
+use prolly_io::FromRead;
 use prolly_look_up::ManyThreads;
 use prolly_test_parts::pairs_of;
 use std::alloc::Global;

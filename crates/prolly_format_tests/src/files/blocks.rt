@@ -1,6 +1,6 @@
 //! A device that serves short reads from a block.
 use crate::expect::expect_eq;
-use prolly_file::{Blocks, Device, ScriptDevice, SourceFault};
+use prolly_io::{Blocks, Device, ScriptDevice, SourceFault};
 use std::alloc::{AllocError, Global};
 use std::process::Abort;
 use std::test::Fail;

@@ -1,7 +1,7 @@
 //! A sink that gathers small writes.
 use super::{flushes, writes};
 use crate::expect::expect_bytes;
-use prolly_file::{Buffered, ScriptSink, SinkFault};
+use prolly_io::{Buffered, ScriptSink, SinkFault};
 use std::alloc::{AllocError, Global};
 use std::test::Fail;
 

@@ -1,7 +1,7 @@
 //! The writer of chunk files.
 use crate::expect::{expect_bytes, expect_eq};
 use prolly_entry::Ref;
-use prolly_file::{FileWriter, ScriptSink, Sink, ToWrite, WriteFault};
+use prolly_io::{FileWriter, ScriptSink, Sink, ToWrite, WriteFault};
 use prolly_test_parts::joined;
 use std::alloc::{AllocError, Global};
 use std::process::Abort;

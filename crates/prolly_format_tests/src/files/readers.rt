@@ -1,7 +1,7 @@
 //! A reader of std as a source.
 use super::reads;
 use crate::expect::expect_bytes;
-use prolly_file::{FromRead, SourceFault};
+use prolly_io::{FromRead, SourceFault};
 use std::io;
 use std::io::{ErrorKind, Read};
 

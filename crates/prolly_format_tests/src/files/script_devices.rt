@@ -1,6 +1,6 @@
 //! Devices that follow a script.
 use crate::expect::{expect_bytes, expect_eq};
-use prolly_file::{Device, ScriptDevice, SourceFault};
+use prolly_io::{Device, ScriptDevice, SourceFault};
 use std::process::Abort;
 use std::test::Fail;
 

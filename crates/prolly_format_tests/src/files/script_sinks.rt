@@ -1,7 +1,7 @@
 //! Sinks that follow a script.
 use super::{flushes, writes};
 use crate::expect::expect_bytes;
-use prolly_file::{ScriptSink, SinkFault};
+use prolly_io::{ScriptSink, SinkFault};
 
 #[test]
 fn takes_steps_and_fails_once(rt: HostRuntime) {

@@ -1,7 +1,7 @@
 //! Sources that follow a script.
 use super::reads;
 use crate::expect::expect_bytes;
-use prolly_file::{ScriptSource, SourceFault};
+use prolly_io::{ScriptSource, SourceFault};
 use std::test::Fail;
 
 #[test]

@@ -1,6 +1,6 @@
 //! Sources that are read to their end.
 use crate::expect::{expect_bytes, expect_eq};
-use prolly_file::{FromRead, PartReader, ReadFault, ScriptSource, Source, WholeFault, read_whole};
+use prolly_io::{FromRead, PartReader, ReadFault, ScriptSource, Source, WholeFault, read_whole};
 use std::alloc::Global;
 use std::process::Abort;
 use std::test::Fail;

@@ -1,7 +1,7 @@
 //! A writer of std as a sink.
 use super::{flushes, writes};
 use crate::expect::{expect_bytes, expect_eq};
-use prolly_file::{SinkFault, ToWrite};
+use prolly_io::{SinkFault, ToWrite};
 use std::io;
 use std::io::{ErrorKind, Write};
 use std::test::Fail;

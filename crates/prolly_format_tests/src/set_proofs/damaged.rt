@@ -2,7 +2,7 @@
 use super::{Tree, copies, list, range};
 use crate::expect::expect_eq;
 use prolly_entry::Version;
-use prolly_file::{FRAME_START, frame_at};
+use prolly_io::{FRAME_START, frame_at};
 use prolly_range::{KeySet, SetFault};
 use prolly_root::ProofFault;
 use prolly_test_parts::joined;

@@ -4,7 +4,7 @@ use super::{Tree, copies, list};
 use crate::expect::{expect_bytes, expect_eq};
 use prolly_check::{Tree as Checked, check};
 use prolly_entry::Version;
-use prolly_file::FromRead;
+use prolly_io::FromRead;
 use prolly_range::{NotRising, SortedKeys, prove_checked_key};
 use std::alloc::{AllocError, Global};
 use std::process::Abort;

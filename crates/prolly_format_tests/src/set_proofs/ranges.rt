@@ -3,7 +3,7 @@ use super::{Tree, range};
 use crate::expect::{expect_bytes, expect_eq};
 use prolly_check::check;
 use prolly_entry::Version;
-use prolly_file::{FromRead, ScriptSink};
+use prolly_io::{FromRead, ScriptSink};
 use prolly_range::{KeySet, ProveFault, SetFault, prove_checked_set};
 use prolly_root::RootFault;
 use std::alloc::{AllocError, Global};

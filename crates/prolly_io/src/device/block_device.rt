@@ -1,7 +1,7 @@
 //! A device of which short reads near each other are served from a block.
 ghost use Rattle.std.specs.Prelude.{◌≡◌, ◌+◌, ◌-◌, ◌≤◌, true, length, take, drop, IfOk, IfSome};
 ghost use Rattle.std.specs.Prelude.{OnOk, OnErr};
-ghost use Rattle.prolly_file.specs.Failures.{CountsFailure};
+ghost use Rattle.prolly_io.specs.Failures.{CountsFailure};
 
 use crate::device::read_at::Device;
 use crate::device::source::SourceFault;

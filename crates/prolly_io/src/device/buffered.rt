@@ -1,8 +1,8 @@
 //! A sink that gathers small writes.
 ghost use Rattle.std.specs.Prelude.{◌≡◌, ◌≤◌, ◌<◌, ◌↔◌, ◌+◌, true, false, [], length, vec_len, ◌-◌};
 ghost use Rattle.std.specs.Prelude.{vec_capacity, IsErr, IfOk, OnOk};
-ghost use Rattle.prolly_file.specs.Failures.{CountsFailure, after_failure};
-ghost use Rattle.prolly_file.specs.Sink.{Takes, CountsWriteFailure, IsSettled};
+ghost use Rattle.prolly_io.specs.Failures.{CountsFailure, after_failure};
+ghost use Rattle.prolly_io.specs.Sink.{Takes, CountsWriteFailure, IsSettled};
 
 use crate::device::sink::{Sink, SinkFault};
 use std::alloc::{AllocError, Global};
@@ -27,7 +27,7 @@ pub struct Buffered<W> {
 }
 
 impl<W: Sink + Drop> Buffered<W> {
-    ghost use Rattle.prolly_file.specs.Buffered.{has_failed, room_of, sink_of, buffer_size};
+    ghost use Rattle.prolly_io.specs.Buffered.{has_failed, room_of, sink_of, buffer_size};
 
     /// A buffer of at least so many bytes before the sink. This is all the memory that it takes.
     pub fn with_capacity(alloc: Global, capacity: usize, sink: W) -> Result<Buffered<W>, AllocError>
@@ -55,7 +55,7 @@ impl<W: Sink + Drop> Buffered<W> {
 }
 
 impl<W: Sink> Buffered<W> {
-    ghost use Rattle.prolly_file.specs.Buffered.{sink_of, Empties, KeepsBytes, WritesPast};
+    ghost use Rattle.prolly_io.specs.Buffered.{sink_of, Empties, KeepsBytes, WritesPast};
 
     /// The sink behind the buffer.
     pub fn sink(&self) -> &W
@@ -115,8 +115,8 @@ impl<W: Sink> Buffered<W> {
 }
 
 impl<W: Sink> Sink for Buffered<W> {
-    ghost use Rattle.prolly_file.specs.Buffered.{bytes_taken, has_failed, room_of, seen_before};
-    ghost use Rattle.prolly_file.specs.Buffered.{sink_of, buffer_size, FailsWithSink, AreHeld};
+    ghost use Rattle.prolly_io.specs.Buffered.{bytes_taken, has_failed, room_of, seen_before};
+    ghost use Rattle.prolly_io.specs.Buffered.{sink_of, buffer_size, FailsWithSink, AreHeld};
 
     ghost seen = { seen_before W.seen };
 

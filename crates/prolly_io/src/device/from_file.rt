@@ -1,7 +1,7 @@
 //! A file as a device.
 ghost use Rattle.std.specs.Prelude.{◌≡◌, ◌≤◌, length, IfOk};
 ghost use Rattle.std.specs.Io.{ReadsAtMost};
-ghost use Rattle.prolly_file.specs.Failures.{CountsFailure};
+ghost use Rattle.prolly_io.specs.Failures.{CountsFailure};
 
 use crate::device::from_read::MOST_TRIES;
 use crate::device::read_at::Device;

@@ -2,9 +2,9 @@
 ghost use Rattle.std.specs.Prelude.{◌≡◌, ◌≤◌, ◌<◌, ◌↔◌, true, false, length, IsTrue, IfOk, OnErr};
 ghost use Rattle.std.specs.Io.{ReadsAtMost, WritesAtMost};
 ghost use Rattle.std.specs.Io.KnownBytes.{ReadConsumes, WriteAppends};
-ghost use Rattle.prolly_file.specs.Failures.{CountsFailure};
-ghost use Rattle.prolly_file.specs.Known.{known_bytes, are_known_bytes};
-ghost use Rattle.prolly_file.specs.Source.{HandsOut};
+ghost use Rattle.prolly_io.specs.Failures.{CountsFailure};
+ghost use Rattle.prolly_io.specs.Known.{known_bytes, are_known_bytes};
+ghost use Rattle.prolly_io.specs.Source.{HandsOut};
 
 use crate::device::source::{Source, SourceFault};
 use std::io;
@@ -24,7 +24,7 @@ pub struct FromRead<R> {
 }
 
 impl<R: Read> FromRead<R> {
-    ghost use Rattle.prolly_file.specs.FromRead.{has_ended};
+    ghost use Rattle.prolly_io.specs.FromRead.{has_ended};
 
     /// A source of what the reader has left. It reads nothing yet.
     pub fn new(reader: R) -> FromRead<R>
@@ -44,8 +44,8 @@ impl<R: Read> FromRead<R> {
 }
 
 impl<R: Read> Source for FromRead<R> {
-    ghost use Rattle.prolly_file.specs.FromRead.{has_ended, seen_of};
-    ghost use Rattle.prolly_file.specs.BytesLaws.{bytes_left_are_bytes};
+    ghost use Rattle.prolly_io.specs.FromRead.{has_ended, seen_of};
+    ghost use Rattle.prolly_io.specs.BytesLaws.{bytes_left_are_bytes};
 
     ghost seen = { seen_of R.remaining };
 

@@ -23,7 +23,7 @@ pub enum ReadFault {
 
 impl Display for ReadFault {
     ghost use Rattle.std.specs.Prelude.{Some};
-    ghost use Rattle.prolly_file.specs.FaultTexts.{read_fault_text};
+    ghost use Rattle.prolly_io.specs.FaultTexts.{read_fault_text};
 
     ghost output = { λ fault. Some (read_fault_text fault) };
 
@@ -38,7 +38,7 @@ impl Display for ReadFault {
 impl Error for ReadFault {}
 
 impl From<AllocError> for ReadFault {
-    ghost use Rattle.prolly_file.specs.declared.device.part_reader.ReadFault.TheVariants.{Memory};
+    ghost use Rattle.prolly_io.specs.declared.device.part_reader.ReadFault.TheVariants.{Memory};
 
     ghost from_gives = { λ _ fault. fault ≡ Memory };
 
@@ -48,7 +48,7 @@ impl From<AllocError> for ReadFault {
 }
 
 impl From<SourceFault> for ReadFault {
-    ghost use Rattle.prolly_file.specs.declared.device.part_reader.ReadFault.TheVariants.{Read};
+    ghost use Rattle.prolly_io.specs.declared.device.part_reader.ReadFault.TheVariants.{Read};
 
     ghost from_gives = { λ _ fault. fault ≡ Read };
 

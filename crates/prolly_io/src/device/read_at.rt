@@ -1,7 +1,7 @@
 //! Devices: bytes that can be read at any offset.
 ghost use Rattle.std.specs.Prelude.{◌≡◌, ◌≤◌, true, length, IfOk};
-ghost use Rattle.prolly_file.specs.Device.{DeviceView, GivesFrom};
-ghost use Rattle.prolly_file.specs.Failures.{CountsFailure};
+ghost use Rattle.prolly_io.specs.Device.{DeviceView, GivesFrom};
+ghost use Rattle.prolly_io.specs.Failures.{CountsFailure};
 
 use crate::device::source::SourceFault;
 

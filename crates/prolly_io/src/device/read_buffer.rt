@@ -3,9 +3,9 @@ ghost use Rattle.std.specs.Prelude.{◌≡◌, ◌+◌, ◌-◌, ◌<◌, ◌≤
 ghost use Rattle.std.specs.Prelude.{IfOk};
 ghost use Rattle.std.specs.Option.{option_copied, option_map};
 ghost use Rattle.std.specs.Result.{result_unwrap_or};
-ghost use Rattle.prolly_file.specs.Failures.{CountsFailure};
-ghost use Rattle.prolly_file.specs.ReadBuffer.{Fills};
-ghost use Rattle.prolly_file.specs.Span.{part, ArePlaced};
+ghost use Rattle.prolly_io.specs.Failures.{CountsFailure};
+ghost use Rattle.prolly_io.specs.ReadBuffer.{Fills};
+ghost use Rattle.prolly_io.specs.Span.{part, ArePlaced};
 
 use crate::device::source::{Source, SourceFault};
 use std::alloc::{AllocError, Global};
@@ -31,9 +31,9 @@ pub struct ReadBuffer<const KEPT: usize, const UNPARSED: usize> {
 impl<const KEPT: usize, const UNPARSED: usize> Model for ReadBuffer<KEPT, UNPARSED> {
     ghost use Rattle.std.specs.Prelude.{◌+◌, ◌-◌, vec_len};
     ghost use Rattle.std.specs.Option.{option_map};
-    ghost use Rattle.prolly_file.specs.ReadBuffer.{Held};
-    ghost use Rattle.prolly_file.specs.Span.{part, ArePlaced};
-    ghost use Rattle.prolly_file.specs.declared.device.read_buffer.TheConstants.{READ_BYTES};
+    ghost use Rattle.prolly_io.specs.ReadBuffer.{Held};
+    ghost use Rattle.prolly_io.specs.Span.{part, ArePlaced};
+    ghost use Rattle.prolly_io.specs.declared.device.read_buffer.TheConstants.{READ_BYTES};
 
     ghost Value = { Held };
 

@@ -42,8 +42,8 @@ impl<'a, S: Source> Rejoined<'a, S> {
 
 impl<'a, S: Source> Source for Rejoined<'a, S> {
     ghost use Rattle.std.specs.Prelude.{◌&&◌, ◌++◌};
-    ghost use Rattle.prolly_file.specs.Bytes.{are_bytes};
-    ghost use Rattle.prolly_file.specs.BytesLaws.{joined_are_bytes};
+    ghost use Rattle.prolly_io.specs.Bytes.{are_bytes};
+    ghost use Rattle.prolly_io.specs.BytesLaws.{joined_are_bytes};
 
     ghost seen = { λ s. record {
       is_honest = are_bytes s.front.now && (S.seen s.rest).is_honest;

@@ -1,12 +1,12 @@
 //! Sources, sinks and devices that fail where a test says so.
 ghost use Rattle.std.specs.Prelude.{◌≡◌, ◌≤◌, ◌<◌, ◌↔◌, true, length, take, drop, min, ◌++◌, not};
 ghost use Rattle.std.specs.Prelude.{is_some, IsErr, IfOk, OnErr, [], IsTrue};
-ghost use Rattle.prolly_file.specs.Bytes.{are_bytes};
-ghost use Rattle.prolly_file.specs.Failures.{CountsFailure};
-ghost use Rattle.prolly_file.specs.Script.{after_call};
-ghost use Rattle.prolly_file.specs.Source.{HandsOut};
-ghost use Rattle.prolly_file.specs.Sink.{Takes, CountsWriteFailure};
-ghost use Rattle.prolly_file.specs.Device.{GivesFrom};
+ghost use Rattle.prolly_io.specs.Bytes.{are_bytes};
+ghost use Rattle.prolly_io.specs.Failures.{CountsFailure};
+ghost use Rattle.prolly_io.specs.Script.{after_call};
+ghost use Rattle.prolly_io.specs.Source.{HandsOut};
+ghost use Rattle.prolly_io.specs.Sink.{Takes, CountsWriteFailure};
+ghost use Rattle.prolly_io.specs.Device.{GivesFrom};
 
 use crate::device::in_memory::copy_from;
 use crate::device::read_at::Device;
@@ -28,7 +28,7 @@ pub struct ScriptSource {
 
 impl Model for ScriptSource {
     ghost use Rattle.std.specs.Prelude.{◌≤◌, ◌<◌, drop, vec_len};
-    ghost use Rattle.prolly_file.specs.Script.{SourceScript};
+    ghost use Rattle.prolly_io.specs.Script.{SourceScript};
 
     ghost Value = { SourceScript };
 
@@ -64,7 +64,7 @@ impl ScriptSource {
 
 impl Source for ScriptSource {
     ghost use Rattle.std.proofs.Common.{rules};
-    ghost use Rattle.prolly_file.specs.BytesLaws.{bytes_from_test};
+    ghost use Rattle.prolly_io.specs.BytesLaws.{bytes_from_test};
 
     ghost seen = { λ s. record {
       is_honest = are_bytes s.left;
@@ -121,7 +121,7 @@ pub struct ScriptSink {
 }
 
 impl Model for ScriptSink {
-    ghost use Rattle.prolly_file.specs.Script.{SinkScript};
+    ghost use Rattle.prolly_io.specs.Script.{SinkScript};
 
     ghost Value = { SinkScript };
 

@@ -1,8 +1,8 @@
 //! Sinks: where bytes are written to.
 ghost use Rattle.std.specs.Prelude.{◌≡◌, ◌≤◌, true, length, IfOk, OnOk, is_some};
-ghost use Rattle.prolly_file.specs.Failures.{CountsFailure};
-ghost use Rattle.prolly_file.specs.Sink.{SinkView, Takes, CountsWriteFailure, IsSettled};
-ghost use Rattle.prolly_file.specs.Known.{known_bytes};
+ghost use Rattle.prolly_io.specs.Failures.{CountsFailure};
+ghost use Rattle.prolly_io.specs.Sink.{SinkView, Takes, CountsWriteFailure, IsSettled};
+ghost use Rattle.prolly_io.specs.Known.{known_bytes};
 
 use crate::device::from_read::write_again;
 use std::error::Error;
@@ -90,7 +90,7 @@ impl<W: Write> ToWrite<W> {
 }
 
 impl<W: Write> Sink for ToWrite<W> {
-    ghost use Rattle.prolly_file.specs.ToWrite.{seen_of};
+    ghost use Rattle.prolly_io.specs.ToWrite.{seen_of};
 
     ghost seen = { seen_of W.contents };
 

@@ -1,8 +1,8 @@
 //! Sources: where bytes are read from, one after another.
 ghost use Rattle.std.specs.Prelude.{◌≡◌, ◌≤◌, true, All, length, IsOk, IfOk, ◌++◌, take, OnErr};
 ghost use Rattle.prolly_entry.specs.Byte.{IsByte};
-ghost use Rattle.prolly_file.specs.Failures.{CountsFailure};
-ghost use Rattle.prolly_file.specs.Source.{SourceView, HandsOut, HandedOutFewer};
+ghost use Rattle.prolly_io.specs.Failures.{CountsFailure};
+ghost use Rattle.prolly_io.specs.Source.{SourceView, HandsOut, HandedOutFewer};
 
 use std::error::Error;
 use std::fmt;

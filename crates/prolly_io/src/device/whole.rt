@@ -22,7 +22,7 @@ pub enum WholeFault {
 
 impl Display for WholeFault {
     ghost use Rattle.std.specs.Prelude.{Some};
-    ghost use Rattle.prolly_file.specs.FaultTexts.{whole_fault_text};
+    ghost use Rattle.prolly_io.specs.FaultTexts.{whole_fault_text};
 
     ghost output = { λ fault. Some (whole_fault_text fault) };
 
@@ -38,7 +38,7 @@ impl Display for WholeFault {
 impl Error for WholeFault {}
 
 impl From<AllocError> for WholeFault {
-    ghost use Rattle.prolly_file.specs.declared.device.whole.WholeFault.TheVariants.{Memory};
+    ghost use Rattle.prolly_io.specs.declared.device.whole.WholeFault.TheVariants.{Memory};
 
     ghost from_gives = { λ _ fault. fault ≡ Memory };
 
@@ -48,7 +48,7 @@ impl From<AllocError> for WholeFault {
 }
 
 impl From<SourceFault> for WholeFault {
-    ghost use Rattle.prolly_file.specs.declared.device.whole.WholeFault.TheVariants.{Read};
+    ghost use Rattle.prolly_io.specs.declared.device.whole.WholeFault.TheVariants.{Read};
 
     ghost from_gives = { λ _ fault. fault ≡ Read };
 
@@ -58,7 +58,7 @@ impl From<SourceFault> for WholeFault {
 }
 
 impl From<ReadFault> for WholeFault {
-    ghost use Rattle.prolly_file.specs.ReadFaults.{whole_fault};
+    ghost use Rattle.prolly_io.specs.ReadFaults.{whole_fault};
 
     ghost from_gives = { λ read fault. fault ≡ whole_fault read };
 

@@ -3,8 +3,8 @@ ghost use Rattle.std.specs.Prelude.{◌≡◌, ◌^◌, ◌<◌, ◌≤◌, ◌+
 ghost use Rattle.std.specs.Prelude.{length, take, drop, IfSome};
 ghost use Rattle.std.specs.Int.{w64, from_be_bytes};
 ghost use Rattle.prolly_tree.specs.File.{end_record};
-ghost use Rattle.prolly_file.specs.EndRecord.{IsNoEnd, NamesRoot};
-ghost use Rattle.prolly_file.specs.Frame.{frame_start, framed, has_no_frame, IsSmall, BeginsFrame};
+ghost use Rattle.prolly_io.specs.EndRecord.{IsNoEnd, NamesRoot};
+ghost use Rattle.prolly_io.specs.Frame.{frame_start, framed, has_no_frame, IsSmall, BeginsFrame};
 
 use byteorder::{BigEndian, ByteOrder};
 use prolly_entry::Ref;

@@ -1,7 +1,7 @@
 //! The header of a chunk file.
 ghost use Rattle.std.specs.Prelude.{◌≡◌, ◌<◌, ◌≤◌, None, Some, length, slice_index, IfOk, IfErr};
 ghost use Rattle.prolly_tree.specs.File.{header};
-ghost use Rattle.prolly_file.specs.Header.{header_tests, header_fault, test_at, version_of};
+ghost use Rattle.prolly_io.specs.Header.{header_tests, header_fault, test_at, version_of};
 
 use prolly_entry::{BITS_LIMIT, Version};
 
@@ -34,7 +34,7 @@ pub enum HeaderFault {
 
 impl Header {
     /// What a file begins with.
-    pub(crate) fn to_bytes(self) -> [u8; HEADER_SIZE]
+    pub fn to_bytes(self) -> [u8; HEADER_SIZE]
         ensures { result ≡ header self.version self.bits }
     {
         [b'P', b'R', b'L', b'Y', self.version.to_byte(), self.bits]

@@ -4,11 +4,11 @@ ghost use Rattle.std.specs.Prelude.{IfOk};
 ghost use Rattle.prolly_entry.specs.declared.version.Version.TheVariants.{One};
 ghost use Rattle.prolly_tree.specs.Events.{greatest_count};
 ghost use Rattle.prolly_tree.specs.File.{header, end_record};
-ghost use Rattle.prolly_file.specs.Writer.{WritesHeader, next_count};
-ghost use Rattle.prolly_file.specs.Writes.{Writes};
-ghost use Rattle.prolly_file.specs.Failures.{CountsFailure};
-ghost use Rattle.prolly_file.specs.Frame.{framed};
-ghost use Rattle.prolly_file.specs.Sink.{IsSettled, TakesPrefix};
+ghost use Rattle.prolly_io.specs.Writer.{WritesHeader, next_count};
+ghost use Rattle.prolly_io.specs.Writes.{Writes};
+ghost use Rattle.prolly_io.specs.Failures.{CountsFailure};
+ghost use Rattle.prolly_io.specs.Frame.{framed};
+ghost use Rattle.prolly_io.specs.Sink.{IsSettled, TakesPrefix};
 
 use crate::device::{Sink, SinkFault};
 use crate::format::frame::{end_record, frame_start};
@@ -57,7 +57,7 @@ pub struct FileWriter {
 }
 
 impl Model for FileWriter {
-    ghost use Rattle.prolly_file.specs.Writer.{Progress};
+    ghost use Rattle.prolly_io.specs.Writer.{Progress};
 
     ghost Value = { Progress };
 

@@ -9,7 +9,7 @@ use Rattle.prolly_entry.specs.Prefix.{IsPrefix}
 use Rattle.prolly_entry.specs.Reading.{Begins, IsReading as Reads}
 use Rattle.prolly_entry.specs.Record.{Record, keys_of}
 use Rattle.prolly_entry.specs.Spelling.{record_spelling}
-use Rattle.prolly_file.specs.Source.{SourceView}
+use Rattle.prolly_io.specs.Source.{SourceView}
 use Rattle.prolly_laws.specs.Readings.{begins_all, begins_none, ends_clean, first_are_good, one_reading}
 use Rattle.prolly_link.specs.Growth.{items_between}
 use Rattle.prolly_link.specs.Progress.{HasEnded, end_given}

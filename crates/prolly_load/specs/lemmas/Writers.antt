@@ -1,8 +1,8 @@
 -- What a writer of a record file wrote, once it is closed.
 use Rattle.std.proofs.Common.{◌≡◌, ℕ, Bool, true, false, List, ◌++◌, ap, ◌∙◌}
 use Rattle.std.proofs.Common.{subst, append-nil, OnOk, OnErr}
-use Rattle.prolly_file.specs.Failures.{after_failure, CountsFailure}
-use Rattle.prolly_file.specs.Sink.{SinkView, TakesPrefix}
+use Rattle.prolly_io.specs.Failures.{after_failure, CountsFailure}
+use Rattle.prolly_io.specs.Sink.{SinkView, TakesPrefix}
 use Rattle.prolly_link.specs.Identity.{sink_link}
 use Rattle.prolly_load.specs.Writer.{HasFile, HasPart, IsWritten, Writing, link_to}
 use Rattle.prolly_load.specs.Writer.{outcome, spellings}

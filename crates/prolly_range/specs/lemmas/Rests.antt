@@ -9,8 +9,8 @@ use Rattle.prolly_entry.specs.Pair.{Pair}
 use Rattle.prolly_entry.specs.declared.version.Version.{Version}
 use Rattle.prolly_entry.specs.declared.version.Version.TheVariants.{One, Two}
 use Rattle.prolly_entry.specs.lemmas.Lists.{apart}
-use Rattle.prolly_file.specs.Frame.{framed, IsSmall}
-use Rattle.prolly_file.specs.FrameLaws.{one_front}
+use Rattle.prolly_io.specs.Frame.{framed, IsSmall}
+use Rattle.prolly_io.specs.FrameLaws.{one_front}
 use Rattle.prolly_range.specs.KeySet.{KeySet}
 use Rattle.prolly_range.specs.SetProof.{AreTaken, Due, IsSetProof, Takes, due_below, root_due}
 use Rattle.prolly_range.specs.SetProof.{set_start}

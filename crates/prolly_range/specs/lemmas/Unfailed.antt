@@ -1,7 +1,7 @@
 -- What is told where no call of a source of chunks failed.
 use Rattle.std.proofs.Common.{◌≡◌, ◌≢◌, inl, inr, ℕ, Result, Ok, Err, sym, subst, arith}
 use Rattle.std.specs.Prelude.{IfErr}
-use Rattle.prolly_file.specs.Failures.{after_failure}
+use Rattle.prolly_io.specs.Failures.{after_failure}
 use Rattle.prolly_root.specs.RootFault.{MayFail, TellsFailure}
 use Rattle.prolly_root.specs.declared.root_fault.RootFault.{RootFault}
 use Rattle.prolly_root.specs.declared.root_fault.RootFault.TheVariants.{Memory, Read}

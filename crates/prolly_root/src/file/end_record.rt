@@ -6,7 +6,7 @@ ghost use Rattle.prolly_root.specs.Walk.{HoldsFile, StaysSame};
 
 use crate::file::named_root_fault::NamedRootFault;
 use prolly_entry::Ref;
-use prolly_file::{Device, END_SIZE, HEADER_SIZE, read_end, read_header};
+use prolly_io::{Device, END_SIZE, HEADER_SIZE, read_end, read_header};
 
 /// The least size of a file that has room for a header and an end record.
 const LEAST_SIZE: u64 = (HEADER_SIZE + END_SIZE) as u64;

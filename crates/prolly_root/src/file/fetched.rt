@@ -11,7 +11,7 @@ use crate::file::walk::{Frame, Walk};
 use crate::given_chunk::GivenChunk;
 use crate::root_fault::RootFault;
 use prolly_entry::Version;
-use prolly_file::Device;
+use prolly_io::Device;
 use prolly_look_up::{LEAF, ManyThreads};
 use std::alloc::Global;
 use std::thread::{Threads, for_each_mut};

@@ -15,7 +15,7 @@ use crate::given_chunk::GivenChunk;
 use crate::read_ahead::ReadAhead;
 use crate::root_fault::RootFault;
 use prolly_entry::Version;
-use prolly_file::{CHUNK_LIMIT, Device};
+use prolly_io::{CHUNK_LIMIT, Device};
 use prolly_look_up::{LEAF, ManyThreads};
 use std::alloc::Global;
 use std::thread::Threads;

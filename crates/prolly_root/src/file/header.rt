@@ -6,7 +6,7 @@ ghost use Rattle.prolly_root.specs.RootFault.{IsOrFails, OnlyRead};
 ghost use Rattle.prolly_root.specs.Walk.{HasRead, HoldsFile};
 
 use crate::root_fault::RootFault;
-use prolly_file::{Device, HEADER_SIZE, Header, HeaderFault, read_header};
+use prolly_io::{Device, HEADER_SIZE, Header, HeaderFault, read_header};
 
 /// What the header of a chunk file says: the version of its chunks, and the bits by which its
 /// entries were cut. Nobody has checked that it says the truth: a root does not tell the bits of

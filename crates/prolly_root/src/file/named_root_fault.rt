@@ -1,6 +1,6 @@
 //! Why a chunk file names no root.
 
-use prolly_file::HeaderFault;
+use prolly_io::HeaderFault;
 
 /// Why a chunk file names no root. A check of the file tells each of these faults as well, and has a
 /// text for it.

@@ -4,7 +4,7 @@ ghost use Rattle.std.specs.Prelude.{◌≡◌, ◌≤◌, IfSome};
 use crate::file::marks::{Marks, Reached};
 use crate::file::walk::{Frame, Walk};
 use crate::root_fault::RootFault;
-use prolly_file::Device;
+use prolly_io::Device;
 
 /// Where a chunk stands in its file, and where the frames of what is below it begin.
 #[derive(Clone, Copy)]

@@ -1,13 +1,13 @@
 //! The frames of a chunk file on a device, one after another.
 ghost use Rattle.std.specs.Prelude.{◌≡◌, ◌+◌, ◌-◌, ◌^◌, ◌<◌, ◌≤◌, ℕ, [], ◌∷◌, ◌++◌, List, length};
 ghost use Rattle.std.specs.Prelude.{drop, Ok, None, OnOk, IfOk, IfErr, IsOk, IfSome};
-ghost use Rattle.prolly_file.specs.Frame.{frame_start};
+ghost use Rattle.prolly_io.specs.Frame.{frame_start};
 
 use crate::file::header::named_header;
 use crate::file::marks::Marks;
 use crate::root_fault::RootFault;
 use prolly_entry::Version;
-use prolly_file::{
+use prolly_io::{
     Device, END_LETTER, END_SIZE, FRAME_FRONT, FRAME_START, FrameFault, FrameStart, HEADER_SIZE,
     read_start,
 };

@@ -10,7 +10,7 @@ ghost use Rattle.prolly_look_up.specs.Sought.Sought.{Key};
 ghost use Rattle.prolly_look_up.specs.Way.{IsCountWay, IsWay, IsWayTo};
 ghost use Rattle.prolly_entry.specs.Cut.{sha512_cut};
 ghost use Rattle.prolly_entry.specs.declared.version.Version.TheVariants.{Two};
-ghost use Rattle.prolly_file.specs.Frame.{IsSmall};
+ghost use Rattle.prolly_io.specs.Frame.{IsSmall};
 ghost use Rattle.prolly_root.specs.Descent.{IsWayDown};
 ghost use Rattle.prolly_root.specs.ProofFile.{IsSomeProof, proof_file};
 ghost use Rattle.prolly_root.specs.RootFault.{OnlyRead, TellsReads};

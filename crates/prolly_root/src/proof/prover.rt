@@ -1,12 +1,12 @@
 //! The file of a proof of what a map has at a key.
 ghost use Rattle.std.specs.Prelude.{◌≡◌, ◌++◌, map, OnOk, IfOk};
 ghost use Rattle.std.specs.List.{AllByRecursion};
-ghost use Rattle.prolly_file.specs.Frame.{framed, IsSmall};
+ghost use Rattle.prolly_io.specs.Frame.{framed, IsSmall};
 ghost use Rattle.prolly_root.specs.ProofFile.{proof_file};
 
 use crate::proof::start::proof_start;
 use prolly_entry::Version;
-use prolly_file::frame_start;
+use prolly_io::frame_start;
 use std::alloc::{AllocError, Global};
 
 /// The file of a proof that has these chunks: those on the way of a look-up, from the root down.

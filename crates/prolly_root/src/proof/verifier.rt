@@ -4,14 +4,14 @@ ghost use Rattle.std.specs.Option.{option_copied};
 ghost use Rattle.prolly_look_up.specs.Sought.{sought_of};
 ghost use Rattle.prolly_look_up.specs.Step.{IsStep};
 ghost use Rattle.prolly_look_up.specs.Way.{FallsTo, IsNamed};
-ghost use Rattle.prolly_file.specs.Frame.{framed, has_no_frame, IsSmall};
+ghost use Rattle.prolly_io.specs.Frame.{framed, has_no_frame, IsSmall};
 ghost use Rattle.prolly_root.specs.ProofFault.{IsChunkFault, IsFault, IsFrameFault};
 ghost use Rattle.prolly_root.specs.ProofFile.{IsProof, proof_start};
 
 use crate::proof::fault::ProofFault;
 use crate::proof::start::behind_start;
 use prolly_entry::{Ref, Version};
-use prolly_file::front_frame;
+use prolly_io::front_frame;
 use prolly_look_up::{Due, Sought, Step, step_at, value_in};
 
 /// The value that the proof shows for the key in the tree with this root, or none where it shows

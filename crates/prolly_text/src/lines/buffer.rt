@@ -1,12 +1,12 @@
 //! The line that the unparsed bytes of a text begin.
 ghost use Rattle.std.specs.Prelude.{◌≡◌, ◌<◌, ◌+◌, ◌≤◌, ◌≢◌, true, All, length, take};
 ghost use Rattle.std.specs.Prelude.{◌↔◌, ◌^◌, ◌++◌, IfErr, IfOk, IsErrOf, IsOk, OnOk, Some, slice_get};
-ghost use Rattle.prolly_file.specs.Failures.{CountsFailure};
+ghost use Rattle.prolly_io.specs.Failures.{CountsFailure};
 ghost use Rattle.prolly_text.specs.Ahead.{IsWithin, LooksAhead, PassesLine, last_ahead};
 
 use crate::lines::line::first_place;
 use prolly_entry::{KEY_LIMIT, VALUE_LIMIT};
-use prolly_file::{ReadBuffer, Source, SourceFault, WholeFault};
+use prolly_io::{ReadBuffer, Source, SourceFault, WholeFault};
 
 /// How many bytes the longest line has that stands for a record. A byte of a key or a value takes
 /// at most four characters, `\xHH`, and between the two stands one byte.

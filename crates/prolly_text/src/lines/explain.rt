@@ -13,7 +13,7 @@ use crate::lines::buffer::{Ahead, LineBuffer, look_ahead, skip_line, sum};
 use crate::lines::defect::{Defect, LinePlace, defect_of};
 use crate::lines::form::LineForm;
 use crate::notation::Notation;
-use prolly_file::{Source, WholeFault};
+use prolly_io::{Source, WholeFault};
 use std::alloc::{AllocError, Global};
 use std::fmt;
 use std::fmt::{Display, Formatter};

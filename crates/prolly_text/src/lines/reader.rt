@@ -5,7 +5,7 @@ use crate::lines::buffer::{Ahead, LineBuffer, look_ahead};
 use crate::lines::form::LineForm;
 use crate::lines::pack::{LinesFault, record_at};
 use prolly_entry::Record;
-use prolly_file::{Source, SourceFault};
+use prolly_io::{Source, SourceFault};
 use std::alloc::{AllocError, Global};
 use std::fmt;
 use std::fmt::{Display, Formatter};

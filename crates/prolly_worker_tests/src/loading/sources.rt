@@ -1,5 +1,5 @@
 //! A source that is watched.
-use prolly_file::{ScriptSource, Source, SourceFault};
+use prolly_io::{ScriptSource, Source, SourceFault};
 
 /// A scripted source that remembers the least room that a read had.
 #[derive(Drop)]
@@ -23,7 +23,7 @@ impl Watched {
 }
 
 impl Source for Watched {
-    ghost use Rattle.prolly_file.specs.BytesLaws.{bytes_from_test};
+    ghost use Rattle.prolly_io.specs.BytesLaws.{bytes_from_test};
 
     ghost seen = { λ s. ⟦<ScriptSource as Source>⟧.seen s.script };
 

@@ -2,7 +2,7 @@ use Rattle.std.proofs.Common.{◌-◌, ap, sym, subst, ◌∙◌, List}
 use Rattle.std.proofs.lemmas.Result.{on_ok_weaker, IfErr-weaker}
 use Rattle.prolly_tree.specs.Chunk.{Chunk}
 use Rattle.prolly_tree.specs.File.{header}
-use Rattle.prolly_file.specs.Sink.{SinkView}
+use Rattle.prolly_io.specs.Sink.{SinkView}
 use Rattle.prolly_link.specs.Progress.{end_given}
 use Rattle.prolly_link.specs.declared.message.End.{End}
 use Rattle.prolly_link.specs.declared.fault.RunFault.{RunFault}

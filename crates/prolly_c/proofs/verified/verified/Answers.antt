@@ -1,7 +1,7 @@
 use Rattle.std.proofs.Common.{◌≡◌, ◌∙◌, subst, sym, ap}
 use Rattle.std.specs.Prelude.{MatchOption}
 use Rattle.std.proofs.lemmas.Result.{err_from_is_err_and}
-use Rattle.prolly_file.specs.Writer.{next_count}
+use Rattle.prolly_io.specs.Writer.{next_count}
 use Rattle.prolly_range.specs.KeySet.{set_of}
 use Rattle.prolly_range.specs.Verifier.{ComesTo, IsNextFault, IsRestOf, VerifierView}
 use Rattle.prolly_c.proofs.Verifying.{chunk_came, next_refused, not_read, reading_begins}

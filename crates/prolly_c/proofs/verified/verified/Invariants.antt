@@ -1,5 +1,5 @@
 use Rattle.std.proofs.Common.{◌≡◌, true, false}
-use Rattle.prolly_file.specs.Bytes.{are_bytes}
+use Rattle.prolly_io.specs.Bytes.{are_bytes}
 use Rattle.prolly_range.specs.KeySet.{set_of}
 use Rattle.prolly_range.specs.ToGo.{to_go}
 use Rattle.prolly_c.proofs.Verifying.{IsReading}

@@ -1,5 +1,5 @@
 use Rattle.std.proofs.Common.{rules, ◌≡◌, ◌∙◌, refl}
-use Rattle.prolly_file.specs.ReadBufferLaws.{gains_none}
+use Rattle.prolly_io.specs.ReadBufferLaws.{gains_none}
 use Rattle.prolly_load.proofs.UnderWay.{one_sent, more_read, nothing_read, record_taken}
 use Rattle.prolly_load.proofs.UnderWay.{flaw_taken, nothing_taken, still_undecided}
 use Rattle.prolly_load.proofs.LoadEnds.{memory_ends, flaw_ends, over_ends, read_ends}

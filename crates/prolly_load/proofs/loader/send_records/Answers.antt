@@ -1,7 +1,7 @@
 use Rattle.std.proofs.Common.{refl, sym, subst, None, [], arith}
 use Rattle.prolly_link.specs.declared.message.End.TheVariants.{Fault}
 use Rattle.prolly_link.specs.declared.fault.RunFault.TheVariants.{Memory}
-use Rattle.prolly_file.specs.ReadBuffer.{Held}
+use Rattle.prolly_io.specs.ReadBuffer.{Held}
 use Rattle.prolly_load.specs.Loaded.{IsLoaded}
 use Rattle.prolly_load.proofs.UnderWay.{none_sent, within}
 use Rattle.prolly_load.proofs.LoadEnds.{memory_ends}

@@ -1,7 +1,7 @@
 use Rattle.std.proofs.Common.{rules, ◌≡◌, ◌∙◌, Some, refl, sym, ap, subst, arith}
 use Rattle.std.specs.Option.{option_or}
-use Rattle.prolly_file.specs.ReadBuffer.{Held}
-use Rattle.prolly_file.specs.ReadBufferLaws.{gains_none}
+use Rattle.prolly_io.specs.ReadBuffer.{Held}
+use Rattle.prolly_io.specs.ReadBufferLaws.{gains_none}
 use Rattle.prolly_load.specs.Survey.{key_bytes}
 use Rattle.prolly_load.specs.Tally.{HasToldKey, Tells}
 use Rattle.prolly_load.proofs.Surveys.{IsSurveying, none_passed, one_passed, more_came, has_room}

@@ -1,7 +1,7 @@
 use Rattle.std.proofs.Common.{◌++◌, ◌∙◌, ap, map, option_map, subst}
 use Rattle.std.proofs.lemmas.Result.{err_from_is_err_and}
-use Rattle.prolly_file.specs.Frame.{framed}
-use Rattle.prolly_file.specs.Sink.{TakesPrefix}
+use Rattle.prolly_io.specs.Frame.{framed}
+use Rattle.prolly_io.specs.Sink.{TakesPrefix}
 use Rattle.prolly_range.specs.Prover.{ProvesNext, located_due}
 use Rattle.prolly_range.proofs.Writing.{frame_part, one_written}
 use Rattle.prolly_range.proofs.prover.write_chunks.Goals as goal

@@ -1,7 +1,7 @@
 use Rattle.std.proofs.Common.{◌≡◌, ◌∷◌, ◌∙◌, [], None, map, rules, subst, sym}
 use Rattle.std.specs.Prelude.{MatchOption}
 use Rattle.std.proofs.lemmas.Result.{err_from_is_err_and}
-use Rattle.prolly_file.specs.Writer.{next_count}
+use Rattle.prolly_io.specs.Writer.{next_count}
 use Rattle.prolly_range.specs.KeySet.{set_of}
 use Rattle.prolly_range.specs.SetProof.{root_due}
 use Rattle.prolly_range.specs.Verifier.{IsNextFault, IsRestOf}

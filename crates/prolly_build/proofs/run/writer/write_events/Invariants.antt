@@ -1,5 +1,5 @@
 use Rattle.std.proofs.Common.{◌≡◌, ℕ, List, []}
-use Rattle.prolly_file.specs.Sink.{SinkView}
+use Rattle.prolly_io.specs.Sink.{SinkView}
 use Rattle.prolly_build.specs.WriterState.{HasWritten}
 use Rattle.prolly_build.proofs.run.writer.write_events.Given as goal
 

@@ -1,7 +1,7 @@
 use Rattle.std.proofs.Common.{All, arith}
 use Rattle.std.proofs.lemmas.List.{get_or_default}
 use Rattle.prolly_entry.specs.Byte.{IsByte}
-use Rattle.prolly_file.specs.BytesLaws.{test_from_bytes}
+use Rattle.prolly_io.specs.BytesLaws.{test_from_bytes}
 use Rattle.prolly_c.proofs.lent.Lent.new.Goals as goal
 
 pub returns-clause-honest : goal.returns-clause-honest

@@ -2,8 +2,8 @@ use Rattle.std.proofs.Common.{◌≡◌, ◌∙◌, ◌-◌, ℕ, true, List, le
 use Rattle.std.proofs.lemmas.List.Elements.{All-drop}
 use Rattle.prolly_entry.specs.Byte.{IsByte}
 use Rattle.prolly_entry.specs.lemmas.Lists.{rest_is}
-use Rattle.prolly_file.specs.Bytes.{are_bytes}
-use Rattle.prolly_file.specs.BytesLaws.{bytes_from_test, test_from_bytes}
+use Rattle.prolly_io.specs.Bytes.{are_bytes}
+use Rattle.prolly_io.specs.BytesLaws.{bytes_from_test, test_from_bytes}
 use Rattle.prolly_c.proofs.lent.LentSource.read.Goals as goal
 
 -- Where bytes are bytes, so are those from a place on.

@@ -1,5 +1,5 @@
 use Rattle.std.proofs.Common.{◌≡◌, ◌≤◌, ◌-◌, length}
-use Rattle.prolly_file.proofs.device.from_file.fill_from.Given as goal
+use Rattle.prolly_io.proofs.device.from_file.fill_from.Given as goal
 
 abbrev pub invariant-loop-filled : goal.invariant-loop-filled
 invariant-loop-filled l = record {

@@ -1,6 +1,6 @@
 use Rattle.std.proofs.Common.{rules, ◌∙◌}
-use Rattle.prolly_file.proofs.Spans.{same_behind}
-use Rattle.prolly_file.proofs.device.read_buffer.compact.Goals as goal
+use Rattle.prolly_io.proofs.Spans.{same_behind}
+use Rattle.prolly_io.proofs.device.read_buffer.compact.Goals as goal
 
 pub returns-clause-unparsed : goal.returns-clause-unparsed
 returns-clause-unparsed g c =

@@ -1,6 +1,6 @@
 use Rattle.std.proofs.Common.{rules}
-use Rattle.prolly_file.proofs.ReadBehind.{read_fills}
-use Rattle.prolly_file.proofs.device.read_buffer.read_behind.Goals as goal
+use Rattle.prolly_io.proofs.ReadBehind.{read_fills}
+use Rattle.prolly_io.proofs.device.read_buffer.read_behind.Goals as goal
 
 pub returns-clause-fills : goal.returns-clause-fills
 returns-clause-fills g c =

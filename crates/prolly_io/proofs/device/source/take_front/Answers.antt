@@ -2,8 +2,8 @@ use Rattle.std.proofs.lemmas.Grind.{common_steps}
 use Rattle.std.proofs.Common.{◌∙◌, ◌-◌, ◌++◌, length, take, sym, ap, arith, rules}
 use Rattle.std.proofs.lemmas.List.{length-take-le}
 use Rattle.std.proofs.lemmas.Result.{err_from_is_err_and}
-use Rattle.prolly_file.proofs.Fronts.{front_grown}
-use Rattle.prolly_file.proofs.device.source.take_front.Goals as goal
+use Rattle.prolly_io.proofs.Fronts.{front_grown}
+use Rattle.prolly_io.proofs.device.source.take_front.Goals as goal
 
 pub loop-count-preserved : goal.loop-count-preserved
 loop-count-preserved g c = record {

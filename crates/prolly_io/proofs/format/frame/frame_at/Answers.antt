@@ -1,6 +1,6 @@
 use Rattle.std.proofs.Common.{rules, arith}
-use Rattle.prolly_file.proofs.FrameBytes.{frame_found}
-use Rattle.prolly_file.proofs.format.frame.frame_at.Goals as goal
+use Rattle.prolly_io.proofs.FrameBytes.{frame_found}
+use Rattle.prolly_io.proofs.format.frame.frame_at.Goals as goal
 
 pub returns-clause-found : goal.returns-clause-found
 returns-clause-found c = frame_found c.args.bytes.now c.length_field-len.result (λ i. search rules)

@@ -1,7 +1,7 @@
 use Rattle.std.proofs.Common.{sym, ◌∙◌, arith}
-use Rattle.prolly_file.specs.Header.{header_tests}
-use Rattle.prolly_file.proofs.HeaderBytes.{goes_on, stops, ends}
-use Rattle.prolly_file.proofs.format.header.read_header.Goals as goal
+use Rattle.prolly_io.specs.Header.{header_tests}
+use Rattle.prolly_io.proofs.HeaderBytes.{goes_on, stops, ends}
+use Rattle.prolly_io.proofs.format.header.read_header.Goals as goal
 
 pub returns-then-offset-bytes-clause-err : goal.returns-then-offset-bytes-clause-err
 returns-then-offset-bytes-clause-err c = c.loop-offset.invariant.0 ∙

@@ -1,6 +1,6 @@
 use Rattle.std.proofs.lemmas.Grind.{common_steps}
 use Rattle.std.proofs.Common.{arith}
-use Rattle.prolly_file.proofs.format.writer.write_all.Goals as goal
+use Rattle.prolly_io.proofs.format.writer.write_all.Goals as goal
 
 pub loop-rest-preserved : goal.loop-rest-preserved
 loop-rest-preserved g c = grind (arith, common_steps) steps 2000000

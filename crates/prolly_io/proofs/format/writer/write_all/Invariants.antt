@@ -1,6 +1,6 @@
 use Rattle.std.proofs.Common.{◌≡◌, [], true, length}
-use Rattle.prolly_file.proofs.Written.{IsWritten}
-use Rattle.prolly_file.proofs.format.writer.write_all.Given as goal
+use Rattle.prolly_io.proofs.Written.{IsWritten}
+use Rattle.prolly_io.proofs.format.writer.write_all.Given as goal
 
 abbrev pub invariant-loop-rest : goal.invariant-loop-rest
 invariant-loop-rest g l = record {

@@ -1,9 +1,9 @@
 use Rattle.std.proofs.lemmas.Grind.{common_steps}
 use Rattle.std.proofs.Common.{length, arith}
 use Rattle.std.proofs.lemmas.Result.{err_from_is_err_and}
-use Rattle.prolly_file.specs.Frame.{frame_start}
-use Rattle.prolly_file.proofs.Written.{taken_of_first}
-use Rattle.prolly_file.proofs.format.writer.write_frame.Goals as goal
+use Rattle.prolly_io.specs.Frame.{frame_start}
+use Rattle.prolly_io.proofs.Written.{taken_of_first}
+use Rattle.prolly_io.proofs.format.writer.write_frame.Goals as goal
 
 pub returns-in_err-write_all : goal.returns-in_err-write_all
 returns-in_err-write_all g c =

@@ -1,5 +1,5 @@
 use Rattle.std.proofs.Common.{rules}
-use Rattle.prolly_file.proofs.format.writer.write_whole.Goals as goal
+use Rattle.prolly_io.proofs.format.writer.write_whole.Goals as goal
 
 pub returns-clause-fault : goal.returns-clause-fault
 returns-clause-fault g c = search rules

@@ -1,7 +1,7 @@
 use Rattle.std.proofs.Common.{◌≡◌, [], ◌∙◌, ◌++◌, map, sym, ap, arith, append-nil, subst}
 use Rattle.std.proofs.lemmas.List.{length-map}
 use Rattle.std.proofs.Math.ListN.{get_or-map}
-use Rattle.prolly_file.specs.Frame.{framed, IsSmall}
+use Rattle.prolly_io.specs.Frame.{framed, IsSmall}
 use Rattle.prolly_root.specs.ProofFile.{proof_start}
 use Rattle.prolly_root.proofs.Passing.{all_frames, one_frame}
 use Rattle.prolly_root.proofs.proof.prover.proof_of.Goals as goal

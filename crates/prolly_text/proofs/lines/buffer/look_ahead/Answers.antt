@@ -1,6 +1,6 @@
 use Rattle.std.proofs.Common.{◌≡◌, ◌≢◌, ◌∙◌, All, ap, arith, length, length-append, rules, subst}
 use Rattle.std.proofs.Common.{sym, take}
-use Rattle.prolly_file.specs.ReadBufferLaws.{gains_none}
+use Rattle.prolly_io.specs.ReadBufferLaws.{gains_none}
 use Rattle.prolly_text.specs.Ahead.{IsAhead, last_ahead}
 use Rattle.prolly_text.proofs.Looking.{line_found, long_found, none_grown, over_ahead, same_grown}
 use Rattle.prolly_text.proofs.lines.buffer.look_ahead.Goals as goal

@@ -1,6 +1,6 @@
 use Rattle.std.proofs.Common.{ap}
-use Rattle.prolly_file.proofs.BlockReads.{and_true}
-use Rattle.prolly_file.proofs.device.block_device.Blocks.new.Goals as goal
+use Rattle.prolly_io.proofs.BlockReads.{and_true}
+use Rattle.prolly_io.proofs.device.block_device.Blocks.new.Goals as goal
 
 pub returns : goal.returns
 returns g c =

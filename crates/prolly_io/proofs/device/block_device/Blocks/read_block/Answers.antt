@@ -1,6 +1,6 @@
 use Rattle.std.proofs.Common.{arith}
 use Rattle.std.proofs.lemmas.Grind.{common_steps}
-use Rattle.prolly_file.proofs.device.block_device.Blocks.read_block.Goals as goal
+use Rattle.prolly_io.proofs.device.block_device.Blocks.read_block.Goals as goal
 
 pub returns-in_err-self-clause-size : goal.returns-in_err-self-clause-size
 returns-in_err-self-clause-size g c = grind (arith, common_steps)

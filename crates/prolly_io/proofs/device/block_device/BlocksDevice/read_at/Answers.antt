@@ -1,7 +1,7 @@
 use Rattle.std.proofs.Common.{◌≡◌, ◌∙◌, ◌≤◌, ◌++◌, ap, arith, length, sym, take, drop}
 use Rattle.std.proofs.lemmas.List.{length-append, length-drop, length-take-le, take_all, take_at}
-use Rattle.prolly_file.proofs.BlockReads.{block_kept, first_serve, kept_serve, passes, tested}
-use Rattle.prolly_file.proofs.device.block_device.BlocksDevice.read_at.Goals as goal
+use Rattle.prolly_io.proofs.BlockReads.{block_kept, first_serve, kept_serve, passes, tested}
+use Rattle.prolly_io.proofs.device.block_device.BlocksDevice.read_at.Goals as goal
 
 pub returns-in-Some-clause-bytes : goal.returns-in-Some-clause-bytes
 returns-in-Some-clause-bytes g c told =

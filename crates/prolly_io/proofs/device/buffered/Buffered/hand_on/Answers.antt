@@ -1,7 +1,7 @@
 use Rattle.std.proofs.lemmas.Grind.{common_steps}
 use Rattle.std.proofs.Common.{◌∙◌, arith}
-use Rattle.prolly_file.proofs.Written.{handed_on}
-use Rattle.prolly_file.proofs.device.buffered.Buffered.hand_on.Goals as goal
+use Rattle.prolly_io.proofs.Written.{handed_on}
+use Rattle.prolly_io.proofs.device.buffered.Buffered.hand_on.Goals as goal
 
 pub loop-self-preserved : goal.loop-self-preserved
 loop-self-preserved g c = record {

@@ -1,5 +1,5 @@
 use Rattle.std.proofs.Common.{◌≡◌, ◌-◌, ◌++◌, true, drop, vec_len}
-use Rattle.prolly_file.proofs.device.buffered.Buffered.hand_on.Given as goal
+use Rattle.prolly_io.proofs.device.buffered.Buffered.hand_on.Given as goal
 
 -- what is held no more was taken by the other sink
 abbrev pub invariant-loop-self : goal.invariant-loop-self

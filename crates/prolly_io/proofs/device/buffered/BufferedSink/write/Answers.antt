@@ -1,8 +1,8 @@
 use Rattle.std.proofs.lemmas.Grind.{common_steps}
 use Rattle.std.proofs.Common.{arith}
-use Rattle.prolly_file.proofs.device.buffered.BufferedSink.write.Goals as goal
-use Rattle.prolly_file.proofs.device.buffered.BufferedSink.write.Goals.{then-buf-capacity+in_ok-hand_on}
-use Rattle.prolly_file.proofs.device.buffered.BufferedSink.write.Goals.{else-buf-capacity}
+use Rattle.prolly_io.proofs.device.buffered.BufferedSink.write.Goals as goal
+use Rattle.prolly_io.proofs.device.buffered.BufferedSink.write.Goals.{then-buf-capacity+in_ok-hand_on}
+use Rattle.prolly_io.proofs.device.buffered.BufferedSink.write.Goals.{else-buf-capacity}
 
 pub returns-clause-emptied : goal.returns-clause-emptied
 returns-clause-emptied g c full = elim c.if-buf-capacity.branch [

@@ -1,5 +1,5 @@
 use Rattle.std.proofs.Common.{rules}
-use Rattle.prolly_file.proofs.device.from_read.FromReadSource.read.Goals as goal
+use Rattle.prolly_io.proofs.device.from_read.FromReadSource.read.Goals as goal
 
 pub returns-after-n-eq0-clause-bytes : goal.returns-after-n-eq0-clause-bytes
 returns-after-n-eq0-clause-bytes g c = search rules

@@ -1,5 +1,5 @@
 use Rattle.std.proofs.Common.{◌≡◌, ◌<◌, ◌≤◌, ◌-◌, ◌++◌, true, length, take, vec_len}
-use Rattle.prolly_file.proofs.device.part_reader.PartReader.read_up_to.Given as goal
+use Rattle.prolly_io.proofs.device.part_reader.PartReader.read_up_to.Given as goal
 
 abbrev pub invariant-loop-part : goal.invariant-loop-part
 invariant-loop-part g l = record {

@@ -1,8 +1,8 @@
 use Rattle.std.proofs.Common.{◌≡◌, ◌≤◌, ◌∙◌, arith, ap, drop, length}
-use Rattle.prolly_file.specs.ReadBuffer.{Held}
-use Rattle.prolly_file.specs.Span.{part}
-use Rattle.prolly_file.proofs.Spans.{part_behind}
-use Rattle.prolly_file.proofs.device.read_buffer.ReadBuffer.consume.Goals as goal
+use Rattle.prolly_io.specs.ReadBuffer.{Held}
+use Rattle.prolly_io.specs.Span.{part}
+use Rattle.prolly_io.proofs.Spans.{part_behind}
+use Rattle.prolly_io.proofs.device.read_buffer.ReadBuffer.consume.Goals as goal
 
 pub returns-clause-unparsed : goal.returns-clause-unparsed
 returns-clause-unparsed g c =

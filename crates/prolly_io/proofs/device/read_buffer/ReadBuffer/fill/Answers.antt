@@ -1,8 +1,8 @@
 use Rattle.std.proofs.lemmas.Grind.{common_steps}
 use Rattle.std.proofs.Common.{ap, ◌∙◌, arith}
-use Rattle.prolly_file.specs.ReadBuffer.{Held}
-use Rattle.prolly_file.proofs.Spans.{kept_given_back}
-use Rattle.prolly_file.proofs.device.read_buffer.ReadBuffer.fill.Goals as goal
+use Rattle.prolly_io.specs.ReadBuffer.{Held}
+use Rattle.prolly_io.proofs.Spans.{kept_given_back}
+use Rattle.prolly_io.proofs.device.read_buffer.ReadBuffer.fill.Goals as goal
 
 pub returns-in_err-count-clause-kept : goal.returns-in_err-count-clause-kept
 returns-in_err-count-clause-kept g c =

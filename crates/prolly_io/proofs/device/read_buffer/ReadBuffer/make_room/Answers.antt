@@ -1,6 +1,6 @@
 use Rattle.std.proofs.lemmas.Grind.{common_steps}
 use Rattle.std.proofs.Common.{arith}
-use Rattle.prolly_file.proofs.device.read_buffer.ReadBuffer.make_room.Goals as goal
+use Rattle.prolly_io.proofs.device.read_buffer.ReadBuffer.make_room.Goals as goal
 
 pub invariant_of-self : goal.invariant_of-self
 invariant_of-self g c = grind (arith, common_steps) steps 2000000

@@ -1,8 +1,8 @@
 use Rattle.std.proofs.Common.{◌&&◌, All, arith, ap}
 use Rattle.std.proofs.lemmas.List.{get_or_default}
 use Rattle.prolly_entry.specs.Byte.{IsByte}
-use Rattle.prolly_file.specs.BytesLaws.{test_from_bytes}
-use Rattle.prolly_file.proofs.device.rejoined.Rejoined.new.Goals as goal
+use Rattle.prolly_io.specs.BytesLaws.{test_from_bytes}
+use Rattle.prolly_io.proofs.device.rejoined.Rejoined.new.Goals as goal
 
 pub returns-clause-honest : goal.returns-clause-honest
 returns-clause-honest g c =

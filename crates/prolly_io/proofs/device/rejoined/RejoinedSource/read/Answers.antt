@@ -2,9 +2,9 @@ use Rattle.std.proofs.Common.{◌≡◌, ◌∙◌, ◌-◌, ◌&&◌, ℕ, Bool
 use Rattle.std.proofs.lemmas.List.Elements.{All-drop}
 use Rattle.prolly_entry.specs.Byte.{IsByte}
 use Rattle.prolly_entry.specs.lemmas.Lists.{rest_is}
-use Rattle.prolly_file.specs.Bytes.{are_bytes}
-use Rattle.prolly_file.specs.BytesLaws.{both_true, bytes_from_test, test_from_bytes}
-use Rattle.prolly_file.proofs.device.rejoined.RejoinedSource.read.Goals as goal
+use Rattle.prolly_io.specs.Bytes.{are_bytes}
+use Rattle.prolly_io.specs.BytesLaws.{both_true, bytes_from_test, test_from_bytes}
+use Rattle.prolly_io.proofs.device.rejoined.RejoinedSource.read.Goals as goal
 
 -- Where bytes are bytes, beside what else is true, so are those from an offset on.
 still_bytes : (bytes : List ℕ) (at : ℕ) (other : Bool) → (are_bytes bytes && other) ≡ true →

@@ -1,9 +1,9 @@
 use Rattle.std.proofs.lemmas.Grind.{common_steps}
 use Rattle.std.proofs.Common.{◌≡◌, ◌∙◌, true, arith, length, sym, ap, subst}
-use Rattle.prolly_file.specs.Bytes.{are_bytes}
-use Rattle.prolly_file.specs.Script.{SourceScript}
-use Rattle.prolly_file.proofs.ScriptReads.{all_given, handed_out, rest_are_bytes}
-use Rattle.prolly_file.proofs.device.script.ScriptSourceSource.read.Goals as goal
+use Rattle.prolly_io.specs.Bytes.{are_bytes}
+use Rattle.prolly_io.specs.Script.{SourceScript}
+use Rattle.prolly_io.proofs.ScriptReads.{all_given, handed_out, rest_are_bytes}
+use Rattle.prolly_io.proofs.device.script.ScriptSourceSource.read.Goals as goal
 
 pub returns-clause-bytes : goal.returns-clause-bytes
 returns-clause-bytes c =

@@ -1,5 +1,5 @@
 use Rattle.std.proofs.Common.{rules}
-use Rattle.prolly_file.proofs.format.writer.FileWriter.chunk.Goals as goal
+use Rattle.prolly_io.proofs.format.writer.FileWriter.chunk.Goals as goal
 
 pub returns-clause-counted : goal.returns-clause-counted
 returns-clause-counted g c = search rules

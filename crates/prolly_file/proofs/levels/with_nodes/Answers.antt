@@ -1,6 +1,6 @@
 use Rattle.std.proofs.lemmas.Grind.{common_steps}
 use Rattle.std.proofs.Common.{rules, ◌∙◌, sym, arith}
-use Rattle.prolly_file.proofs.scratch_build.levels.with_nodes.Goals as goal
+use Rattle.prolly_file.proofs.levels.with_nodes.Goals as goal
 
 pub loop-event-init : goal.loop-event-init
 loop-event-init g c = record {

@@ -1,7 +1,7 @@
 use Rattle.std.proofs.Common.{◌++◌, ◌∷◌, [], ap, ◌∙◌, append_assoc}
 use Rattle.std.specs.Option.{option_to_list}
 use Rattle.std.proofs.lemmas.Result.{on_ok_weaker}
-use Rattle.prolly_file.proofs.scratch_build.levels.add_event.Goals as goal
+use Rattle.prolly_file.proofs.levels.add_event.Goals as goal
 
 pub returns : goal.returns
 returns g c =

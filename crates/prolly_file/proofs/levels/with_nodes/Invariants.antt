@@ -2,7 +2,7 @@ use Rattle.std.proofs.Common.{◌≡◌, ◌++◌}
 use Rattle.std.specs.Vec.Iter.{into_iter_items}
 use Rattle.prolly_tree.specs.Events.{faulty, inner_events}
 use Rattle.prolly_chunk.specs.NodeLevel.{node_level}
-use Rattle.prolly_file.proofs.scratch_build.levels.with_nodes.Given as goal
+use Rattle.prolly_file.proofs.levels.with_nodes.Given as goal
 
 abbrev pub invariant-loop-event : goal.invariant-loop-event
 invariant-loop-event g l = record {

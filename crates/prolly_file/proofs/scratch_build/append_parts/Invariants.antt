@@ -1,7 +1,7 @@
 use Rattle.std.proofs.Common.{◌≡◌, ◌++◌, take}
 use Rattle.std.specs.List.{flat_map}
 use Rattle.prolly_tree.specs.File.{frame}
-use Rattle.prolly_file.proofs.scratch_build.file.append_parts.Given as goal
+use Rattle.prolly_file.proofs.scratch_build.append_parts.Given as goal
 
 abbrev pub invariant-loop-chunk : goal.invariant-loop-chunk
 invariant-loop-chunk l = l.out.items ≡ l.fn.out.items ++

@@ -2,7 +2,7 @@ use Rattle.std.proofs.Common.{arith, subst, sym, ◌∙◌, rules}
 use Rattle.std.proofs.lemmas.Bool.{false≢true}
 use Rattle.prolly_tree.specs.Pipeline.{HasSecond}
 use Rattle.prolly_file.proofs.TreeChunks.{goes_on, ends_there, all_there}
-use Rattle.prolly_file.proofs.scratch_build.levels.all_chunks.Goals as goal
+use Rattle.prolly_file.proofs.levels.all_chunks.Goals as goal
 
 pub returns-then-level-max_levels-clause-err : goal.returns-then-level-max_levels-clause-err
 returns-then-level-max_levels-clause-err g c =

@@ -1,6 +1,6 @@
 use Rattle.std.proofs.lemmas.Grind.{common_steps}
 use Rattle.std.proofs.Common.{arith}
-use Rattle.prolly_file.proofs.scratch_build.file.append_parts.Goals as goal
+use Rattle.prolly_file.proofs.scratch_build.append_parts.Goals as goal
 
 pub returns-in_err-extend_from_slice-clause-err : goal.returns-in_err-extend_from_slice-clause-err
 returns-in_err-extend_from_slice-clause-err c = grind (arith, common_steps) steps 2000000

@@ -1,7 +1,7 @@
 use Rattle.std.proofs.Common.{◌≡◌, ◌<◌, ◌-◌}
 use Rattle.prolly_tree.specs.Events.{clean}
 use Rattle.prolly_tree.specs.Pipeline.{pipeline_events}
-use Rattle.prolly_file.proofs.scratch_build.levels.all_chunks.Given as goal
+use Rattle.prolly_file.proofs.levels.all_chunks.Given as goal
 
 abbrev pub invariant-loop-alloc : goal.invariant-loop-alloc
 invariant-loop-alloc g l = record {

@@ -1,6 +1,6 @@
 use Rattle.std.proofs.lemmas.Grind.{common_steps}
 use Rattle.std.proofs.Common.{◌∙◌, sym, arith}
-use Rattle.prolly_file.proofs.scratch_build.levels.leaves.Goals as goal
+use Rattle.prolly_file.proofs.levels.leaves.Goals as goal
 
 pub loop-pair-init : goal.loop-pair-init
 loop-pair-init g c = record {

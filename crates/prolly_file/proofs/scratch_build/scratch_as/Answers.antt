@@ -1,7 +1,7 @@
 use Rattle.std.proofs.lemmas.Grind.{common_steps}
 use Rattle.std.proofs.Common.{◌∙◌, arith}
 use Rattle.prolly_file.proofs.TreeChunks.{builds}
-use Rattle.prolly_file.proofs.scratch_build.file.scratch_as.Goals as goal
+use Rattle.prolly_file.proofs.scratch_build.scratch_as.Goals as goal
 
 pub returns : goal.returns
 returns g c =

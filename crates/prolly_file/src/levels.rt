@@ -11,7 +11,7 @@ ghost use Rattle.prolly_tree.specs.Tree.{level_count};
 ghost use Rattle.prolly_file.specs.Scratch.{keys_in, FallsAt};
 ghost use Rattle.prolly_file.specs.Levels.{AddsLeaf, AddsNode, IsLevelFault};
 
-use crate::scratch_build::file::ScratchFault;
+use crate::scratch_build::ScratchFault;
 use prolly_chunk::{ChunkEvent, LeafLevel, NodeLevel};
 use prolly_entry::{Cut, Pair, Version, key_order};
 use std::alloc::{AllocError, Global};

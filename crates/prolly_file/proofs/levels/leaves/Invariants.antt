@@ -2,7 +2,7 @@ use Rattle.std.proofs.Common.{◌≡◌, take}
 use Rattle.prolly_entry.specs.declared.version.Version.{Version}
 use Rattle.prolly_tree.specs.Events.{faulty, leaf_events}
 use Rattle.prolly_chunk.specs.LeafLevel.{leaf_level}
-use Rattle.prolly_file.proofs.scratch_build.levels.leaves.Given as goal
+use Rattle.prolly_file.proofs.levels.leaves.Given as goal
 
 abbrev pub invariant-loop-pair : goal.invariant-loop-pair
 invariant-loop-pair g l = record {

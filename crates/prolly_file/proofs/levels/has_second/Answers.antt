@@ -3,7 +3,7 @@ use Rattle.std.specs.List.{filter}
 use Rattle.std.proofs.lemmas.Bool.{leb-true, le-leb}
 use Rattle.std.proofs.lemmas.List.Sums.{length-filter}
 use Rattle.prolly_tree.specs.Events.{has_level}
-use Rattle.prolly_file.proofs.scratch_build.levels.has_second.Goals as goal
+use Rattle.prolly_file.proofs.levels.has_second.Goals as goal
 
 pub returns : goal.returns
 returns c =

@@ -1,6 +1,6 @@
 use Rattle.std.proofs.Common.{rules, arith}
 use Rattle.prolly_file.proofs.Rises.{rises_on, falls_there}
-use Rattle.prolly_file.proofs.scratch_build.levels.first_fall.Goals as goal
+use Rattle.prolly_file.proofs.levels.first_fall.Goals as goal
 
 pub returns-then-not-is_lt-clause-some : goal.returns-then-not-is_lt-clause-some
 returns-then-not-is_lt-clause-some c =
