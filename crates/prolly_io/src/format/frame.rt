@@ -1,5 +1,5 @@
 //! The frame of a chunk in a chunk file, and the end record behind the last one.
-ghost use Rattle.std.specs.Prelude.{◌≡◌, ◌^◌, ◌<◌, ◌≤◌, ◌++◌, ◌∷◌, ℕ, List, [], true, None, Ok};
+ghost use Rattle.std.specs.Prelude.{◌≡◌, ◌^◌, ◌<◌, ◌≤◌, ◌++◌, ◌∷◌, ℕ, List, [], true, None, Ok, Err};
 ghost use Rattle.std.specs.Prelude.{length, take, drop, IfSome};
 ghost use Rattle.std.specs.Int.{w64, from_be_bytes};
 ghost use Rattle.prolly_tree.specs.File.{end_record};
@@ -56,6 +56,12 @@ pub fn read_start(bytes: &[u8]) -> Result<FrameStart, FrameFault>
     ensures end { (more : List ℕ) → bytes.now ≡ END_LETTER ∷ more → result ≡ Ok FrameStart.End }
     ensures chunk { (len level : ℕ) → len < 2 ^ 64 → bytes.now ≡ frame_start len ++ level ∷ [] →
         result ≡ Ok (FrameStart.Chunk len level) }
+    ensures empty { bytes.now ≡ [] → result ≡ Err FrameFault.Truncated }
+    ensures cut { (more : List ℕ) → bytes.now ≡ FRAME_LETTER ∷ more → length more < FRAME_START →
+        result ≡ Err FrameFault.Truncated }
+    ensures other { (letter : ℕ) (more : List ℕ) → bytes.now ≡ letter ∷ more →
+        (letter ≡ END_LETTER → ⊥) → (letter ≡ FRAME_LETTER → ⊥) →
+        result ≡ Err FrameFault.BadLetter }
 {
     match bytes {
         [END_LETTER, ..] => Ok(FrameStart::End),
