@@ -1,7 +1,8 @@
 -- A writer to which one record more is sent, and one that is closed.
-use Rattle.std.proofs.Common.{◌≡◌, ℕ, Bool, true, false, List, [], ◌∷◌, ◌++◌, Ok, Err}
+use Rattle.std.proofs.Common.{◌≡◌, ℕ, Bool, true, false, List, [], ◌∷◌, ◌++◌, Result, Ok, Err}
 use Rattle.std.proofs.Common.{refl, sym, ap, ◌∙◌, subst, arith, append_assoc, append-nil}
 use Rattle.std.proofs.lemmas.List.Concat.{flat_map-append}
+use Rattle.prolly_entry.specs.Prefix.{IsPrefix}
 use Rattle.prolly_entry.specs.Record.{Record}
 use Rattle.prolly_entry.specs.Spelling.{record_spelling}
 use Rattle.prolly_io.specs.Failures.{after_failure}
@@ -44,6 +45,27 @@ module _ (a b : List ℕ) (old mid new : SinkView)
     keeping = λ k. second.keeping (first.keeping k);
   }
 
+-- What was written is in the sink.
+whole_taken : (a : List ℕ) (old new : SinkView) →
+    Writes {T = Unit {0}} {E = Unit {0}} a old new (Ok tt) → old.is_keeping ≡ true →
+    IsPrefix (old.taken ++ a) new.taken
+whole_taken a old new w k = ([], w.written k ∙ sym (append-nil (old.taken ++ a)))
+
+-- What was written first is in the sink, whatever comes of what is written then.
+module _ (a b : List ℕ) (old mid new : SinkView)
+    (first : Writes {T = Unit {0}} {E = Unit {0}} a old mid (Ok tt)) where
+  first_taken : old.is_keeping ≡ true → {T E : Type 0} (result : Result T E) →
+      Writes {T = T} {E = E} b mid new result → IsPrefix (old.taken ++ a) new.taken
+  first_taken k (Ok x) second = (
+    b,
+    second.written (first.keeping k) ∙ ap (λ xs. xs ++ b) (first.written k),
+  )
+  first_taken k (Err x) second =
+      let t = second.part (first.keeping k) in (
+        t.part,
+        t.grown ∙ ap (λ xs. xs ++ t.part) (first.written k),
+      )
+
 -- ---- one record more
 
 abbrev pub writing_of : SinkView → SinkView → List Record → Bool → Writing
@@ -79,6 +101,10 @@ module _ (begun sink new : SinkView) (records : List Record) (r : Record)
         (sym (ap spellings (append-nil (records ++ r ∷ [])) ∙ one_more))
         (both_written (spellings records) (record_spelling r) begun sink new (all_written begun sink records h) x w);
     no_more = λ _. refl;
+    sent = λ k. subst (λ xs. IsPrefix (begun.taken ++ xs) new.taken) (sym one_more)
+        (whole_taken (spellings records ++ record_spelling r) begun new
+        (both_written (spellings records) (record_spelling r) begun sink new
+        (all_written begun sink records h) x w) k);
   }
 
   pub one_failed : {T E : Type 0} (x : E) →
@@ -90,6 +116,8 @@ module _ (begun sink new : SinkView) (records : List Record) (r : Record)
     writes = subst (λ xs. Writes {T = Unit {0}} {E = Unit {0}} xs begun new (Err tt)) (sym one_more)
         (second_failed (spellings records) (record_spelling r) begun sink new (all_written begun sink records h) x w);
     no_more = λ e. cc;
+    sent = λ k. first_taken (spellings records) (record_spelling r) begun sink new
+        (all_written begun sink records h) k (Err x) w;
   }
 
 -- ---- the end
@@ -106,6 +134,8 @@ module _ (begun sink new : SinkView) (records : List Record) where
         (both_written (spellings records) [] begun sink new
         (all_written begun sink records h) tt w);
     no_more = λ _. refl;
+    sent = λ k. first_taken (spellings records) [] begun sink new
+        (all_written begun sink records h) k (Ok tt) w;
   }
   closed_whole h true w = record {
     more = [];
@@ -115,6 +145,8 @@ module _ (begun sink new : SinkView) (records : List Record) where
         (second_failed (spellings records) [] begun sink new
         (all_written begun sink records h) tt w);
     no_more = λ e. cc;
+    sent = λ k. first_taken (spellings records) [] begun sink new
+        (all_written begun sink records h) k (Err tt) w;
   }
 
   -- A writer that is closed: flushed, where no call had failed before.

@@ -1,6 +1,7 @@
 -- What contracts see of a writer of a record file, and of what it leaves.
 use Rattle.std.specs.Prelude.{◌≡◌, ◌≤◌, ℕ, Bool, true, false, List, [], ◌++◌, length, Result, Ok, Err}
 use Rattle.std.specs.List.{flat_map}
+use Rattle.prolly_entry.specs.Prefix.{IsPrefix}
 use Rattle.prolly_entry.specs.Record.{Record}
 use Rattle.prolly_entry.specs.Spelling.{record_spelling}
 use Rattle.prolly_io.specs.Sink.{SinkView, IsSettled, TakesPrefix}
@@ -33,13 +34,15 @@ abbrev pub outcome : Bool → Result (Unit {0}) (Unit {0})
 outcome false = Ok tt
 outcome true = Err tt
 
--- The records that were sent are written. Where a call failed, a part of them is, or of them and
--- one record more, which was not sent.
+-- The records that were sent are written: the sink took all of them. Where a call failed, it took
+-- a part of one record more, which was not sent.
 pub record AreWritten (w : Writing) : Type 0 where
   pub more : List Record
   pub one_at_most : length more ≤ 1
   pub writes : Writes (spellings (w.records ++ more)) w.begun w.sink (outcome w.has_failed)
   pub no_more : w.has_failed ≡ false → more ≡ []
+  pub sent : w.begun.is_keeping ≡ true →
+      IsPrefix (w.begun.taken ++ spellings w.records) w.sink.taken
 
 -- What a writer leaves, and the end that was sent.
 pub record Written : Type 0 where
