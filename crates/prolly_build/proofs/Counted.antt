@@ -32,17 +32,17 @@ module _ {S : Type 0} (seen : S → SourceView) (limit : ℕ) where
   -- what a file counts for, and what its loader sent of that
   record Counts (file : ℕ) (s t : S) (sent : Input RunFault) : Type 0 where
     input : Input RunFault
-    counts : IsReadingOf seen file limit s input ⊎ IsFailureOf seen file limit s t input
+    counts : IsReadingOf seen file limit s t input ⊎ IsFailureOf seen file limit s t input
     sent_of : IsSentOf faults.Memory input sent
 
   -- a reading that was sent whole
   whole : (file : ℕ) (s t : S) (records : List Record) (ending : Option Flaw) (end : End) →
       IsReading (seen s).left limit records ending →
       fault_in end ≡ ending_told file (length records) ending →
-      Counts file s t (input_of records end)
-  whole file s t records ending end h told = record {
+      (seen t).failures ≡ (seen s).failures → Counts file s t (input_of records end)
+  whole file s t records ending end h told unfailed = record {
     input = input_of records end;
-    counts = inl (record { ending = ending; reading = h; told = told });
+    counts = inl (record { unfailed = unfailed; ending = ending; reading = h; told = told });
     sent_of = inl refl;
   }
 
@@ -58,8 +58,9 @@ module _ {S : Type 0} (seen : S → SourceView) (limit : ℕ) where
       (Fault fault ≢ Fault (faults.Read file) → FailsAs file limit (seen s).left records fault)
       →
       (Fault fault ≡ Fault (faults.Read file) → (seen t).failures ≢ (seen s).failures) →
+      (Fault fault ≢ Fault (faults.Read file) → (seen t).failures ≡ (seen s).failures) →
       Counts file s t (input_of records (Fault fault))
-  one_fault file s t records handed faults.Memory bytes kept ends all failed =
+  one_fault file s t records handed faults.Memory bytes kept ends all failed unfailed =
       let has = reading_is (seen s).left limit bytes in
       let first = all (λ e. cc) in
       record {
@@ -67,10 +68,15 @@ module _ {S : Type 0} (seen : S → SourceView) (limit : ℕ) where
           records = has.good;
           fault = ending_told file (length has.good) has.ending;
         };
-        counts = inl (record { ending = has.ending; reading = has.reading; told = refl });
+        counts = inl (record {
+          unfailed = unfailed (λ e. cc);
+          ending = has.ending;
+          reading = has.reading;
+          told = refl;
+        });
         sent_of = inr (refl, first.prefix has.good has.ending has.reading);
       }
-  one_fault file s t records handed (faults.Read f) bytes kept ends all failed = record {
+  one_fault file s t records handed (faults.Read f) bytes kept ends all failed unfailed = record {
     input = input_of records (Fault (faults.Read f));
     counts = inr (record {
       failed = failed (ap (λ (n : ℕ). Fault (faults.Read n)) ends.0);
@@ -81,41 +87,43 @@ module _ {S : Type 0} (seen : S → SourceView) (limit : ℕ) where
     });
     sent_of = inl refl;
   }
-  one_fault file s t records handed (faults.Truncated f place) bytes kept ends all failed =
+  one_fault file s t records handed (faults.Truncated f place) bytes kept ends all failed unfailed =
       let h = all (λ e. cc) in whole file s t records (Some flaws.Truncated)
       (Fault (faults.Truncated f place)) h.2
-      (same_file f file place records faults.Truncated h.0 h.1)
-  one_fault file s t records handed (faults.KeyTooLong f place) bytes kept ends all failed =
+      (same_file f file place records faults.Truncated h.0 h.1) (unfailed (λ e. cc))
+  one_fault file s t records handed (faults.KeyTooLong f place) bytes kept ends all failed unfailed =
       let h = all (λ e. cc) in whole file s t records (Some flaws.KeyTooLong)
       (Fault (faults.KeyTooLong f place)) h.2
-      (same_file f file place records faults.KeyTooLong h.0 h.1)
-  one_fault file s t records handed (faults.ValueTooLong f place) bytes kept ends all failed =
+      (same_file f file place records faults.KeyTooLong h.0 h.1) (unfailed (λ e. cc))
+  one_fault file s t records handed (faults.ValueTooLong f place) bytes kept ends all failed unfailed =
       let h = all (λ e. cc) in whole file s t records (Some flaws.ValueTooLong)
       (Fault (faults.ValueTooLong f place)) h.2
-      (same_file f file place records faults.ValueTooLong h.0 h.1)
-  one_fault file s t records handed (faults.OutOfOrder f place) bytes kept ends all failed =
+      (same_file f file place records faults.ValueTooLong h.0 h.1) (unfailed (λ e. cc))
+  one_fault file s t records handed (faults.OutOfOrder f place) bytes kept ends all failed unfailed =
       let h = all (λ e. cc) in whole file s t records (Some flaws.OutOfOrder)
       (Fault (faults.OutOfOrder f place)) h.2
-      (same_file f file place records faults.OutOfOrder h.0 h.1)
-  one_fault file s t records handed (faults.TooManyRecords f) bytes kept ends all failed =
+      (same_file f file place records faults.OutOfOrder h.0 h.1) (unfailed (λ e. cc))
+  one_fault file s t records handed (faults.TooManyRecords f) bytes kept ends all failed unfailed =
       let h = all (λ e. cc) in whole file s t records (Some flaws.TooManyRecords)
       (Fault (faults.TooManyRecords f)) h.1 (ap (λ (n : ℕ). Some (faults.TooManyRecords n)) h.0)
-  one_fault file s t records handed faults.Write bytes kept ends all failed = absurd ends
-  one_fault file s t records handed faults.TooTall bytes kept ends all failed = absurd ends
-  one_fault file s t records handed faults.NoThread bytes kept ends all failed = absurd ends
-  one_fault file s t records handed faults.Lost bytes kept ends all failed = absurd ends
-  one_fault file s t records handed faults.TooManyFiles bytes kept ends all failed = absurd ends
+      (unfailed (λ e. cc))
+  one_fault file s t records handed faults.Write bytes kept ends all failed unfailed = absurd ends
+  one_fault file s t records handed faults.TooTall bytes kept ends all failed unfailed = absurd ends
+  one_fault file s t records handed faults.NoThread bytes kept ends all failed unfailed = absurd ends
+  one_fault file s t records handed faults.Lost bytes kept ends all failed unfailed = absurd ends
+  one_fault file s t records handed faults.TooManyFiles bytes kept ends all failed unfailed = absurd ends
 
   one_end : (file : ℕ) (s t : S) (records : List Record) (handed : List ℕ) (end : End) →
       All IsByte (seen s).left → (seen s).left ≡ handed ++ (seen t).left →
       EndsAs file limit handed records end → (end ≢ Fault (faults.Read file) →
       EndsAs file limit (seen s).left records end) →
       (end ≡ Fault (faults.Read file) → (seen t).failures ≢ (seen s).failures) →
+      (end ≢ Fault (faults.Read file) → (seen t).failures ≡ (seen s).failures) →
       Counts file s t (input_of records end)
-  one_end file s t records handed Clean bytes kept ends all failed =
-      whole file s t records None Clean (all (λ e. cc)) refl
-  one_end file s t records handed (Fault fault) bytes kept ends all failed =
-      one_fault file s t records handed fault bytes kept ends all failed
+  one_end file s t records handed Clean bytes kept ends all failed unfailed =
+      whole file s t records None Clean (all (λ e. cc)) refl (unfailed (λ e. cc))
+  one_end file s t records handed (Fault fault) bytes kept ends all failed unfailed =
+      one_fault file s t records handed fault bytes kept ends all failed unfailed
 
   one_counts : (file : ℕ) (s : S) (o : Batching Record) (t : S) (c : Whole Record) →
       IsLoadedFrom seen file limit s o.link t c → (seen s).is_honest ≡ true → All IsByte (seen s).left →
@@ -123,7 +131,7 @@ module _ {S : Type 0} (seen : S → SourceView) (limit : ℕ) where
   one_counts file s o t c h honest bytes =
       subst (λ (rs : List Record). Counts file s t (input_of rs c.end)) (sym h.loaded.sent)
       (one_end file s t h.loaded.records h.loaded.handed c.end bytes (h.loaded.kept honest)
-      h.loaded.ends (h.loaded.whole honest) h.read.0)
+      h.loaded.ends (h.loaded.whole honest) h.read.0 h.unfailed)
 
   -- ---- all files
 

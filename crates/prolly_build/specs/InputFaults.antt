@@ -36,8 +36,9 @@ IsFileFault (faults.TooManyRecords f) = Unit {0}
 IsFileFault _ = ⊥
 
 module _ {S : Type 0} (seen : S → SourceView) where
-  -- The reading of the bytes that the source had left, with what it ends in.
-  pub record IsReadingOf (file limit : ℕ) (before : S) (input : Input RunFault) : Type 0 where
+  -- No read failed: the reading of the bytes that the source had left, with what it ends in.
+  pub record IsReadingOf (file limit : ℕ) (before after : S) (input : Input RunFault) : Type 0 where
+    pub unfailed : (seen after).failures ≡ (seen before).failures
     pub ending : Option Flaw
     pub reading : IsReading (seen before).left limit input.records ending
     pub told : input.fault ≡ ending_told file (length input.records) ending
@@ -55,7 +56,7 @@ module _ {S : Type 0} (seen : S → SourceView) where
   abbrev pub CountFor : ℕ → ℕ → List S → List S → List (Input RunFault) → Type 0
   CountFor file limit [] [] [] = Unit {0}
   CountFor file limit (s ∷ ss) (t ∷ ts) (i ∷ inputs) =
-      (IsReadingOf file limit s i ⊎ IsFailureOf file limit s t i) ×
+      (IsReadingOf file limit s t i ⊎ IsFailureOf file limit s t i) ×
       CountFor (file + 1) limit ss ts inputs
   CountFor file limit _ _ _ = ⊥
 
