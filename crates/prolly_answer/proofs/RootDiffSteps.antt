@@ -235,12 +235,12 @@ module _ (version : Version) (old new : List ℕ) where
     where
       join : (bits bits' : ℕ) (m m' : List Pair) →
           AreCounts m records counts
-          ⊎ FoundClash (chunk_bytes version bits m) (chunk_bytes version bits' m') →
+          ⊎ FoundClash version (chunk_bytes version bits m) (chunk_bytes version bits' m') →
           AreSo (lacking (chunk_bytes version bits m) (chunk_bytes version bits' m')) tells.0
-          ⊎ FoundClash (chunk_bytes version bits m) (chunk_bytes version bits' m') →
+          ⊎ FoundClash version (chunk_bytes version bits m) (chunk_bytes version bits' m') →
           (line ≡ counts_line (record { version = version; bits = bits; pairs = m })
           (record { version = version; bits = bits'; pairs = m' }) records)
-          ⊎ FoundClash (chunk_bytes version bits m) (chunk_bytes version bits' m')
+          ⊎ FoundClash version (chunk_bytes version bits m) (chunk_bytes version bits' m')
       join bits bits' m m' (inl a) (inl b) = inl (tells.2 ∙
           line_is (record { version = version; bits = bits; pairs = m })
           (record { version = version; bits = bits'; pairs = m' }) records counts tells.0 a b)

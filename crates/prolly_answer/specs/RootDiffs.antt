@@ -81,8 +81,8 @@ fault_of (walks.New fault) = RootNew fault
 
 -- ---- the numbers
 
--- This holds of whatever contents of the version have these roots, whose pairs are maps; or else two
--- different chunks have one reference.
+-- This holds of whatever contents of the version have these roots, whose pairs are maps; or else a
+-- chunk of their trees has the reference of a different chunk, which can be read.
 abbrev pub OfRoots : Version → List ℕ → List ℕ → (Content → Content → Type 0) → Type 0
 OfRoots version old new holds = (bits bits' : ℕ) (m m' : List Pair) → IsMap m →
     AllByRecursion IsPair m → IsMap m' → AllByRecursion IsPair m' →
@@ -90,7 +90,7 @@ OfRoots version old new holds = (bits bits' : ℕ) (m m' : List Pair) → IsMap 
     new ≡ root_reference (sha512_cut bits') version m' →
     let before : Content = record { version = version; bits = bits; pairs = m } in
     let after : Content = record { version = version; bits = bits'; pairs = m' } in
-    holds before after ⊎ FoundClash (chunks_of before) (chunks_of after)
+    holds before after ⊎ FoundClash version (chunks_of before) (chunks_of after)
 
 -- One change more is counted.
 abbrev pub Counts : RootChange → ChangeCounts → ChangeCounts → Type 0

@@ -31,14 +31,15 @@ AreLeavesOf cut m None leaves = leaves ≡ full_leaves cut m
 AreLeavesOf cut m (Some fault) leaves = IsPrefix leaves (full_leaves cut m)
 
 -- Behind what was sent before, the leaves were sent of any map with this root, whatever the bits of
--- its tree; or else a chunk of the tree has the reference of a different chunk.
+-- its tree; or else a chunk of the tree has the reference of a different chunk, which can be read.
 pub record IsOldLoaded (version : Version) (root : List ℕ) (before sent : List (List Pair))
     (fault : Option RootFault) : Type 0 where
   pub leaves : List (List Pair)
   pub sent_are : sent ≡ before ++ leaves
   pub are : (bits : ℕ) (m : List Pair) → IsMap m → AllByRecursion IsPair m →
       root ≡ root_reference (sha512_cut bits) version m →
-      AreLeavesOf (sha512_cut bits) m fault leaves ⊎ FoundClashIn (chunk_bytes version bits m)
+      AreLeavesOf (sha512_cut bits) m fault leaves
+      ⊎ FoundClashIn version (chunk_bytes version bits m)
 
 -- That a read failed is told where one more call of the source failed, and only there.
 abbrev pub TellsReadsOf : ℕ → ℕ → Option RootFault → Type 0

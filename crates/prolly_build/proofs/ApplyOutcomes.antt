@@ -224,13 +224,13 @@ module _ {S : Type 0} (seen : S → SourceView) (has : Content → Type 0) (sett
   module _ (bytes : LeftAreBytes seen) (kept : AreKept seen before after) (out : Whole Chunk)
       (refused : Bool) (old_fault : Option RootFault)
       (never : refused ≡ true → (m : List Pair) → IsMapOf settings root m →
-      ⊥ ⊎ FoundClashIn (chunk_bytes settings.version settings.bits m))
+      ⊥ ⊎ FoundClashIn settings.version (chunk_bytes settings.version settings.bits m))
       (fair : (content : Content) → has content → settings.version ≡ content.version →
       root ≡ root_reference (sha512_cut content.bits) content.version content.pairs →
       IfSome old_fault MayFail)
       (over : (m : List Pair) → IsMapOf settings root m →
       IsRunOver seen settings before after root m out.items out.end
-      ⊎ FoundClashIn (chunk_bytes settings.version settings.bits m)) where
+      ⊎ FoundClashIn settings.version (chunk_bytes settings.version settings.bits m)) where
     made_outcome : (report : Report) → IsFinished settings out old new (Ok report) →
         Answers (Ok report)
     made_outcome report finished = record {
@@ -467,7 +467,7 @@ module _ {S : Type 0} (seen : S → SourceView) (has : Content → Type 0) (sett
       run_at : (l : ℕ) → l ≡ settings.stages - 1 → (r : HasRun Made settings l out.items out.end) →
           IsOldRun seen settings before after root r.leaves → (m : List Pair) →
           IsMapOf settings root m → IsRunOver seen settings before after root m out.items out.end
-          ⊎ FoundClashIn (chunk_bytes settings.version settings.bits m)
+          ⊎ FoundClashIn settings.version (chunk_bytes settings.version settings.bits m)
       run_at l l_is r o m of =
           let top : HasRun Made settings (settings.stages - 1) out.items out.end = record {
             leaves = r.leaves;

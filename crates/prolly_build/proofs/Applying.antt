@@ -659,7 +659,7 @@ module _ {S : Type 0} (seen : S → SourceView) (settings : Settings) (before af
   -- the old tree is refused of no map of the root
   pub never_refused : (leaves : Whole Chunk) (old : IsOldRun leaves) → old.refused ≡ true →
       (m : List Pair) → IsMapOf settings root m →
-      ⊥ ⊎ FoundClashIn (chunk_bytes settings.version settings.bits m)
+      ⊥ ⊎ FoundClashIn settings.version (chunk_bytes settings.version settings.bits m)
   never_refused leaves old refused m of =
       elim (old.loaded.are settings.bits m of.rising of.lawful of.named) [
         | inl are ↦ inl (old.wrong refused (subst (λ (ls : List (List Pair)). AreCut cut ls)
@@ -674,7 +674,7 @@ module _ {S : Type 0} (seen : S → SourceView) (settings : Settings) (before af
       (events : List Chunk) (end : End)
       (run : HasRun Made settings (settings.stages - 1) events end) → IsOldRun run.leaves →
       (m : List Pair) → IsMapOf settings root m → IsRunOver m events end ⊎
-      FoundClashIn (chunk_bytes settings.version settings.bits m)
+      FoundClashIn settings.version (chunk_bytes settings.version settings.bits m)
   old_run lawful sixteen Made events end run old m of =
       elim (old.loaded.are settings.bits m of.rising of.lawful of.named) [
         | inl are ↦ inl (run_over lawful sixteen m of Made events end run old

@@ -57,10 +57,11 @@ pub record IsMapOf (settings : Settings) (root : List ℕ) (m : List Pair) : Typ
   pub named : root ≡ root_reference (sha512_cut settings.bits) settings.version m
   pub few : length m < 2 ^ 63
 
--- Of any map of the root it is so; or a chunk of its tree has the reference of a different chunk.
+-- Of any map of the root it is so; or a chunk of its tree has the reference of a different chunk, which
+-- can be read.
 abbrev pub OfMaps : Settings → List ℕ → (List Pair → Type 0) → Type 0
 OfMaps settings root So = (m : List Pair) → IsMapOf settings root m →
-    So m ⊎ FoundClashIn (chunk_bytes settings.version settings.bits m)
+    So m ⊎ FoundClashIn settings.version (chunk_bytes settings.version settings.bits m)
 
 -- What the loader of an old tree sends as its fault: want of memory, or that the old tree is at fault.
 abbrev pub IsOldFault : RunFault → Type 0

@@ -205,7 +205,8 @@ any_map f test (x ∷ xs) = ap (λ b. test (f x) || b) (any_map f test xs)
 abbrev lacks : List (List ℕ) → List ℕ → Bool
 lacks others c = not (has_reference others (reference_of c))
 
-module _ (cs : List (List ℕ)) (ds : List Chunk) (differ : AllDiffer ds) (a b passed : List (List ℕ))
+module _ (version : Version) (cs : List (List ℕ)) (ds : List Chunk) (differ : AllDiffer ds)
+    (a b passed : List (List ℕ))
     (old : (f : List ℕ → ℕ) → sum_by f cs ≡ sum_by f a + sum_by f passed)
     (new : (f : List ℕ → ℕ) → sum_by f (map (λ d. d.bytes) ds) ≡ sum_by f b + sum_by f passed)
   where
@@ -256,7 +257,7 @@ module _ (cs : List (List ℕ)) (ds : List Chunk) (differ : AllDiffer ds) (a b p
 
     -- the old tree lacks a chunk that was read in the new one where none of those that were read in
     -- it has its reference
-    lacks_alike : (c : List ℕ) → IsIn c b → (lacks cs c ≡ lacks a c) ⊎ FoundClash cs news
+    lacks_alike : (c : List ℕ) → IsIn c b → (lacks cs c ≡ lacks a c) ⊎ FoundClash version cs news
     lacks_alike c k = go (cases_Bool (has_reference a (reference_of c)))
         (cases_Bool (has_reference cs (reference_of c)))
       where
@@ -265,14 +266,14 @@ module _ (cs : List (List ℕ)) (ds : List Chunk) (differ : AllDiffer ds) (a b p
         same x y e f g = ap not (e ∙ g ∙ sym f)
 
         was_passed : (d : List ℕ) → IsIn d passed → reference_of d ≡ reference_of c →
-            (lacks cs c ≡ lacks a c) ⊎ FoundClash cs news
+            (lacks cs c ≡ lacks a c) ⊎ FoundClash version cs news
         was_passed d l e = by (cases_Bool (bytes_eq d c))
           where
             by : (bytes_eq d c ≡ true) ⊎ (bytes_eq d c ≡ false) →
-                (lacks cs c ≡ lacks a c) ⊎ FoundClash cs news
+                (lacks cs c ≡ lacks a c) ⊎ FoundClash version cs news
             by (inl f) = absurd (not_both c k
                 (subst (λ x. IsIn x passed) ((bytes_eq-Decides d c).0 f) l))
-            by (inr f) = inr (both_clash cs news (record {
+            by (inr f) = inr (both_clash version cs news (record {
               one = d;
               other = c;
               in_one = old_passed d l;
@@ -283,7 +284,7 @@ module _ (cs : List (List ℕ)) (ds : List Chunk) (differ : AllDiffer ds) (a b p
 
         was_known : (d : List ℕ) → IsIn d a ⊎ IsIn d passed → reference_of d ≡ reference_of c →
             has_reference a (reference_of c) ≡ false →
-            (lacks cs c ≡ lacks a c) ⊎ FoundClash cs news
+            (lacks cs c ≡ lacks a c) ⊎ FoundClash version cs news
         was_known d (inl l) e none =
             absurd (false≢true (sym none ∙ in_known a (reference_of c) d l e))
         was_known d (inr l) e none = was_passed d l e
@@ -292,7 +293,7 @@ module _ (cs : List (List ℕ)) (ds : List Chunk) (differ : AllDiffer ds) (a b p
             (has_reference a (reference_of c) ≡ false) →
             (has_reference cs (reference_of c) ≡ true) ⊎
             (has_reference cs (reference_of c) ≡ false) →
-            (lacks cs c ≡ lacks a c) ⊎ FoundClash cs news
+            (lacks cs c ≡ lacks a c) ⊎ FoundClash version cs news
         go (inl e) (inl f) = inl (same true true f e refl)
         go (inr e) (inr f) = inl (same false false f e refl)
         go (inl e) (inr f) =
@@ -304,7 +305,7 @@ module _ (cs : List (List ℕ)) (ds : List Chunk) (differ : AllDiffer ds) (a b p
 
     -- so the chunks that are lacking are among those that were read, whatever is counted of them
     pub lacking_read : ((weight : List ℕ → ℕ) → sum_by (weighed (lacks cs) weight) news ≡
-        sum_by (weighed (lacks a) weight) b) ⊎ FoundClash cs news
+        sum_by (weighed (lacks a) weight) b) ⊎ FoundClash version cs news
     lacking_read = go (each_or (lacks cs) (lacks a) b lacks_alike)
       where
         none : (weight : List ℕ → ℕ) (c : List ℕ) → IsIn c passed →
@@ -313,9 +314,9 @@ module _ (cs : List (List ℕ)) (ds : List Chunk) (differ : AllDiffer ds) (a b p
             (in_known cs (reference_of c) c (old_passed c k) refl)
 
         go : ((weight : List ℕ → ℕ) → sum_by (weighed (lacks cs) weight) b ≡
-            sum_by (weighed (lacks a) weight) b) ⊎ FoundClash cs news →
+            sum_by (weighed (lacks a) weight) b) ⊎ FoundClash version cs news →
             ((weight : List ℕ → ℕ) → sum_by (weighed (lacks cs) weight) news ≡
-            sum_by (weighed (lacks a) weight) b) ⊎ FoundClash cs news
+            sum_by (weighed (lacks a) weight) b) ⊎ FoundClash version cs news
         go (inr clash) = inr clash
         go (inl same) = inl (λ weight.
             let all = new (weighed (lacks cs) weight) in
@@ -388,8 +389,8 @@ module _ (root_is : RootIsTree) (child_is : (version : Version) → ChildIsTree 
       b = read_new noted.steps
 
       so : ((weight : List ℕ → ℕ) → sum_by (weighed (lacks cs) weight) ds ≡
-          sum_by (weighed (lacks a) weight) b) ⊎ FoundClash cs ds →
-          AreSo (lacking cs ds) missing ⊎ FoundClash cs ds
+          sum_by (weighed (lacks a) weight) b) ⊎ FoundClash version cs ds →
+          AreSo (lacking cs ds) missing ⊎ FoundClash version cs ds
       so (inr clash) = inr clash
       so (inl same) = inl (record {
         chunks_are = are.chunks_are ∙ length-filter (is_unknown notes.old.items) notes.new.items ∙
@@ -403,9 +404,9 @@ module _ (root_is : RootIsTree) (child_is : (version : Version) → ChildIsTree 
       })
 
       told : Parted version (tree ∷ []) (tree' ∷ []) noted.steps ⊎
-          FoundClash cs ds → AreSo (lacking cs ds) missing ⊎ FoundClash cs ds
+          FoundClash version cs ds → AreSo (lacking cs ds) missing ⊎ FoundClash version cs ds
       told (inr clash) = inr clash
-      told (inl p) = so (lacking_read cs
+      told (inl p) = so (lacking_read version cs
           (chunks (sha512_cut bits') version m')
           (chunks_differ (sha512_cut bits') version m' lawful' rising') a b p.passed
           (λ f. ap (sum_by f) (sym (append-nil cs)) ∙ p.old f)

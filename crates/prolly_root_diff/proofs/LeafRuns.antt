@@ -11,6 +11,7 @@ use Rattle.prolly_root_diff.specs.Leaves.{AllLeavesAreRight, AreLeavesLeft, Firs
 use Rattle.prolly_root_diff.specs.Leaves.{FoundClashIn, GivesLeaves, IsFirstLeaf, full_leaves}
 use Rattle.prolly_root_diff.specs.Left.{Due}
 use Rattle.prolly_root_diff.specs.Walks.{Clashing}
+use Rattle.prolly_root_diff.proofs.LeafSteps.{found_clash}
 use Rattle.prolly_root_diff.proofs.LeafTrees.{leaves_begin}
 
 module _ (version : Version) (cs : List (List ℕ)) where
@@ -22,7 +23,7 @@ module _ (version : Version) (cs : List (List ℕ)) where
 
   gives_first : (given : List (List Pair)) (old new : List Due) (leaves : List (List Pair)) →
       AreLeavesLeft version cs leaves old → GivesLeaves version old given new →
-      BeginWithGiven leaves given new ⊎ FoundClashIn cs
+      BeginWithGiven leaves given new ⊎ FoundClashIn version cs
   gives_first [] old new leaves left same = inl (record {
     others = leaves;
     are = refl;
@@ -33,8 +34,8 @@ module _ (version : Version) (cs : List (List ℕ)) where
       (λ others l. gives_first given gives.0 new others l gives.2)
     where
       first : (f : IsFirstLeaf version cs leaves leaf gives.0) →
-          BeginWithGiven f.others given new ⊎ FoundClashIn cs →
-          BeginWithGiven leaves (leaf ∷ given) new ⊎ FoundClashIn cs
+          BeginWithGiven f.others given new ⊎ FoundClashIn version cs →
+          BeginWithGiven leaves (leaf ∷ given) new ⊎ FoundClashIn version cs
       first f (inl b) = inl (record {
         others = b.others;
         are = f.are ∙ ap (λ ls. leaf ∷ ls) b.are;
@@ -44,11 +45,11 @@ module _ (version : Version) (cs : List (List ℕ)) where
 
       go : IsFirstLeaf version cs leaves leaf gives.0 ⊎ Clashing gives.1.read cs →
           ((others : List (List Pair)) → AreLeavesLeft version cs others gives.0 →
-          BeginWithGiven others given new ⊎ FoundClashIn cs) →
-          BeginWithGiven leaves (leaf ∷ given) new ⊎ FoundClashIn cs
+          BeginWithGiven others given new ⊎ FoundClashIn version cs) →
+          BeginWithGiven leaves (leaf ∷ given) new ⊎ FoundClashIn version cs
       go (inl f) later = first f (later f.others f.left)
       go (inr clash) later =
-          inr (record { read = gives.1.read; bytes = gives.1.bytes; clash = clash })
+          inr (found_clash version cs old gives.0 gives.1.read gives.1.lead clash)
 
 pub first_leaves_are_right : RootIsTree → FirstLeavesAreRight
 first_leaves_are_right root_is version bits m given due rising lawful gives =
@@ -56,8 +57,9 @@ first_leaves_are_right root_is version bits m given due rising lawful gives =
     (leaves_begin root_is version bits m rising lawful) gives)
   where
     go : BeginWithGiven version (chunk_bytes version bits m) (full_leaves (sha512_cut bits) m) given due
-        ⊎ FoundClashIn (chunk_bytes version bits m) →
-        IsPrefix given (full_leaves (sha512_cut bits) m) ⊎ FoundClashIn (chunk_bytes version bits m)
+        ⊎ FoundClashIn version (chunk_bytes version bits m) →
+        IsPrefix given (full_leaves (sha512_cut bits) m)
+        ⊎ FoundClashIn version (chunk_bytes version bits m)
     go (inl b) = inl (b.others, b.are)
     go (inr clash) = inr clash
 
@@ -69,13 +71,16 @@ all_leaves_are_right root_is version bits m given rising lawful all =
     end : (b : BeginWithGiven version (chunk_bytes version bits m)
         (full_leaves (sha512_cut bits) m) given all.due) →
         (b.others ≡ []) ⊎ Clashing all.ends.read (chunk_bytes version bits m) →
-        (given ≡ full_leaves (sha512_cut bits) m) ⊎ FoundClashIn (chunk_bytes version bits m)
+        (given ≡ full_leaves (sha512_cut bits) m)
+        ⊎ FoundClashIn version (chunk_bytes version bits m)
     end b (inl none) = inl (sym (b.are ∙ ap (λ ls. given ++ ls) none ∙ append-nil given))
     end b (inr clash) =
-        inr (record { read = all.ends.read; bytes = all.ends.bytes; clash = clash })
+        inr (found_clash version (chunk_bytes version bits m) all.due [] all.ends.read
+        all.ends.lead clash)
 
     go : BeginWithGiven version (chunk_bytes version bits m) (full_leaves (sha512_cut bits) m) given
-        all.due ⊎ FoundClashIn (chunk_bytes version bits m) →
-        (given ≡ full_leaves (sha512_cut bits) m) ⊎ FoundClashIn (chunk_bytes version bits m)
+        all.due ⊎ FoundClashIn version (chunk_bytes version bits m) →
+        (given ≡ full_leaves (sha512_cut bits) m)
+        ⊎ FoundClashIn version (chunk_bytes version bits m)
     go (inl b) = end b (all.ends.tells (chunk_bytes version bits m) b.others b.left)
     go (inr clash) = inr clash

@@ -3,38 +3,57 @@ use Rattle.std.proofs.Common.{◌≡◌, ℕ, ◌<◌, ◌⊎◌, inl, inr, List
 use Rattle.std.proofs.Common.{sym, ap, ◌∙◌, subst, arith, ◌==◌, Bool, true, false, None}
 use Rattle.std.proofs.lemmas.Bool.Decides.{Decides-eqb}
 use Rattle.std.proofs.lemmas.List.{nil_from_length}
-use Rattle.std.specs.List.{AllByRecursion}
-use Rattle.std.specs.Prelude.{All}
 use Rattle.prolly_look_up.specs.HeldPairs.{pairs_held}
 use Rattle.prolly_look_up.specs.Kinds.{kind_of}
 use Rattle.prolly_look_up.specs.Way.{Clash, level_of}
 use Rattle.prolly_look_up.specs.lemmas.Clashes.{wider}
-use Rattle.prolly_entry.specs.Byte.{IsByte}
 use Rattle.prolly_entry.specs.Pair.{Pair}
 use Rattle.prolly_entry.specs.declared.version.Version.{Version}
-use Rattle.prolly_entry.specs.lemmas.Lists.{all_append}
 use Rattle.prolly_tree.specs.Tree.{LeveledTree}
 use Rattle.prolly_tree.specs.lemmas.Trees.{in_front}
 use Rattle.prolly_root_diff.specs.DueTrees.{IsWholeTree, ReadsFirst, all_due, due_behind}
-use Rattle.prolly_root_diff.specs.Leaves.{AreLeavesLeft, BeginWith, GivesLeaf, IsFirstLeaf}
-use Rattle.prolly_root_diff.specs.Leaves.{LeavesEnd, LeavesOpenFirst, TellsLeaves, leaves_of_trees}
-use Rattle.prolly_root_diff.specs.Leaves.{with_pairs}
+use Rattle.prolly_root_diff.specs.Leaves.{AreLeavesLeft, BeginWith, FoundClashIn, GivesLeaf}
+use Rattle.prolly_root_diff.specs.Leaves.{IsFirstLeaf, LeadDown, LeavesEnd, LeavesOpenFirst}
+use Rattle.prolly_root_diff.specs.Leaves.{TellsLeaves, leaves_of_trees, with_pairs}
 use Rattle.prolly_root_diff.specs.Left.{Due, Left, left_of_root, opened, tops_of}
 use Rattle.prolly_root_diff.specs.ToGo.{to_go, weights}
-use Rattle.prolly_root_diff.specs.Walks.{Clashing}
+use Rattle.prolly_root_diff.specs.Walks.{AreReadable, Clashing}
 use Rattle.prolly_root_diff.specs.declared.siblings.Siblings.{Siblings}
-use Rattle.prolly_root_diff.proofs.Moving.{more_first, more_last}
+use Rattle.prolly_root_diff.proofs.Moving.{more_first, more_last, named_so}
 use Rattle.prolly_root_diff.proofs.Weights.{opens_lighter}
 
 -- By reading these chunks a walk went on from the one to the other, and the same leaves are left.
 pub record LeavesStay (version : Version) (old new : List Due) : Type 0 where
   pub read : List (List ℕ)
-  pub bytes : AllByRecursion (All IsByte) read
+  pub lead : LeadDown version old read new
   pub tells : TellsLeaves version read old (λ chunks leaves.
       AreLeavesLeft version chunks leaves new)
 
 pub stay : (version : Version) (due : List Due) → LeavesStay version due due
-stay version due = record { read = []; bytes = tt; tells = λ cs leaves left. inl left }
+stay version due = record { read = []; lead = refl; tells = λ cs leaves left. inl left }
+
+lead_on : (version : Version) (old mid new : List Due) (read more : List (List ℕ)) →
+    LeadDown version old read mid → LeadDown version mid more new →
+    LeadDown version old (read ++ more) new
+lead_on version old mid new [] more first then =
+    subst (λ d. LeadDown version d more new) (sym first) then
+lead_on version old mid new (chunk ∷ read) more first then =
+    (first.0, first.1, lead_on version first.0 mid new read more first.2 then)
+
+-- what was read can be read
+reads_are : (version : Version) (old new : List Due) (read : List (List ℕ)) →
+    LeadDown version old read new → AreReadable version read
+reads_are version old new [] lead = tt
+reads_are version old new (chunk ∷ read) lead = (
+  named_so version lead.1.first.reference chunk lead.1.named,
+  reads_are version lead.0 new read lead.2,
+)
+
+pub found_clash : (version : Version) (cs : List (List ℕ)) (old new : List Due)
+    (read : List (List ℕ)) → LeadDown version old read new → Clashing read cs →
+    FoundClashIn version cs
+found_clash version cs old new read lead clash =
+    record { read = read; readable = reads_are version old new read lead; clash = clash }
 
 -- what is told behind a walk is told before it
 told : (version : Version) (old mid : List Due) (stays : LeavesStay version old mid)
@@ -53,6 +72,22 @@ told version old mid stays read So tells cs leaves left = first (stays.tells cs 
 
 module _ (law : LeavesOpenFirst) (version : Version) (old mid new : List Due)
     (reference chunk : List ℕ) (reads : ReadsFirst version mid reference chunk new) where
+  one_read : LeadDown version mid (chunk ∷ []) new
+  one_read = (
+    new,
+    record {
+      first = reads.first;
+      due = reads.due;
+      was = reads.was;
+      reference_is = reads.named.is;
+      named = reads.named;
+      falls = reads.falls;
+      short = reads.short;
+      is = reads.is;
+    },
+    refl,
+  )
+
   -- what was left begins with what the chunk holds
   begin : TellsLeaves version (chunk ∷ []) mid (λ cs leaves.
       BeginWith version cs leaves (pairs_held chunk) new)
@@ -70,7 +105,7 @@ module _ (law : LeavesOpenFirst) (version : Version) (old mid new : List Due)
   pub stay_on : LeavesStay version old mid → pairs_held chunk ≡ [] → LeavesStay version old new
   stay_on stays none = record {
     read = stays.read ++ chunk ∷ [];
-    bytes = all_append (All IsByte) stays.read (chunk ∷ []) stays.bytes (reads.named.bytes, tt);
+    lead = lead_on version old mid new stays.read (chunk ∷ []) stays.lead one_read;
     tells = told version old mid stays (chunk ∷ [])
         (λ cs leaves. AreLeavesLeft version cs leaves new)
         (λ cs leaves left. go cs leaves (begin cs leaves left));
@@ -88,7 +123,7 @@ module _ (law : LeavesOpenFirst) (version : Version) (old mid new : List Due)
       GivesLeaf version old (pairs_held chunk) new
   gives_leaf stays some = record {
     read = stays.read ++ chunk ∷ [];
-    bytes = all_append (All IsByte) stays.read (chunk ∷ []) stays.bytes (reads.named.bytes, tt);
+    lead = lead_on version old mid new stays.read (chunk ∷ []) stays.lead one_read;
     tells = told version old mid stays (chunk ∷ [])
         (λ cs leaves. IsFirstLeaf version cs leaves (pairs_held chunk) new)
         (λ cs leaves left. go cs leaves (begin cs leaves left));
@@ -113,7 +148,7 @@ pub leaves_end : (version : Version) (old mid : List Due) → LeavesStay version
     LeavesEnd version old
 leaves_end version old mid stays none = record {
   read = stays.read;
-  bytes = stays.bytes;
+  lead = subst (LeadDown version old stays.read) none stays.lead;
   tells = λ cs leaves left. go cs leaves (stays.tells cs leaves left);
 }
   where

@@ -1,14 +1,12 @@
 -- A walk goes on.
 use Rattle.std.proofs.Common.{◌≡◌, ℕ, ◌<◌, ◌⊎◌, inl, inr, List, [], ◌∷◌, ◌++◌, length}
-use Rattle.std.proofs.Common.{sym, ap, ◌∙◌, subst, append_assoc}
-use Rattle.std.specs.Prelude.{All}
-use Rattle.prolly_entry.specs.Byte.{IsByte}
-use Rattle.prolly_entry.specs.lemmas.Lists.{all_append}
+use Rattle.std.proofs.Common.{refl, sym, ap, ◌∙◌, subst, append_assoc}
 use Rattle.prolly_entry.specs.Pair.{Pair}
+use Rattle.prolly_entry.specs.Reference.{reference_of}
 use Rattle.prolly_entry.specs.declared.version.Version.{Version}
 use Rattle.prolly_tree.specs.Chunk.{IsIn}
 use Rattle.prolly_tree.specs.lemmas.Trees.{in_front, in_back}
-use Rattle.prolly_look_up.specs.Way.{Clash, level_of}
+use Rattle.prolly_look_up.specs.Way.{Clash, IsNamed, level_of}
 use Rattle.prolly_look_up.specs.lemmas.Clashes.{wider}
 use Rattle.prolly_tree.specs.Walks.{AreAlike, AreMaps, Maps}
 use Rattle.prolly_tree.specs.lemmas.Walks.{alike_more, alike_none, maps_behind}
@@ -17,7 +15,8 @@ use Rattle.std.proofs.Common.{arith}
 use Rattle.prolly_root_diff.proofs.Lists.{left_is}
 use Rattle.prolly_root_diff.specs.ToGo.{to_go, weights}
 use Rattle.prolly_root_diff.proofs.Weights.{weighs}
-use Rattle.prolly_root_diff.specs.Walks.{AreLeft, BeginAlike, Clashing, GoOn, Lefts, Moves, Tells}
+use Rattle.prolly_root_diff.specs.Walks.{AreLeft, AreReadable, BeginAlike, Clashing, FoundClash}
+use Rattle.prolly_root_diff.specs.Walks.{GoOn, Leads, Lefts, Move, Moves, Tells, read_on}
 use Rattle.prolly_root_diff.proofs.Passing.{passes_equal}
 
 -- ---- clashes
@@ -46,39 +45,102 @@ pub more_last : (xs ys zs : List (List ℕ)) → Clashing ys zs → Clashing (xs
 more_last xs ys zs c = subst (λ l. Clash l zs) (sym (append_assoc xs ys zs))
     (wider (ys ++ zs) zs (xs ++ (ys ++ zs)) zs (λ c. in_back c xs (ys ++ zs)) (λ c h. h) c)
 
+-- ---- the way of a walk
+
+pub leads_on : (version : Version) (old mid new : Lefts) (way more : List Move) →
+    Leads version old way mid → Leads version mid more new → Leads version old (way ++ more) new
+leads_on version old mid new [] more first then =
+    subst (λ l. Leads version l more new) (sym first) then
+leads_on version old mid new (move ∷ way) more first then =
+    (first.0, first.1, leads_on version first.0 mid new way more first.2 then)
+
+reads_on : (way more : List Move) → read_on (way ++ more) ≡ read_on way ++ read_on more
+reads_on [] more = refl
+reads_on (Move.ReadsOld chunk ∷ way) more = ap (λ cs. chunk ∷ cs) (reads_on way more)
+reads_on (Move.ReadsNew chunk ∷ way) more = ap (λ cs. chunk ∷ cs) (reads_on way more)
+reads_on (Move.PassesBoth ∷ way) more = reads_on way more
+reads_on (Move.TakesOld ∷ way) more = reads_on way more
+reads_on (Move.TakesNew ∷ way) more = reads_on way more
+
+-- a chunk that has a reference and can be read can be read
+pub named_so : (version : Version) (reference chunk : List ℕ) → IsNamed version reference chunk →
+    IsNamed version (reference_of chunk) chunk
+named_so version reference chunk named =
+    record { bytes = named.bytes; is = refl; ordered = named.ordered }
+
+opens_so : (version : Version) (old new : Left) (chunk : List ℕ) (o : Opens version old new) →
+    chunk ≡ o.chunk → IsNamed version (reference_of chunk) chunk
+opens_so version old new chunk o is = subst (λ c. IsNamed version (reference_of c) c) (sym is)
+    (named_so version o.first.reference o.chunk o.named)
+
+-- what is read on a way can be read
+ways_read : (version : Version) (old new : Lefts) (way : List Move) → Leads version old way new →
+    AreReadable version (read_on way)
+ways_read version old new [] lead = tt
+ways_read version old new (Move.ReadsOld chunk ∷ way) lead = (
+  opens_so version old.before lead.0.before chunk lead.1.0 lead.1.1,
+  ways_read version lead.0 new way lead.2,
+)
+ways_read version old new (Move.ReadsNew chunk ∷ way) lead = (
+  opens_so version old.after lead.0.after chunk lead.1.0 lead.1.1,
+  ways_read version lead.0 new way lead.2,
+)
+ways_read version old new (Move.PassesBoth ∷ way) lead =
+    ways_read version lead.0 new way lead.2
+ways_read version old new (Move.TakesOld ∷ way) lead = ways_read version lead.0 new way lead.2
+ways_read version old new (Move.TakesNew ∷ way) lead = ways_read version lead.0 new way lead.2
+
+pub found_clash : (version : Version) (cs ds : List (List ℕ)) (old new : Lefts)
+    (way : List Move) → Leads version old way new → Clashing (read_on way) (cs ++ ds) →
+    FoundClash version cs ds
+found_clash version cs ds old new way lead clash = record {
+  read = read_on way;
+  readable = ways_read version old new way lead;
+  clash = clash;
+}
+
 -- ---- one behind another
 
 pub stays : (version : Version) (lefts : Lefts) → Moves version lefts lefts
 stays version lefts = record {
-  read = [];
-  bytes = tt;
+  way = [];
+  lead = refl;
   tells = λ cs ds maps m left. inl (record { rest = maps; alike = alike_none maps; left = left });
 }
 
 -- what is told behind a move is told before it
 module _ (version : Version) (old mid : Lefts) (moves : Moves version old mid)
-    (read : List (List ℕ)) (So Then : List (List ℕ) → List (List ℕ) → Maps → Type 0)
+    (more : List Move) (So Then : List (List ℕ) → List (List ℕ) → Maps → Type 0)
     (lift : (cs ds : List (List ℕ)) (maps rest : Maps) → AreMaps maps → AreAlike maps rest →
     So cs ds rest → Then cs ds maps) where
-  pub told : Tells version read mid So → Tells version (moves.read ++ read) old Then
-  told tells cs ds maps m left = first (moves.tells cs ds maps m left)
+  pub told : Tells version (read_on more) mid So →
+      Tells version (read_on (moves.way ++ more)) old Then
+  told tells cs ds maps m left =
+      subst (λ read. Then cs ds maps ⊎ Clashing read (cs ++ ds)) (sym (reads_on moves.way more))
+      (first (moves.tells cs ds maps m left))
     where
-      then : (on : GoOn version cs ds maps mid) → So cs ds on.rest ⊎ Clashing read (cs ++ ds) →
-          Then cs ds maps ⊎ Clashing (moves.read ++ read) (cs ++ ds)
-      then on (inl so) = inl (lift cs ds maps on.rest m on.alike so)
-      then on (inr clash) = inr (more_last moves.read read (cs ++ ds) clash)
+      both : List (List ℕ)
+      both = read_on moves.way ++ read_on more
 
-      first : GoOn version cs ds maps mid ⊎ Clashing moves.read (cs ++ ds) →
-          Then cs ds maps ⊎ Clashing (moves.read ++ read) (cs ++ ds)
+      then : (on : GoOn version cs ds maps mid) →
+          So cs ds on.rest ⊎ Clashing (read_on more) (cs ++ ds) →
+          Then cs ds maps ⊎ Clashing both (cs ++ ds)
+      then on (inl so) = inl (lift cs ds maps on.rest m on.alike so)
+      then on (inr clash) =
+          inr (more_last (read_on moves.way) (read_on more) (cs ++ ds) clash)
+
+      first : GoOn version cs ds maps mid ⊎ Clashing (read_on moves.way) (cs ++ ds) →
+          Then cs ds maps ⊎ Clashing both (cs ++ ds)
       first (inl on) = then on (tells cs ds on.rest (maps_behind maps on.rest on.alike m) on.left)
-      first (inr clash) = inr (more_first moves.read read (cs ++ ds) clash)
+      first (inr clash) =
+          inr (more_first (read_on moves.way) (read_on more) (cs ++ ds) clash)
 
 pub moves_on : (version : Version) (old mid new : Lefts) → Moves version old mid →
     Moves version mid new → Moves version old new
 moves_on version old mid new moves more = record {
-  read = moves.read ++ more.read;
-  bytes = all_append (All IsByte) moves.read more.read moves.bytes more.bytes;
-  tells = told version old mid moves more.read (λ cs ds maps. GoOn version cs ds maps new)
+  way = moves.way ++ more.way;
+  lead = leads_on version old mid new moves.way more.way moves.lead more.lead;
+  tells = told version old mid moves more.way (λ cs ds maps. GoOn version cs ds maps new)
       (λ cs ds maps. GoOn version cs ds maps new)
       (λ cs ds maps rest m alike on. record {
         rest = on.rest;
@@ -100,10 +162,11 @@ module _ (law : OpensFirst) where
       (subst (IsLeft version cs pairs) o.was left) o.named)
 
   pub opens_before : (version : Version) (old new after : Left) → Opens version old new →
+      (BeginAlike old after → ⊥) →
       Moves version (record { before = old; after = after }) (record { before = new; after = after })
-  opens_before version old new after o = record {
-    read = o.chunk ∷ [];
-    bytes = (o.named.bytes, tt);
+  opens_before version old new after o unlike = record {
+    way = Move.ReadsOld o.chunk ∷ [];
+    lead = (record { before = new; after = after }, (o, refl, refl, unlike), refl);
     tells = λ cs ds maps m left. go cs ds maps left (opens version old new o cs maps.before left.0);
   }
     where
@@ -119,10 +182,11 @@ module _ (law : OpensFirst) where
           (λ c. in_front c (o.chunk ∷ []) (cs ++ ds)) (λ c. in_front c cs ds) clash)
 
   pub opens_after : (version : Version) (before old new : Left) → Opens version old new →
+      (BeginAlike before old → ⊥) →
       Moves version (record { before = before; after = old }) (record { before = before; after = new })
-  opens_after version before old new o = record {
-    read = o.chunk ∷ [];
-    bytes = (o.named.bytes, tt);
+  opens_after version before old new o unlike = record {
+    way = Move.ReadsNew o.chunk ∷ [];
+    lead = (record { before = before; after = new }, (o, refl, refl, unlike), refl);
     tells = λ cs ds maps m left. go cs ds maps left (opens version old new o ds maps.after left.1);
   }
     where
@@ -151,8 +215,27 @@ pub passes : (version : Version) (first second : Due) (due due' : List Due) →
       after = record { pairs = []; due = due' };
     })
 passes version first second due due' same = record {
-  read = [];
-  bytes = tt;
+  way = Move.PassesBoth ∷ [];
+  lead = (
+    record {
+      before = record { pairs = []; due = due };
+      after = record { pairs = []; due = due' };
+    },
+    (
+      record {
+        first = first;
+        second = second;
+        due = due;
+        due' = due';
+        before_is = refl;
+        after_is = refl;
+        same = same;
+      },
+      refl,
+      refl,
+    ),
+    refl,
+  );
   tells = λ cs ds maps m left. go cs ds maps (passes_equal version cs ds maps (first ∷ [])
       (second ∷ []) due due' m.0 m.1 (ap (λ r. r ∷ []) same) left.0 left.1);
 }

@@ -11,40 +11,42 @@ use Rattle.prolly_tree.specs.LookUp.{find}
 use Rattle.prolly_tree.specs.lemmas.Differences.{some_difference}
 use Rattle.prolly_root_diff.specs.Walks.{BeforeIsRight, BeginsWithRecords, Changes, FirstAreRight}
 use Rattle.prolly_root_diff.specs.Walks.{GivesFirst, AreLeft, Clashing, FirstChange, FoundClash}
-use Rattle.prolly_root_diff.specs.Walks.{GivesAll, Lefts, WalksAreRight}
+use Rattle.prolly_root_diff.specs.Walks.{GivesAll, Lefts, WalksAreRight, read_on}
 use Rattle.prolly_tree.specs.Walks.{AreMaps, Maps}
+use Rattle.prolly_root_diff.proofs.Moving.{found_clash}
 use Rattle.prolly_root_diff.proofs.Opening.{begins_at_root}
 
 module _ (version : Version) (cs ds : List (List ℕ)) where
   gives_all : (records : List Record) (lefts : Lefts) (maps : Maps) → AreMaps maps →
       AreLeft version cs ds maps lefts → GivesAll version lefts records →
-      IsDifference maps.before maps.after records ⊎ FoundClash cs ds
+      IsDifference maps.before maps.after records ⊎ FoundClash version cs ds
   gives_all [] lefts maps m left ends = go (ends.tells cs ds maps m left)
     where
-      go : IsDifference maps.before maps.after [] ⊎ Clashing ends.read (cs ++ ds) →
-          IsDifference maps.before maps.after [] ⊎ FoundClash cs ds
+      go : IsDifference maps.before maps.after [] ⊎ Clashing (read_on ends.way) (cs ++ ds) →
+          IsDifference maps.before maps.after [] ⊎ FoundClash version cs ds
       go (inl is) = inl is
-      go (inr clash) = inr (record { read = ends.read; bytes = ends.bytes; clash = clash })
+      go (inr clash) = inr (found_clash version cs ds lefts ends.rest ends.way ends.lead clash)
   gives_all (r ∷ rs) lefts maps m left all =
       go (all.2.tells cs ds maps m left) (λ rest n l. gives_all rs all.1 rest n l all.3)
     where
       first : (f : FirstChange version cs ds maps r.key all.0 r.value all.1) →
-          IsDifference f.rest.before f.rest.after rs ⊎ FoundClash cs ds →
-          IsDifference maps.before maps.after (r ∷ rs) ⊎ FoundClash cs ds
+          IsDifference f.rest.before f.rest.after rs ⊎ FoundClash version cs ds →
+          IsDifference maps.before maps.after (r ∷ rs) ⊎ FoundClash version cs ds
       first f (inl is) = inl (f.first.begins rs is)
       first f (inr clash) = inr clash
 
       go : FirstChange version cs ds maps r.key all.0 r.value all.1 ⊎
-          Clashing all.2.read (cs ++ ds) →
+          Clashing (read_on all.2.way) (cs ++ ds) →
           ((rest : Maps) → AreMaps rest → AreLeft version cs ds rest all.1 →
-          IsDifference rest.before rest.after rs ⊎ FoundClash cs ds) →
-          IsDifference maps.before maps.after (r ∷ rs) ⊎ FoundClash cs ds
+          IsDifference rest.before rest.after rs ⊎ FoundClash version cs ds) →
+          IsDifference maps.before maps.after (r ∷ rs) ⊎ FoundClash version cs ds
       go (inl f) later = first f (later f.rest f.first.left f.left)
-      go (inr clash) later = inr (record { read = all.2.read; bytes = all.2.bytes; clash = clash })
+      go (inr clash) later =
+          inr (found_clash version cs ds lefts all.1 all.2.way all.2.lead clash)
 
   gives_first : (records : List Record) (lefts rest : Lefts) (maps : Maps) → AreMaps maps →
       AreLeft version cs ds maps lefts → GivesFirst version lefts records rest →
-      BeginsWithRecords maps.before maps.after records ⊎ FoundClash cs ds
+      BeginsWithRecords maps.before maps.after records ⊎ FoundClash version cs ds
   gives_first [] lefts rest maps m left none =
       let d = some_difference maps.before maps.after m.0 m.1 in
       inl (record { more = d.0; is = d.1 })
@@ -52,18 +54,19 @@ module _ (version : Version) (cs ds : List (List ℕ)) where
       go (all.2.tells cs ds maps m left) (λ behind n l. gives_first rs all.1 rest behind n l all.3)
     where
       first : (f : FirstChange version cs ds maps r.key all.0 r.value all.1) →
-          BeginsWithRecords f.rest.before f.rest.after rs ⊎ FoundClash cs ds →
-          BeginsWithRecords maps.before maps.after (r ∷ rs) ⊎ FoundClash cs ds
+          BeginsWithRecords f.rest.before f.rest.after rs ⊎ FoundClash version cs ds →
+          BeginsWithRecords maps.before maps.after (r ∷ rs) ⊎ FoundClash version cs ds
       first f (inl b) = inl (record { more = b.more; is = f.first.begins (rs ++ b.more) b.is })
       first f (inr clash) = inr clash
 
       go : FirstChange version cs ds maps r.key all.0 r.value all.1 ⊎
-          Clashing all.2.read (cs ++ ds) →
+          Clashing (read_on all.2.way) (cs ++ ds) →
           ((behind : Maps) → AreMaps behind → AreLeft version cs ds behind all.1 →
-          BeginsWithRecords behind.before behind.after rs ⊎ FoundClash cs ds) →
-          BeginsWithRecords maps.before maps.after (r ∷ rs) ⊎ FoundClash cs ds
+          BeginsWithRecords behind.before behind.after rs ⊎ FoundClash version cs ds) →
+          BeginsWithRecords maps.before maps.after (r ∷ rs) ⊎ FoundClash version cs ds
       go (inl f) later = first f (later f.rest f.first.left f.left)
-      go (inr clash) later = inr (record { read = all.2.read; bytes = all.2.bytes; clash = clash })
+      go (inr clash) later =
+          inr (found_clash version cs ds lefts all.1 all.2.way all.2.lead clash)
 
 -- ---- what the old map had
 
@@ -84,26 +87,28 @@ module _ (version : Version) (cs ds : List (List ℕ)) (mid next : Lefts) (key :
     (before after : Option (List ℕ)) (change : Changes version mid key before after next) where
   had_before : (records : List Record) (lefts : Lefts) (maps : Maps) → AreMaps maps →
       AreLeft version cs ds maps lefts → GivesFirst version lefts records mid →
-      HadBefore maps records key before after ⊎ FoundClash cs ds
+      HadBefore maps records key before after ⊎ FoundClash version cs ds
   had_before [] lefts maps m left same =
       go (change.tells cs ds maps m (subst (AreLeft version cs ds maps) same left))
     where
       go : FirstChange version cs ds maps key before after next ⊎
-          Clashing change.read (cs ++ ds) → HadBefore maps [] key before after ⊎ FoundClash cs ds
+          Clashing (read_on change.way) (cs ++ ds) →
+          HadBefore maps [] key before after ⊎ FoundClash version cs ds
       go (inl f) =
           let d = some_difference f.rest.before f.rest.after f.first.left.0 f.first.left.1 in
           inl (record {
             had = f.first.before_is;
             begins = record { more = d.0; is = f.first.begins d.0 d.1 };
           })
-      go (inr clash) = inr (record { read = change.read; bytes = change.bytes; clash = clash })
+      go (inr clash) =
+          inr (found_clash version cs ds mid next change.way change.lead clash)
   had_before (s ∷ records) lefts maps m left given =
       go (given.2.tells cs ds maps m left)
       (λ rest n l. had_before records given.1 rest n l given.3)
     where
       first : (f : FirstChange version cs ds maps s.key given.0 s.value given.1) →
-          HadBefore f.rest records key before after ⊎ FoundClash cs ds →
-          HadBefore maps (s ∷ records) key before after ⊎ FoundClash cs ds
+          HadBefore f.rest records key before after ⊎ FoundClash version cs ds →
+          HadBefore maps (s ∷ records) key before after ⊎ FoundClash version cs ds
       first f (inr clash) = inr clash
       first f (inl h) =
           let r : Record = record { key = key; value = after } in
@@ -115,12 +120,13 @@ module _ (version : Version) (cs ds : List (List ℕ)) (mid next : Lefts) (key :
           })
 
       go : FirstChange version cs ds maps s.key given.0 s.value given.1 ⊎
-          Clashing given.2.read (cs ++ ds) →
+          Clashing (read_on given.2.way) (cs ++ ds) →
           ((rest : Maps) → AreMaps rest → AreLeft version cs ds rest given.1 →
-          HadBefore rest records key before after ⊎ FoundClash cs ds) →
-          HadBefore maps (s ∷ records) key before after ⊎ FoundClash cs ds
+          HadBefore rest records key before after ⊎ FoundClash version cs ds) →
+          HadBefore maps (s ∷ records) key before after ⊎ FoundClash version cs ds
       go (inl f) later = first f (later f.rest f.first.left f.left)
-      go (inr clash) later = inr (record { read = given.2.read; bytes = given.2.bytes; clash = clash })
+      go (inr clash) later =
+          inr (found_clash version cs ds lefts given.1 given.2.way given.2.lead clash)
 
 pub before_is_right : RootIsTree → BeforeIsRight
 before_is_right root_is version bits bits' m m' records mid next key before after rising lawful
@@ -138,7 +144,7 @@ before_is_right root_is version bits bits' m m' records mid next key before afte
     ds = chunk_bytes version bits' m'
 
     go : HadBefore (record { before = m; after = m' }) records key before after ⊎
-        FoundClash cs ds → (find m key ≡ before) ⊎ FoundClash cs ds
+        FoundClash version cs ds → (find m key ≡ before) ⊎ FoundClash version cs ds
     go (inl h) = inl h.had
     go (inr clash) = inr clash
 

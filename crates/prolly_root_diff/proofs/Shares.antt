@@ -4,14 +4,12 @@ use Rattle.std.proofs.Common.{refl, sym, ap, ◌∙◌, subst, append_assoc, ari
 use Rattle.std.proofs.lemmas.List.{map-append}
 use Rattle.std.proofs.lemmas.List.Sums.{sum_by-append, sum_by-cons}
 use Rattle.std.specs.List.{flat_map, AllByRecursion, sum_by}
-use Rattle.std.specs.Prelude.{All}
 use Rattle.prolly_look_up.specs.MapTree.{ChildIsTree, IsTreeOf, TopIsRead, child_of, entries_below}
 use Rattle.prolly_look_up.specs.Entries.{Child}
 use Rattle.prolly_look_up.specs.Kinds.{kind_of}
 use Rattle.prolly_look_up.specs.Kinds.Entries.{Node}
 use Rattle.prolly_look_up.specs.Way.{Clash, IsNamed}
 use Rattle.prolly_look_up.specs.lemmas.Clashes.{top_or_clash, wider}
-use Rattle.prolly_entry.specs.Byte.{IsByte}
 use Rattle.prolly_entry.specs.Reference.{reference_of}
 use Rattle.prolly_entry.specs.declared.version.Version.{Version}
 use Rattle.prolly_entry.specs.lemmas.Lists.{all_append}
@@ -22,6 +20,7 @@ use Rattle.prolly_tree.specs.lemmas.Trees.{in_back, in_front}
 use Rattle.prolly_root_diff.specs.Left.{tops_of}
 use Rattle.prolly_root_diff.specs.Notes.{LeadTo, Step, read_new, read_old, references_in}
 use Rattle.prolly_root_diff.specs.Walks.{FoundClash}
+use Rattle.prolly_root_diff.proofs.Moving.{named_so}
 use Rattle.prolly_root_diff.proofs.Opening.{children_each, leveled}
 
 -- ---- the chunks of trees
@@ -80,27 +79,29 @@ node_sum version level ts trees f =
 
 -- ---- clashes
 
-module _ (cs ds : List (List ℕ)) where
-  first_clash : (chunk : List ℕ) → All IsByte chunk → Clash (chunk ∷ []) cs → FoundClash cs ds
-  first_clash chunk bytes clash = record {
+module _ (version : Version) (cs ds : List (List ℕ)) where
+  first_clash : (reference chunk : List ℕ) → IsNamed version reference chunk →
+      Clash (chunk ∷ []) cs → FoundClash version cs ds
+  first_clash reference chunk named clash = record {
     read = chunk ∷ [];
-    bytes = (bytes, tt);
+    readable = (named_so version reference chunk named, tt);
     clash = wider (chunk ∷ []) cs ((chunk ∷ []) ++ (cs ++ ds)) (cs ++ ds)
         (λ c. in_front c (chunk ∷ []) (cs ++ ds)) (λ c. in_front c cs ds) clash;
   }
 
-  second_clash : (chunk : List ℕ) → All IsByte chunk → Clash (chunk ∷ []) ds → FoundClash cs ds
-  second_clash chunk bytes clash = record {
+  second_clash : (reference chunk : List ℕ) → IsNamed version reference chunk →
+      Clash (chunk ∷ []) ds → FoundClash version cs ds
+  second_clash reference chunk named clash = record {
     read = chunk ∷ [];
-    bytes = (bytes, tt);
+    readable = (named_so version reference chunk named, tt);
     clash = wider (chunk ∷ []) ds ((chunk ∷ []) ++ (cs ++ ds)) (cs ++ ds)
         (λ c. in_front c (chunk ∷ []) (cs ++ ds)) (λ c. in_back c cs ds) clash;
   }
 
-  pub both_clash : Clash cs ds → FoundClash cs ds
+  pub both_clash : Clash cs ds → FoundClash version cs ds
   both_clash clash = record {
     read = [];
-    bytes = tt;
+    readable = tt;
     clash = wider cs ds (cs ++ ds) (cs ++ ds) (λ c. in_front c cs ds) (λ c. in_back c cs ds) clash;
   }
 
@@ -280,7 +281,7 @@ module _ (child_is : (version : Version) → ChildIsTree version)
 
     pub parted : (steps : List Step) (old new : List (List ℕ)) (ts us : List LeveledTree) →
         Trees cs ts → Trees ds us → tops_of version ts ≡ old → tops_of version us ≡ new →
-        LeadTo version old new steps [] [] → Parted version ts us steps ⊎ FoundClash cs ds
+        LeadTo version old new steps [] [] → Parted version ts us steps ⊎ FoundClash version cs ds
     parted [] old new (t ∷ ts) us h k e f lead =
         let none = e ∙ lead.0 in cc
     parted [] old new [] (u ∷ us) h k e f lead =
@@ -295,8 +296,8 @@ module _ (child_is : (version : Version) → ChildIsTree version)
         us each k tops f lead.4)
       where
         join : (o : Opened version cs (t ∷ ts) ts chunk) →
-            Parted version o.left us steps ⊎ FoundClash cs ds →
-            Parted version (t ∷ ts) us (Step.ReadsOld chunk ∷ steps) ⊎ FoundClash cs ds
+            Parted version o.left us steps ⊎ FoundClash version cs ds →
+            Parted version (t ∷ ts) us (Step.ReadsOld chunk ∷ steps) ⊎ FoundClash version cs ds
         join o (inr clash) = inr clash
         join o (inl p) = inl (record {
           passed = p.passed;
@@ -311,9 +312,9 @@ module _ (child_is : (version : Version) → ChildIsTree version)
         go : Opened version cs (t ∷ ts) ts chunk ⊎ Clash (chunk ∷ []) cs →
             ((left : List LeveledTree) → Trees cs left →
             tops_of version left ≡ references_in (kind_of version chunk) ++ lead.1 →
-            Parted version left us steps ⊎ FoundClash cs ds) →
-            Parted version (t ∷ ts) us (Step.ReadsOld chunk ∷ steps) ⊎ FoundClash cs ds
-        go (inr clash) more = inr (first_clash cs ds chunk lead.3.bytes clash)
+            Parted version left us steps ⊎ FoundClash version cs ds) →
+            Parted version (t ∷ ts) us (Step.ReadsOld chunk ∷ steps) ⊎ FoundClash version cs ds
+        go (inr clash) more = inr (first_clash version cs ds lead.0 chunk lead.3 clash)
         go (inl o) more = join o (more o.left o.each (o.tops ∙
             ap (λ rs. references_in (kind_of version chunk) ++ rs) (tails (e ∙ lead.2))))
     parted (Step.ReadsNew chunk ∷ steps) old new ts [] h k e f lead =
@@ -324,8 +325,8 @@ module _ (child_is : (version : Version) → ChildIsTree version)
         left h each e tops lead.4)
       where
         join : (o : Opened version ds (u ∷ us) us chunk) →
-            Parted version ts o.left steps ⊎ FoundClash cs ds →
-            Parted version ts (u ∷ us) (Step.ReadsNew chunk ∷ steps) ⊎ FoundClash cs ds
+            Parted version ts o.left steps ⊎ FoundClash version cs ds →
+            Parted version ts (u ∷ us) (Step.ReadsNew chunk ∷ steps) ⊎ FoundClash version cs ds
         join o (inr clash) = inr clash
         join o (inl p) = inl (record {
           passed = p.passed;
@@ -340,9 +341,9 @@ module _ (child_is : (version : Version) → ChildIsTree version)
         go : Opened version ds (u ∷ us) us chunk ⊎ Clash (chunk ∷ []) ds →
             ((left : List LeveledTree) → Trees ds left →
             tops_of version left ≡ references_in (kind_of version chunk) ++ lead.1 →
-            Parted version ts left steps ⊎ FoundClash cs ds) →
-            Parted version ts (u ∷ us) (Step.ReadsNew chunk ∷ steps) ⊎ FoundClash cs ds
-        go (inr clash) more = inr (second_clash cs ds chunk lead.3.bytes clash)
+            Parted version ts left steps ⊎ FoundClash version cs ds) →
+            Parted version ts (u ∷ us) (Step.ReadsNew chunk ∷ steps) ⊎ FoundClash version cs ds
+        go (inr clash) more = inr (second_clash version cs ds lead.0 chunk lead.3 clash)
         go (inl o) more = join o (more o.left o.each (o.tops ∙
             ap (λ rs. references_in (kind_of version chunk) ++ rs) (tails (f ∙ lead.2))))
     parted (Step.PassesBoth ∷ steps) old new [] us h k e f lead =
@@ -355,9 +356,9 @@ module _ (child_is : (version : Version) → ChildIsTree version)
         (parted steps lead.1 lead.2 ts us h.1 k.1 (tails (e ∙ lead.3)) (tails (f ∙ lead.4)) lead.5)
       where
         join : (chunks_in version t.level t.tree ≡ chunks_in version u.level u.tree) ⊎
-            Clash cs ds → Parted version ts us steps ⊎ FoundClash cs ds →
-            Parted version (t ∷ ts) (u ∷ us) (Step.PassesBoth ∷ steps) ⊎ FoundClash cs ds
-        join (inr clash) more = inr (both_clash cs ds clash)
+            Clash cs ds → Parted version ts us steps ⊎ FoundClash version cs ds →
+            Parted version (t ∷ ts) (u ∷ us) (Step.PassesBoth ∷ steps) ⊎ FoundClash version cs ds
+        join (inr clash) more = inr (both_clash version cs ds clash)
         join (inl same) (inr clash) = inr clash
         join (inl same) (inl p) = inl (record {
           passed = chunks_in version t.level t.tree ++ p.passed;

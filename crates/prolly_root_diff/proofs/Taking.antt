@@ -2,9 +2,6 @@
 use Rattle.std.proofs.Common.{◌≡◌, ◌≢◌, ℕ, ◌<◌, inl, List, [], ◌∷◌, ◌++◌, map}
 use Rattle.std.proofs.Common.{Option, None, Some, refl, sym, ap, ◌∙◌, subst, length}
 use Rattle.std.proofs.Common.{arith}
-use Rattle.std.specs.Prelude.{All}
-use Rattle.prolly_entry.specs.Byte.{IsByte}
-use Rattle.prolly_entry.specs.lemmas.Lists.{all_append}
 use Rattle.prolly_entry.specs.Pair.{Pair}
 use Rattle.prolly_entry.specs.declared.version.Version.{Version}
 use Rattle.prolly_tree.specs.Difference.{IsDifference, IsMap}
@@ -15,8 +12,9 @@ use Rattle.prolly_tree.specs.lemmas.Walks.{added, alike_more, alike_one, changed
 use Rattle.prolly_tree.specs.lemmas.Walks.{removed}
 use Rattle.prolly_root_diff.specs.Left.{IsLeft, Left, pairs_of, tops_of}
 use Rattle.prolly_root_diff.specs.Walks.{AreLeft, Changes, Ends, FirstChange}
-use Rattle.prolly_root_diff.specs.Walks.{GoOn, IsReady, Lefts, Moves, Takes, TakesFirst, Tells}
-use Rattle.prolly_root_diff.proofs.Moving.{told}
+use Rattle.prolly_root_diff.specs.Walks.{GoOn, IsReady, Leads, Lefts, Move, Moves, Takes}
+use Rattle.prolly_root_diff.specs.Walks.{TakesFirst, Tells}
+use Rattle.prolly_root_diff.proofs.Moving.{leads_on, told}
 use Rattle.prolly_root_diff.specs.ToGo.{to_go, weights}
 
 -- ---- in the map
@@ -119,9 +117,10 @@ module _ (version : Version) (start old new : Lefts) (moves : Moves version star
   pub removes : (p : Pair) → TakesFirst old (Some p) None new →
       Changes version start p.key (Some p.value) None new
   removes p t = record {
-    read = moves.read ++ [];
-    bytes = all_append (All IsByte) moves.read [] moves.bytes tt;
-    tells = told version start old moves []
+    way = moves.way ++ Move.TakesOld ∷ [];
+    lead = leads_on version start old new moves.way (Move.TakesOld ∷ []) moves.lead
+        (new, (p, t.0, t.1), refl);
+    tells = told version start old moves (Move.TakesOld ∷ [])
         (λ cs ds maps. LeastThere version cs ds maps (Some p) None new)
         (λ cs ds maps. FirstChange version cs ds maps p.key (Some p.value) None new)
         (λ cs ds maps mid m alike l. record {
@@ -134,9 +133,10 @@ module _ (version : Version) (start old new : Lefts) (moves : Moves version star
   pub adds : (q : Pair) → TakesFirst old None (Some q) new →
       Changes version start q.key None (Some q.value) new
   adds q t = record {
-    read = moves.read ++ [];
-    bytes = all_append (All IsByte) moves.read [] moves.bytes tt;
-    tells = told version start old moves []
+    way = moves.way ++ Move.TakesNew ∷ [];
+    lead = leads_on version start old new moves.way (Move.TakesNew ∷ []) moves.lead
+        (new, (q, t.0, t.1), refl);
+    tells = told version start old moves (Move.TakesNew ∷ [])
         (λ cs ds maps. LeastThere version cs ds maps None (Some q) new)
         (λ cs ds maps. FirstChange version cs ds maps q.key None (Some q.value) new)
         (λ cs ds maps mid m alike l. record {
@@ -146,12 +146,21 @@ module _ (version : Version) (start old new : Lefts) (moves : Moves version star
         }) (takes_there None (Some q) t (λ e f. cc));
   }
 
+  takes_both : (p q : Pair) → TakesFirst old (Some p) (Some q) new →
+      Leads version start (moves.way ++ Move.TakesOld ∷ Move.TakesNew ∷ []) new
+  takes_both p q t =
+      leads_on version start old new moves.way (Move.TakesOld ∷ Move.TakesNew ∷ []) moves.lead (
+        record { before = new.before; after = old.after },
+        (p, t.0, refl),
+        (new, (q, t.1, refl), refl),
+      )
+
   pub changes : (p q : Pair) → TakesFirst old (Some p) (Some q) new → p.value ≢ q.value →
       Changes version start q.key (Some p.value) (Some q.value) new
   changes p q t differ = record {
-    read = moves.read ++ [];
-    bytes = all_append (All IsByte) moves.read [] moves.bytes tt;
-    tells = told version start old moves []
+    way = moves.way ++ Move.TakesOld ∷ Move.TakesNew ∷ [];
+    lead = takes_both p q t;
+    tells = told version start old moves (Move.TakesOld ∷ Move.TakesNew ∷ [])
         (λ cs ds maps. LeastThere version cs ds maps (Some p) (Some q) new)
         (λ cs ds maps. FirstChange version cs ds maps q.key (Some p.value) (Some q.value) new)
         (λ cs ds maps mid m alike l. record {
@@ -164,9 +173,9 @@ module _ (version : Version) (start old new : Lefts) (moves : Moves version star
   pub keeps : (p q : Pair) → TakesFirst old (Some p) (Some q) new → p.value ≡ q.value →
       Moves version start new
   keeps p q t same = record {
-    read = moves.read ++ [];
-    bytes = all_append (All IsByte) moves.read [] moves.bytes tt;
-    tells = told version start old moves []
+    way = moves.way ++ Move.TakesOld ∷ Move.TakesNew ∷ [];
+    lead = takes_both p q t;
+    tells = told version start old moves (Move.TakesOld ∷ Move.TakesNew ∷ [])
         (λ cs ds maps. LeastThere version cs ds maps (Some p) (Some q) new)
         (λ cs ds maps. GoOn version cs ds maps new)
         (λ cs ds maps mid m alike l. record {
@@ -178,8 +187,10 @@ module _ (version : Version) (start old new : Lefts) (moves : Moves version star
 
   pub ends : TakesFirst old None None new → Ends version start
   ends t = record {
-    read = moves.read ++ [];
-    bytes = all_append (All IsByte) moves.read [] moves.bytes tt;
+    way = moves.way ++ [];
+    rest = old;
+    lead = leads_on version start old old moves.way [] moves.lead refl;
+    at_end = ((t.0, ready.0 t.0), (t.1, ready.1 t.1));
     tells = told version start old moves []
         (λ cs ds maps. (maps.before ≡ []) × (maps.after ≡ []))
         (λ cs ds maps. IsDifference maps.before maps.after [])

@@ -1,22 +1,22 @@
 -- The leaves that are left of a tree, for who knows its chunks by their references alone.
-use Rattle.std.specs.Prelude.{◌≡◌, ℕ, ◌⊎◌, All, List, [], ◌∷◌, ◌++◌, map}
+use Rattle.std.specs.Prelude.{◌≡◌, ℕ, ◌⊎◌, List, [], ◌∷◌, ◌++◌, map}
 use Rattle.std.specs.List.{AllByRecursion, flat_map}
 use Rattle.prolly_look_up.specs.MapTree.{IsTreeOf}
 use Rattle.prolly_look_up.specs.Content.{chunk_bytes}
 use Rattle.prolly_look_up.specs.HeldPairs.{pairs_held}
 use Rattle.prolly_look_up.specs.Way.{Clash, IsNamed}
-use Rattle.prolly_entry.specs.Byte.{IsByte}
 use Rattle.prolly_entry.specs.Cut.{Cut, sha512_cut}
 use Rattle.prolly_entry.specs.Pair.{IsPair, Pair}
 use Rattle.prolly_entry.specs.Prefix.{IsPrefix}
+use Rattle.prolly_entry.specs.Reference.{reference_of}
 use Rattle.prolly_entry.specs.declared.version.Version.{Version}
 use Rattle.prolly_tree.specs.Difference.{IsMap}
 use Rattle.prolly_tree.specs.File.{root_reference}
 use Rattle.prolly_tree.specs.Leaves.{leaves_below}
 use Rattle.prolly_tree.specs.Tree.{LeveledTree, leaves}
-use Rattle.prolly_root_diff.specs.DueTrees.{due_behind}
+use Rattle.prolly_root_diff.specs.DueTrees.{ReadsFirst, due_behind}
 use Rattle.prolly_root_diff.specs.Left.{Due, left_of_root, tops_of}
-use Rattle.prolly_root_diff.specs.Walks.{Clashing}
+use Rattle.prolly_root_diff.specs.Walks.{AreReadable, Clashing}
 
 -- ---- the leaves of a map
 
@@ -31,10 +31,11 @@ with_pairs ((p ∷ ps) ∷ leaves) = (p ∷ ps) ∷ with_pairs leaves
 abbrev pub full_leaves : Cut → List Pair → List (List Pair)
 full_leaves cut m = with_pairs (leaves cut m)
 
--- A chunk of this tree has the reference of a different chunk, which was read or is one of them, too.
-pub record FoundClashIn (chunks : List (List ℕ)) : Type 0 where
+-- A chunk of this tree has the reference of a different chunk, which was read or is one of them,
+-- too. What was read can be read as a chunk of this version.
+pub record FoundClashIn (version : Version) (chunks : List (List ℕ)) : Type 0 where
   pub read : List (List ℕ)
-  pub bytes : AllByRecursion (All IsByte) read
+  pub readable : AreReadable version read
   pub clash : Clashing read chunks
 
 -- ---- what is left of a tree
@@ -92,18 +93,25 @@ pub record IsFirstLeaf (version : Version) (chunks : List (List ℕ)) (leaves : 
   pub are : leaves ≡ leaf ∷ others
   pub left : AreLeavesLeft version chunks others due
 
+-- The chunks were read one after another, each in the place of the first subtree that was due: it has
+-- its reference, and can be read. So a walk came from the one to the other.
+abbrev pub LeadDown : Version → List Due → List (List ℕ) → List Due → Type 0
+LeadDown version old [] new = old ≡ new
+LeadDown version old (chunk ∷ chunks) new = (mid : List Due) ×
+    ReadsFirst version old (reference_of chunk) chunk mid × LeadDown version mid chunks new
+
 -- By reading these chunks a walk gave the leaf, the first of those that were left.
 pub record GivesLeaf (version : Version) (old : List Due) (leaf : List Pair) (new : List Due)
     : Type 0 where
   pub read : List (List ℕ)
-  pub bytes : AllByRecursion (All IsByte) read
+  pub lead : LeadDown version old read new
   pub tells : TellsLeaves version read old (λ chunks leaves.
       IsFirstLeaf version chunks leaves leaf new)
 
--- By reading these chunks it found that no leaf is left.
+-- By reading these chunks it found that no leaf is left, and nothing is due.
 pub record LeavesEnd (version : Version) (old : List Due) : Type 0 where
   pub read : List (List ℕ)
-  pub bytes : AllByRecursion (All IsByte) read
+  pub lead : LeadDown version old read []
   pub tells : TellsLeaves version read old (λ chunks leaves. leaves ≡ [])
 
 -- ---- from the first leaf to the last
@@ -127,11 +135,12 @@ abbrev pub FirstLeavesAreRight : Type 0
 FirstLeavesAreRight = (version : Version) (bits : ℕ) (m : List Pair) (given : List (List Pair))
     (due : List Due) → IsMap m → AllByRecursion IsPair m →
     GivesLeaves version (left_of_root (root_reference (sha512_cut bits) version m)).due given due →
-    IsPrefix given (full_leaves (sha512_cut bits) m) ⊎ FoundClashIn (chunk_bytes version bits m)
+    IsPrefix given (full_leaves (sha512_cut bits) m)
+    ⊎ FoundClashIn version (chunk_bytes version bits m)
 
 -- Law: what it gave until it found that no leaf is left are all of them.
 abbrev pub AllLeavesAreRight : Type 0
 AllLeavesAreRight = (version : Version) (bits : ℕ) (m : List Pair) (given : List (List Pair)) →
     IsMap m → AllByRecursion IsPair m →
     GivesAllLeaves version (left_of_root (root_reference (sha512_cut bits) version m)).due given →
-    (given ≡ full_leaves (sha512_cut bits) m) ⊎ FoundClashIn (chunk_bytes version bits m)
+    (given ≡ full_leaves (sha512_cut bits) m) ⊎ FoundClashIn version (chunk_bytes version bits m)

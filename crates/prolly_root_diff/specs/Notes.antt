@@ -140,7 +140,7 @@ TellsMissing version to notes missing = (bits bits' : ℕ) (m m' : List Pair) �
     (root_reference (sha512_cut bits') version m')) to notes →
     IsAtEnd to.before → IsAtEnd to.after →
     AreSo (lacking (chunk_bytes version bits m) (chunk_bytes version bits' m')) missing
-    ⊎ FoundClash (chunk_bytes version bits m) (chunk_bytes version bits' m')
+    ⊎ FoundClash version (chunk_bytes version bits m) (chunk_bytes version bits' m')
 
 -- Law: the notes of the new tree whose references none of the old tree has tell what is missing.
 abbrev pub NotesAreRight : Type 0

@@ -9,18 +9,17 @@ use Rattle.prolly_tree.specs.Difference.{IsDifference, IsMap}
 use Rattle.prolly_tree.specs.File.{root_reference}
 use Rattle.prolly_tree.specs.LookUp.{find}
 use Rattle.std.specs.List.{AllByRecursion}
-use Rattle.std.specs.Prelude.{All}
-use Rattle.prolly_entry.specs.Byte.{IsByte}
 use Rattle.prolly_entry.specs.Cut.{sha512_cut}
 use Rattle.prolly_entry.specs.Record.{Record}
+use Rattle.prolly_entry.specs.Reference.{reference_of}
 use Rattle.prolly_look_up.specs.Content.{chunk_bytes, Content}
-use Rattle.prolly_look_up.specs.Way.{Clash}
+use Rattle.prolly_look_up.specs.Way.{Clash, IsNamed}
 use Rattle.prolly_tree.specs.Walks.{AreAlike, AreMaps, IsFirstChange, Maps}
 use Rattle.prolly_tree.specs.lemmas.Maps.{FirstAbove}
 use Rattle.prolly_root.specs.RootFault.{MayFail, TellsFailure}
 use Rattle.prolly_root.specs.declared.root_fault.RootFault.{RootFault}
 use Rattle.prolly_tree.specs.Tree.{Tree}
-use Rattle.prolly_root_diff.specs.Left.{Due, IsLeft, Left, left_of_root}
+use Rattle.prolly_root_diff.specs.Left.{Due, IsLeft, Left, Opens, left_of_root}
 use Rattle.prolly_root_diff.specs.Sides.{IsAtRoot, IsSideOf, left_of}
 use Rattle.prolly_root_diff.specs.declared.fault.RootDiffFault.{RootDiffFault}
 use Rattle.prolly_root_diff.specs.declared.fault.RootDiffFault.TheVariants as faults
@@ -51,6 +50,11 @@ AreLeft version cs ds maps lefts =
 abbrev pub Clashing : List (List ℕ) → List (List ℕ) → Type 0
 Clashing read trees = Clash (read ++ trees) trees
 
+-- The chunks can be read: each is bytes, a level, and whole lawful entries of that level's kind,
+-- whose keys rise.
+abbrev pub AreReadable : Version → List (List ℕ) → Type 0
+AreReadable version chunks = AllByRecursion (λ c. IsNamed version (reference_of c) c) chunks
+
 -- So it is of what is left of any two trees of the version and of any bits; or else a chunk of them
 -- clashes.
 abbrev pub Tells : Version → List (List ℕ) → Lefts → (List (List ℕ) → List (List ℕ) → Maps → Type 0)
@@ -65,11 +69,74 @@ pub record GoOn (version : Version) (cs ds : List (List ℕ)) (maps : Maps) (lef
     pub alike : AreAlike maps rest
     pub left : AreLeft version cs ds rest lefts
 
--- By reading these chunks, or passing by what is equal, a walk went on from the one to the other.
+-- ---- the way of a walk
+
+-- Nothing is in hand, and the first subtrees that are due have one reference.
+pub record BeginAlike (before after : Left) : Type 0 where
+  pub first : Due
+  pub second : Due
+  pub due : List Due
+  pub due' : List Due
+  pub before_is : before ≡ record { pairs = []; due = first ∷ due }
+  pub after_is : after ≡ record { pairs = []; due = second ∷ due' }
+  pub same : first.reference ≡ second.reference
+
+-- The first pair in hand was taken.
+abbrev pub Takes : Left → Pair → Left → Type 0
+Takes old pair new = (old.pairs ≡ pair ∷ new.pairs) × (new.due ≡ old.due)
+
+-- Nothing is in hand, nor due.
+abbrev pub IsAtEnd : Left → Type 0
+IsAtEnd left = (left.pairs ≡ []) × (left.due ≡ [])
+
+-- What a walk does: it reads a chunk of the old tree, or of the new one; it goes on in both behind
+-- subtrees that have one reference; or it takes the first pair in hand of the old tree, or of the
+-- new one.
+pub data Move : Type 0 where
+  ReadsOld : List ℕ → Move
+  ReadsNew : List ℕ → Move
+  PassesBoth : Move
+  TakesOld : Move
+  TakesNew : Move
+
+-- So it comes from the one to the other. A chunk is read in the place of the first subtree: it has
+-- its reference, and can be read. It is read only where the trees do not begin with subtrees that
+-- have one reference.
+abbrev pub IsMove : Version → Lefts → Move → Lefts → Type 0
+IsMove version old (Move.ReadsOld chunk) new = (opens : Opens version old.before new.before) ×
+    (chunk ≡ opens.chunk) × (new.after ≡ old.after) × (BeginAlike old.before old.after → ⊥)
+IsMove version old (Move.ReadsNew chunk) new = (opens : Opens version old.after new.after) ×
+    (chunk ≡ opens.chunk) × (new.before ≡ old.before) × (BeginAlike old.before old.after → ⊥)
+IsMove version old Move.PassesBoth new = (alike : BeginAlike old.before old.after) ×
+    (new.before ≡ record { pairs = []; due = alike.due }) ×
+    (new.after ≡ record { pairs = []; due = alike.due' })
+IsMove version old Move.TakesOld new = (pair : Pair) × Takes old.before pair new.before ×
+    (new.after ≡ old.after)
+IsMove version old Move.TakesNew new = (pair : Pair) × Takes old.after pair new.after ×
+    (new.before ≡ old.before)
+
+-- This way leads from the one to the other.
+abbrev pub Leads : Version → Lefts → List Move → Lefts → Type 0
+Leads version old [] new = old ≡ new
+Leads version old (move ∷ way) new = (mid : Lefts) × IsMove version old move mid ×
+    Leads version mid way new
+
+-- The chunks that are read on the way.
+abbrev pub read_on : List Move → List (List ℕ)
+read_on [] = []
+read_on (Move.ReadsOld chunk ∷ way) = chunk ∷ read_on way
+read_on (Move.ReadsNew chunk ∷ way) = chunk ∷ read_on way
+read_on (Move.PassesBoth ∷ way) = read_on way
+read_on (Move.TakesOld ∷ way) = read_on way
+read_on (Move.TakesNew ∷ way) = read_on way
+
+-- ---- what a walk gives
+
+-- A walk went on from the one to the other, behind pairs with which both maps begin.
 pub record Moves (version : Version) (old new : Lefts) : Type 0 where
-  pub read : List (List ℕ)
-  pub bytes : AllByRecursion (All IsByte) read
-  pub tells : Tells version read old (λ cs ds maps. GoOn version cs ds maps new)
+  pub way : List Move
+  pub lead : Leads version old way new
+  pub tells : Tells version (read_on way) old (λ cs ds maps. GoOn version cs ds maps new)
 
 -- The first change of the two maps, behind which these are left.
 pub record FirstChange (version : Version) (cs ds : List (List ℕ)) (maps : Maps) (key : List ℕ)
@@ -78,22 +145,22 @@ pub record FirstChange (version : Version) (cs ds : List (List ℕ)) (maps : Map
   pub first : IsFirstChange maps key before after rest
   pub left : AreLeft version cs ds rest lefts
 
+-- A walk went on from the one to the other, behind this change, which is the first.
 pub record Changes (version : Version) (old : Lefts) (key : List ℕ) (before after : Option (List ℕ))
     (new : Lefts) : Type 0 where
-  pub read : List (List ℕ)
-  pub bytes : AllByRecursion (All IsByte) read
-  pub tells : Tells version read old (λ cs ds maps.
+  pub way : List Move
+  pub lead : Leads version old way new
+  pub tells : Tells version (read_on way) old (λ cs ds maps.
       FirstChange version cs ds maps key before after new)
 
--- The two maps are the same.
+-- It came to the end of both trees, and the two maps are the same.
 pub record Ends (version : Version) (old : Lefts) : Type 0 where
-  pub read : List (List ℕ)
-  pub bytes : AllByRecursion (All IsByte) read
-  pub tells : Tells version read old (λ cs ds maps. IsDifference maps.before maps.after [])
-
--- Nothing is in hand, nor due.
-abbrev pub IsAtEnd : Left → Type 0
-IsAtEnd left = (left.pairs ≡ []) × (left.due ≡ [])
+  pub way : List Move
+  pub rest : Lefts
+  pub lead : Leads version old way rest
+  pub at_end : IsAtEnd rest.before × IsAtEnd rest.after
+  pub tells : Tells version (read_on way) old (λ cs ds maps.
+      IsDifference maps.before maps.after [])
 
 -- What a walk found: a change; or that there is none, and that nothing is left of either tree.
 abbrev pub Gives : Version → Lefts → Option RootChange → Lefts → Type 0
@@ -118,16 +185,6 @@ IsReady left = left.pairs ≡ [] → left.due ≡ []
 -- Nothing is in hand, and a subtree is due.
 abbrev pub IsDue : Left → Type 0
 IsDue left = (left.pairs ≡ []) × (0 < length left.due)
-
--- Nothing is in hand, and the first subtrees that are due have one reference.
-pub record BeginAlike (before after : Left) : Type 0 where
-  pub first : Due
-  pub second : Due
-  pub due : List Due
-  pub due' : List Due
-  pub before_is : before ≡ record { pairs = []; due = first ∷ due }
-  pub after_is : after ≡ record { pairs = []; due = second ∷ due' }
-  pub same : first.reference ≡ second.reference
 
 -- The pairs are the first that are in hand, where some are.
 abbrev pub FirstPair : List Pair → Option Pair → Type 0
@@ -155,16 +212,13 @@ pub record GoesByPairs (before after : Left) (way : Onward) : Type 0 where
   pub second : FirstPair after.pairs q
   pub comes : ComesTo p q way
 
--- How a walk goes on.
+-- How a walk goes on. Where both trees begin with subtrees that have one reference, these are
+-- passed by, and nothing is read.
 abbrev pub IsOnward : Left → Left → Onward → Type 0
 IsOnward before after ways.Pass = BeginAlike before after
-IsOnward before after ways.OpenOld = IsDue before
-IsOnward before after ways.OpenNew = IsDue after
+IsOnward before after ways.OpenOld = IsDue before × (BeginAlike before after → ⊥)
+IsOnward before after ways.OpenNew = IsDue after × (BeginAlike before after → ⊥)
 IsOnward before after way = GoesByPairs before after way
-
--- The first pair in hand was taken.
-abbrev pub Takes : Left → Pair → Left → Type 0
-Takes old pair new = (old.pairs ≡ pair ∷ new.pairs) × (new.due ≡ old.due)
 
 -- These pairs were taken, of the least key that either has in hand.
 abbrev pub TakesFirst : Lefts → Option Pair → Option Pair → Lefts → Type 0
@@ -266,11 +320,11 @@ pub record BeginsWithRecords (old new : List Pair) (records : List Record) : Typ
   pub more : List Record
   pub is : IsDifference old new (records ++ more)
 
--- A chunk of these two trees has the reference of a different chunk, which was read or is one of them,
--- too.
-pub record FoundClash (before after : List (List ℕ)) : Type 0 where
+-- A chunk of these two trees has the reference of a different chunk, which was read or is one of
+-- them, too. What was read can be read as a chunk of this version.
+pub record FoundClash (version : Version) (before after : List (List ℕ)) : Type 0 where
   pub read : List (List ℕ)
-  pub bytes : AllByRecursion (All IsByte) read
+  pub readable : AreReadable version read
   pub clash : Clashing read (before ++ after)
 
 -- Law: what a walk from two roots gave is the difference of the maps of these roots, whatever the
@@ -281,7 +335,7 @@ WalksAreRight = (version : Version) (bits bits' : ℕ) (m m' : List Pair) (recor
     GivesAll version (at_roots (root_reference (sha512_cut bits) version m)
     (root_reference (sha512_cut bits') version m')) records →
     IsDifference m m' records
-    ⊎ FoundClash (chunk_bytes version bits m) (chunk_bytes version bits' m')
+    ⊎ FoundClash version (chunk_bytes version bits m) (chunk_bytes version bits' m')
 
 -- Law: with what a walk from two roots gave so far the difference of the maps of these roots begins;
 -- or else two different chunks have one reference.
@@ -291,7 +345,7 @@ FirstAreRight = (version : Version) (bits bits' : ℕ) (m m' : List Pair) (recor
     GivesFirst version (at_roots (root_reference (sha512_cut bits) version m)
     (root_reference (sha512_cut bits') version m')) records rest →
     BeginsWithRecords m m' records
-    ⊎ FoundClash (chunk_bytes version bits m) (chunk_bytes version bits' m')
+    ⊎ FoundClash version (chunk_bytes version bits m) (chunk_bytes version bits' m')
 
 -- Law: what a walk from two roots says that the old map had at the key of its next change, it had; or
 -- else two different chunks have one reference.
@@ -302,4 +356,5 @@ BeforeIsRight = (version : Version) (bits bits' : ℕ) (m m' : List Pair) (recor
     GivesFirst version (at_roots (root_reference (sha512_cut bits) version m)
     (root_reference (sha512_cut bits') version m')) records mid →
     Changes version mid key before after next →
-    (find m key ≡ before) ⊎ FoundClash (chunk_bytes version bits m) (chunk_bytes version bits' m')
+    (find m key ≡ before)
+    ⊎ FoundClash version (chunk_bytes version bits m) (chunk_bytes version bits' m')

@@ -80,7 +80,7 @@ walk-preserved-in_ok-note_old-in-Ok g c = record {
       (record { before = left_of c.open_first.new.self; after = left_of c.walk.after })
       c.walk.invariant.moves (opens_before c.walks_are_right.ensures.opens c.args.version
       (left_of c.walk.before) (left_of c.open_first.new.self) (left_of c.walk.after)
-      c.in-Ok.ensures.opens.opens);
+      c.in-Ok.ensures.opens.opens c.in-OpenOld.ensures.1);
   nearer = omega (
     arith,
     c.walk.invariant.nearer,
@@ -115,7 +115,7 @@ walk-preserved-in_ok-note_new-in-Ok-open_first g c = record {
       (record { before = left_of c.walk.before; after = left_of c.open_first-in-OpenNew.new.self })
       c.walk.invariant.moves (opens_after c.walks_are_right.ensures.opens c.args.version
       (left_of c.walk.before) (left_of c.walk.after) (left_of c.open_first-in-OpenNew.new.self)
-      c.in-Ok-open_first.ensures.opens.opens);
+      c.in-Ok-open_first.ensures.opens.opens c.in-OpenNew.ensures.1);
   nearer = omega (
     arith,
     c.walk.invariant.nearer,
