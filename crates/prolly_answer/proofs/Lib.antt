@@ -14,6 +14,10 @@ pub mod DiffSteps
 pub mod Verifying
 -- Lines that are made of the first pairs of leaves.
 pub mod FirstLines
+-- What is shown of a look-up by the root.
+mod FoundByRoot
+-- The status of several files, of which one more was answered.
+mod Statuses
 -- Scans by a root, leaf by leaf.
 pub mod ScanSteps
 -- Going over the pairs of a tree by its root, leaf by leaf.

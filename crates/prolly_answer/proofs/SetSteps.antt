@@ -29,8 +29,8 @@ use Rattle.prolly_answer.specs.OutputFault.{told}
 use Rattle.prolly_answer.specs.Outputs.{IsSettledAs, TookAll, TookPart, WroteOwn}
 use Rattle.prolly_answer.specs.SetLines.{FitsLeft, RisesIn, alone_lines, left_at_first, left_behind}
 use Rattle.prolly_answer.specs.SetLines.{lines_at_end, lines_so_far, more_lines}
-use Rattle.prolly_answer.specs.SetProofs.{IsEndedSet, IsNoSetProof, IsStoppedSet, IsVerifiedSet}
-use Rattle.prolly_answer.specs.SetProofs.{StoppedSet, TellsProofReads, told_set}
+use Rattle.prolly_answer.specs.SetProofs.{BeginsWithChunks, IsEndedSet, IsNoSetProof, IsStoppedSet}
+use Rattle.prolly_answer.specs.SetProofs.{IsVerifiedSet, StoppedSet, TellsProofReads, told_set}
 use Rattle.prolly_answer.specs.declared.faults.fault.Fault.{Fault}
 use Rattle.prolly_answer.specs.declared.faults.fault.Fault.TheVariants.{Memory, Read, Write}
 use Rattle.prolly_answer.specs.declared.faults.output_fault.OutputFault.{OutputFault}
@@ -118,8 +118,9 @@ module _ {W : Type 0} (seen : W → SinkView) (notation : Notation) (version : V
   Stopped old new = IsStoppedSet notation version root set honest bytes
       (λ lines. TookSoFar seen lines old new) (λ lines. TookPart seen lines old new)
 
-  abbrev Refused : SetFault → Type 0
-  Refused fault = honest ≡ true → IsNoSetProof version root set bytes fault
+  abbrev Refused : List (List ℕ) → List Due → SetFault → Type 0
+  Refused chunks due fault = honest ≡ true →
+      IsNoSetProof version root set bytes chunks due fault
 
   told_none : (old : W) → TookSoFar seen (lines_so_far notation set []) old old
   told_none old = subst (λ lines. TookSoFar seen lines old old) (sym (lines_of_none notation set))
@@ -153,20 +154,25 @@ module _ {W : Type 0} (seen : W → SinkView) (notation : Notation) (version : V
     due = root_due root set ∷ [];
     lines = lines_so_far notation set [];
     taken = (refl, refl);
+    read = λ h. inl refl;
     told_are = inl refl;
     stopped = inl (fault, refl, λ h. refused fault (start h), told_none old);
   }
     where
       refused : (fault : SetFault) → IsStartFault version bytes fault →
-          IsNoSetProof version root set bytes fault
+          IsNoSetProof version root set bytes [] (root_due root set ∷ []) fault
       refused sets.Memory s = tt
       refused sets.Read s = tt
-      refused (sets.Proof fault) s = (inl s, λ ps p. not_begun version root set bytes fault ps s p)
+      refused (sets.Proof fault) s =
+          (inl (refl, s), λ ps p. not_begun version root set bytes fault ps s p)
       refused sets.Stopped s = absurd s
 
   module _ (due : List Due) (count : ℕ) (left : List ℕ) (keys : List (List ℕ)) (old mid : W)
       (r : IsReading due count left keys old mid) where
-    stopped_by : (fault : SetFault) → Refused fault → (last : W) → last ≡ mid →
+    abbrev front : honest ≡ true → BeginsWithChunks version bytes r.chunks
+    front h = record { left = left; is = r.read h }
+
+    stopped_by : (fault : SetFault) → Refused r.chunks due fault → (last : W) → last ≡ mid →
         Stopped old last (told_set fault)
     stopped_by fault refused last same = record {
       chunks = r.chunks;
@@ -174,6 +180,7 @@ module _ {W : Type 0} (seen : W → SinkView) (notation : Notation) (version : V
       due = due;
       lines = lines_so_far notation set r.pairs;
       taken = r.taken;
+      read = λ h. inr (front h);
       told_are = inl refl;
       stopped = inl (
         fault,
@@ -204,6 +211,7 @@ module _ {W : Type 0} (seen : W → SinkView) (notation : Notation) (version : V
         due = due;
         lines = lines_at_end notation set r.pairs;
         taken = r.taken;
+        read = λ h. inr (front h);
         told_are = inr (end.none, refl);
         stopped = inr (
           refl,
@@ -245,18 +253,14 @@ module _ {W : Type 0} (seen : W → SinkView) (notation : Notation) (version : V
         other fault (inr e) m n = n e
 
         refused : (fault : SetFault) → (honest ≡ true → IsNextFault version due count left fault) →
-            (honest ≡ true → IsRestOf version due left → MayFail fault) → Refused fault
+            (honest ≡ true → IsRestOf version due left → MayFail fault) →
+            Refused r.chunks due fault
         refused sets.Memory next accepts h = tt
         refused sets.Read next accepts h = tt
         refused (sets.Proof fault) next accepts h = (
           inr (record {
-            chunks = r.chunks;
-            pairs = r.pairs;
-            due = due;
-            left = left;
             small = r.small;
-            taken = r.taken;
-            is = r.read h;
+            front = front h;
             so = subst (λ n. IsNextFault version due n left (sets.Proof fault)) r.count_is (next h);
           }),
           λ ps p. other (sets.Proof fault) (accepts h (r.rest h ps p)) (λ e. cc) (λ e. cc),
@@ -277,6 +281,16 @@ module _ {W : Type 0} (seen : W → SinkView) (notation : Notation) (version : V
       some = some_of_set r.order version root set (r.chunks ++ t.chunk ∷ []) (r.pairs ++ shown) next
           r.rises taken
 
+      -- Behind the frames that were read stands that of the chunk.
+      frames : honest ≡ true → bytes ≡ set_file version (r.chunks ++ t.chunk ∷ []) ++ after
+      frames h = r.read h ∙ ap (λ x. set_file version r.chunks ++ x) (t.read h) ∙
+          sym (append_assoc (set_file version r.chunks) (framed t.chunk) after) ∙
+          ap (λ x. x ++ after)
+          (append_assoc (set_start version) (flat_map framed r.chunks) (framed t.chunk) ∙
+          ap (λ x. set_start version ++ x)
+          (ap (λ x. flat_map framed r.chunks ++ x) (sym (append-nil (framed t.chunk))) ∙
+          sym (flat_map-append framed r.chunks (t.chunk ∷ []))))
+
       text : lines_so_far notation set (r.pairs ++ shown) ≡ lines_so_far notation set r.pairs ++ own
       text = lines_more notation set r.pairs shown keys r.rises some r.keys_are
 
@@ -296,6 +310,7 @@ module _ {W : Type 0} (seen : W → SinkView) (notation : Notation) (version : V
           due = next;
           lines = lines_so_far notation set (r.pairs ++ shown);
           taken = taken;
+          read = λ h. inr (record { left = after; is = frames h });
           told_are = inl refl;
           stopped = inr (
             refl,
@@ -321,22 +336,12 @@ module _ {W : Type 0} (seen : W → SinkView) (notation : Notation) (version : V
           keys_are = subst (IsLeft set (r.pairs ++ shown)) (sym behind)
               (left_goes_on set r.pairs shown keys r.keys_are);
           count_is = omega (arith, one, r.count_is, length-append r.chunks (t.chunk ∷ []));
-          read = λ h. r.read h ∙ ap (λ x. set_file version r.chunks ++ x) (t.read h) ∙
-              sym (append_assoc (set_file version r.chunks) (framed t.chunk) after) ∙
-              file_more after;
+          read = frames;
           rest = λ h ps p. rest_behind version due t.chunk shown next left after t.takes t.small
               (t.read h) (r.rest h ps p);
           took = subst (λ lines. TookSoFar seen lines old new) (sym text)
               (took_more seen (lines_so_far notation set r.pairs) old mid r.took x own new w);
         }
-          where
-            file_more : (after : List ℕ) → (set_file version r.chunks ++ framed t.chunk) ++ after ≡
-                set_file version (r.chunks ++ t.chunk ∷ []) ++ after
-            file_more after = ap (λ x. x ++ after)
-                (append_assoc (set_start version) (flat_map framed r.chunks) (framed t.chunk) ∙
-                ap (λ x. set_start version ++ x)
-                (ap (λ x. flat_map framed r.chunks ++ x) (sym (append-nil (framed t.chunk))) ∙
-                sym (flat_map-append framed r.chunks (t.chunk ∷ []))))
 
 -- ---- the end
 
@@ -351,7 +356,7 @@ module _ {W : Type 0} (seen : W → SinkView) (notation : Notation) (version : V
       (λ lines. TookPart seen lines old new)
 
   ended_by : (fault shown : Fault) (s : Before (Err fault)) → StoppedSet
-      (λ of_proof. honest ≡ true → IsNoSetProof version root set bytes of_proof)
+      (λ of_proof. honest ≡ true → IsNoSetProof version root set bytes s.chunks s.due of_proof)
       (λ lines. TookAll seen lines old new) (λ lines. TookPart seen lines old new) s.lines shown →
       After (Err shown)
   ended_by fault shown s stopped = record {
@@ -360,6 +365,7 @@ module _ {W : Type 0} (seen : W → SinkView) (notation : Notation) (version : V
     due = s.due;
     lines = s.lines;
     taken = s.taken;
+    read = s.read;
     told_are = s.told_are;
     stopped = stopped;
   }
@@ -403,6 +409,10 @@ module _ {W : Type 0} (seen : W → SinkView) (notation : Notation) (version : V
       due = [];
       lines = lines_at_end notation set d.pairs;
       taken = d.proves.taken;
+      read = λ h. inr (record {
+        left = [];
+        is = d.read h ∙ d.proves.is ∙ sym (append-nil (set_file version d.proves.chunks));
+      });
       told_are = inr (refl, refl);
       stopped = inr (
         refl,

@@ -1,13 +1,14 @@
 -- Lines whose records are put in order, one after another.
-use Rattle.std.proofs.Common.{◌≡◌, ◌≢◌, ◌∙◌, ◌+◌, ◌-◌, ◌^◌, ◌≤◌, ℕ, Bool, true, false, cond, List, []}
-use Rattle.std.proofs.Common.{◌∷◌, ◌++◌, ◌==◌, length, length-append, refl, ap, arith}
+use Rattle.std.proofs.Common.{◌≡◌, ◌≢◌, ◌∙◌, ◌+◌, ◌-◌, ◌^◌, ◌<◌, ◌≤◌, ℕ, Bool, true, false, cond}
+use Rattle.std.proofs.Common.{List, [], ◌∷◌, ◌++◌, ◌==◌, length, length-append, refl, sym, ap}
+use Rattle.std.proofs.Common.{arith}
 use Rattle.prolly_entry.specs.Record.{Record}
 use Rattle.prolly_text.specs.Lines.{lines_of}
 use Rattle.prolly_text.specs.RecordLines.{HaveComeOf, IsReadLinesFault}
 use Rattle.prolly_text.specs.declared.lines.form.LineForm.{LineForm}
 use Rattle.prolly_text.specs.declared.lines.reader.ReadLinesFault.{ReadLinesFault}
 use Rattle.prolly_text.specs.declared.lines.reader.ReadLinesFault.TheVariants as faults
-use Rattle.prolly_text.specs.lemmas.RecordLines.{line_is_first_wrong}
+use Rattle.prolly_text.specs.lemmas.RecordLines.{line_is_first_wrong, number_come}
 use Rattle.prolly_tree.specs.Split.{in_front}
 use Rattle.prolly_sort.specs.Run.{AreDoubled}
 use Rattle.prolly_sort.specs.declared.fault.SorterFault.{SorterFault}
@@ -32,6 +33,17 @@ over_most : (all done rest number : ℕ) → all ≡ done + rest → 1 ≤ rest 
     number ≡ 2 ^ 64 - 1 → 2 ^ 64 ≤ all
 over_most all done rest number a r n m = omega arith
 
+at_most : (number : ℕ) → number ≡ 2 ^ 64 - 1 → 0 < number
+at_most number m = omega arith
+
+-- Where two of the records have one key, some lines have come.
+some_come : (form : LineForm) (text rest : List ℕ) (records : List Record) (number : ℕ)
+    (first second : ℕ) → HaveComeOf form text rest records number →
+    AreDoubled records first second → 0 < number
+some_come form text rest records number first second h d =
+    let come = number_come form text rest records number h in
+    let within = d.within in omega arith
+
 -- The fault of the next line is one of the text, where no read failed but for a read that is told.
 pub fault_of_text : (form : LineForm) (text rest : List ℕ) (records : List Record) (number : ℕ)
     (fault : ReadLinesFault) (unique : Bool) (has_failed : Type 0) (keeps : Bool) →
@@ -47,6 +59,7 @@ fault_of_text form text rest records number (faults.Line fault) unique has_faile
 fault_of_text form text rest records number (faults.LineTooLong line) unique has_failed keeps h k read unread = (
   unread (λ e. cc),
   record {
+    unmarked = λ some mark. h.unmarked (rw (sym k.0) some) mark;
     before = h.done;
     line = k.1.line;
     after = k.1.after;
@@ -63,6 +76,7 @@ fault_of_text form text rest records number faults.TooManyLines unique has_faile
       unread (λ e. cc),
       over_most (length (lines_of text)) (length h.done) (length (lines_of rest)) number all some
           h.number_is k.0,
+      λ mark. h.unmarked (at_most number k.0) mark,
     )
 
 -- The fault of a sorter to which the records of the first lines came is one of the text, where no
@@ -81,6 +95,8 @@ fault_of_sorter form text rest records number (sorters.Doubled first second) uni
       unfailed,
       two.0,
       λ kept. record {
+        unmarked = λ mark. h.unmarked
+            (some_come form text rest records number first second h (two.1 kept)) mark;
         before = h.done;
         after = lines_of rest;
         whole = h.whole;

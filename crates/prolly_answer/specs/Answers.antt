@@ -1,5 +1,5 @@
 -- What the program prints.
-use Rattle.std.specs.Prelude.{◌≡◌, ℕ, Bool, true, false, List, [], ◌∷◌, ◌++◌, codes}
+use Rattle.std.specs.Prelude.{◌≡◌, ℕ, zero, suc, Bool, true, false, List, [], ◌∷◌, ◌++◌, codes}
 use Rattle.prolly_text.specs.Names.{shown_name}
 use Rattle.prolly_answer.specs.declared.answers.answer.Answer.{Answer}
 use Rattle.prolly_answer.specs.declared.faults.fault.Fault.{Fault}
@@ -45,3 +45,10 @@ ShowsFileLine false answer text name = ShowsLine answer (text ++ codes "  " ++ s
 abbrev pub ShowsFileFault : Answer → Fault → List ℕ → Type 0
 ShowsFileFault answer fault name = Shows answer (fault_status fault) []
     (fault_line (shown_name name ++ codes ": " ++ fault_text fault))
+
+-- Of several files: the first of these statuses that is not 0, which is that of the first refusal;
+-- or 0, where each of them is.
+abbrev pub first_refusal : List ℕ → ℕ
+first_refusal [] = 0
+first_refusal (zero ∷ statuses) = first_refusal statuses
+first_refusal (suc n ∷ statuses) = suc n

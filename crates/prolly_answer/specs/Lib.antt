@@ -42,6 +42,8 @@ pub mod SetProofs
 pub mod RootDiffs
 -- What comes of a command that goes over the pairs of a tree of which only the root is known.
 pub mod RootOutcomes
+-- What `get` and `nth` answer to who names the root.
+pub mod RootLookUps
 -- What `scan` answers to who names the root.
 pub mod RootScans
 -- What `dump` answers to who names the root.

@@ -123,28 +123,32 @@ IsProveSetByRoot may version root set d answer =
 
 -- ---- proofs that are verified
 
--- Chunks of a proof were taken, and what is behind them is at fault. (The number of a chunk is told
--- as the greatest number of 64 bits where it is greater.)
-pub record IsFaultBehind (version : Version) (root : List ℕ) (set : KeySet) (bytes : List ℕ)
-    (fault : ProofFault) : Type 0 where
-  pub chunks : List (List ℕ)
-  pub pairs : List Pair
-  pub due : List Due
-  pub left : List ℕ
+-- The bytes begin with the start of a proof, and the frames of these chunks.
+pub record BeginsWithChunks (version : Version) (bytes : List ℕ) (chunks : List (List ℕ)) : Type 0
+  where
+    pub left : List ℕ
+    pub is : bytes ≡ set_file version chunks ++ left
+
+-- So they begin, so much is due behind the chunks, and what stands there is at fault. (The number
+-- of a chunk is told as the greatest number of 64 bits where it is greater.)
+pub record IsFaultBehind (version : Version) (bytes : List ℕ) (chunks : List (List ℕ))
+    (due : List Due) (fault : ProofFault) : Type 0 where
   pub small : AllByRecursion IsSmall chunks
-  pub taken : AreTaken version (root_due root set ∷ []) chunks pairs due
-  pub is : bytes ≡ set_file version chunks ++ left
-  pub so : IsProofFault version due (min greatest_count (length chunks)) left fault
+  pub front : BeginsWithChunks version bytes chunks
+  pub so : IsProofFault version due (min greatest_count (length chunks)) front.left fault
 
 -- The bytes are no proof of what the tree with this root has at the keys of the set, for this first
--- fault; or memory was refused, or a read failed.
-abbrev pub IsNoSetProof : Version → List ℕ → KeySet → List ℕ → SetFault → Type 0
-IsNoSetProof version root set bytes sets.Memory = Unit {0}
-IsNoSetProof version root set bytes sets.Read = Unit {0}
-IsNoSetProof version root set bytes (sets.Proof fault) =
-    (IsSetStartFault version bytes fault ⊎ IsFaultBehind version root set bytes fault)
+-- fault: they do not begin as a proof, and no chunk was taken; or the fault stands behind these
+-- chunks, where so much is due. Or memory was refused, or a read failed.
+abbrev pub IsNoSetProof : Version → List ℕ → KeySet → List ℕ → List (List ℕ) → List Due →
+    SetFault → Type 0
+IsNoSetProof version root set bytes chunks due sets.Memory = Unit {0}
+IsNoSetProof version root set bytes chunks due sets.Read = Unit {0}
+IsNoSetProof version root set bytes chunks due (sets.Proof fault) =
+    (((chunks ≡ []) × IsSetStartFault version bytes fault)
+    ⊎ IsFaultBehind version bytes chunks due fault)
     × ((pairs : List Pair) → IsSetProof version root set bytes pairs → ⊥)
-IsNoSetProof version root set bytes sets.Stopped = ⊥
+IsNoSetProof version root set bytes chunks due sets.Stopped = ⊥
 
 -- A proof was read whole, which is all that an honest source had, and the lines of what it shows were
 -- written. Of the sink, `took_all` says that it took all of these bytes.
@@ -169,8 +173,8 @@ StoppedSet refused took_all took_part lines fault =
     ((of_proof : SetFault) × (fault ≡ told_set of_proof) × refused of_proof × took_all lines)
     ⊎ ((fault ≡ Write) × took_part lines)
 
--- Chunks of a proof were taken, which show pairs, and then this fault stopped it; of the lines that
--- are told of these all were written, or a part.
+-- Chunks of a proof were taken, with which the bytes of an honest source begin. They show pairs,
+-- and then this fault stopped it; of the lines that are told of these all were written, or a part.
 pub record IsStoppedSet (notation : Notation) (version : Version) (root : List ℕ) (set : KeySet)
     (is_honest : Bool) (bytes : List ℕ) (took_all took_part : List ℕ → Type 0) (fault : Fault)
     : Type 0 where
@@ -179,10 +183,11 @@ pub record IsStoppedSet (notation : Notation) (version : Version) (root : List �
   pub due : List Due
   pub lines : List ℕ
   pub taken : AreTaken version (root_due root set ∷ []) chunks pairs due
+  pub read : is_honest ≡ true → (chunks ≡ []) ⊎ BeginsWithChunks version bytes chunks
   pub told_are : AreTold notation set pairs due lines
   pub stopped : StoppedSet
-      (λ of_proof. is_honest ≡ true → IsNoSetProof version root set bytes of_proof) took_all
-      took_part lines fault
+      (λ of_proof. is_honest ≡ true → IsNoSetProof version root set bytes chunks due of_proof)
+      took_all took_part lines fault
 
 -- So it ends: it was all written, or this fault stopped it.
 abbrev pub IsEndedSet : Notation → Version → List ℕ → KeySet → Bool → List ℕ → (List ℕ → Type 0) →

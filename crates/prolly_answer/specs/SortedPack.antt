@@ -10,7 +10,7 @@ use Rattle.prolly_sort.specs.Overlaid.{overlaid, written}
 use Rattle.prolly_sort.specs.Run.{AreDoubled}
 use Rattle.prolly_sort.specs.Shelf.{CameTo, counted}
 use Rattle.prolly_sort.specs.declared.sorter.Sorter.{Sorter}
-use Rattle.prolly_text.specs.Lines.{lines_of}
+use Rattle.prolly_text.specs.Lines.{IsMarked, lines_of}
 use Rattle.prolly_text.specs.RecordLines.{HaveComeOf, LinesInHand}
 use Rattle.prolly_text.specs.PackedLines.{AreRecordsOf, IsLinesFault, StandsFor}
 use Rattle.prolly_text.specs.declared.lines.buffer.TheConstants.{LINE_LIMIT}
@@ -23,8 +23,10 @@ use Rattle.prolly_answer.specs.declared.faults.fault.Fault.TheVariants.{LineTooL
 use Rattle.prolly_answer.specs.declared.faults.fault.Fault.TheVariants.{DoubledKey}
 
 -- The line of this number is longer than any that stands for a record, and each line before it
--- stands for one.
+-- stands for one. If there are such lines, the text begins with no byte order mark. (A first line
+-- that is too long is not looked at.)
 pub record IsTooLongAt (form : LineForm) (text : List ℕ) (number : ℕ) : Type 0 where
+  pub unmarked : 0 < number → IsMarked form.notation text → ⊥
   pub before : List (List ℕ)
   pub line : List ℕ
   pub after : List (List ℕ)
@@ -34,9 +36,10 @@ pub record IsTooLongAt (form : LineForm) (text : List ℕ) (number : ℕ) : Type
   pub stand : AllZip (StandsFor form) before records
   pub over : LINE_LIMIT < length line
 
--- The lines of these two numbers stand for records with one key, and each line up to them stands for
--- a record.
+-- The text begins with no byte order mark. The lines of these two numbers stand for records with
+-- one key, and each line up to them stands for a record.
 pub record AreDoubledLines (form : LineForm) (text : List ℕ) (first second : ℕ) : Type 0 where
+  pub unmarked : IsMarked form.notation text → ⊥
   pub before : List (List ℕ)
   pub after : List (List ℕ)
   pub whole : lines_of text ≡ before ++ after
@@ -45,9 +48,9 @@ pub record AreDoubledLines (form : LineForm) (text : List ℕ) (first second : �
   pub doubled : AreDoubled records first second
 
 -- The lines of a text are not put in order: a read failed; or none did, and the first line that
--- stands for no record is told, or there are more lines than can be numbered, or keys are to be
--- unique and two lines have one key, or a run can't wait or be merged, or memory was refused. Which
--- lines have one key is right if the store keeps what is written.
+-- stands for no record is told, or there are more lines than can be numbered and no byte order
+-- mark, or keys are to be unique and two lines have one key, or a run can't wait or be merged, or
+-- memory was refused. Which lines have one key is right if the store keeps what is written.
 abbrev pub IsSortingFault : LineForm → Bool → List ℕ → Type 0 → Bool → Fault → Type 0
 IsSortingFault form unique text has_failed keeps Read = has_failed
 IsSortingFault form unique text has_failed keeps Memory = ¬ has_failed
@@ -56,7 +59,7 @@ IsSortingFault form unique text has_failed keeps (Pack fault) =
 IsSortingFault form unique text has_failed keeps (LineTooLong line) =
     ¬ has_failed × IsTooLongAt form text line
 IsSortingFault form unique text has_failed keeps TooManyLines =
-    ¬ has_failed × (2 ^ 64 ≤ length (lines_of text))
+    ¬ has_failed × (2 ^ 64 ≤ length (lines_of text)) × (IsMarked form.notation text → ⊥)
 IsSortingFault form unique text has_failed keeps (DoubledKey first second) =
     ¬ has_failed × (unique ≡ true) × (keeps ≡ true → AreDoubledLines form text first second)
 IsSortingFault form unique text has_failed keeps (Store fault) = ¬ has_failed

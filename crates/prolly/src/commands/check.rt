@@ -9,7 +9,7 @@ use crate::known_root::KnownRoot;
 use crate::refusal::{Refusal, told};
 use crate::sinks::print;
 use crate::streams::Stream;
-use prolly_answer::{Answer, Fault, answer_check_by, answer_check_by_root};
+use prolly_answer::{Answer, Fault, answer_check_by, answer_check_by_root, status_behind};
 use prolly_line::Command;
 use std::thread::Threads;
 
@@ -92,9 +92,7 @@ fn check_files<T: Threads + Sync>(
         if print(rt, &answer).is_err() {
             return Err(Refusal::of_fault(rt, Fault::Write));
         }
-        if status == 0 {
-            status = answer.status;
-        }
+        status = status_behind(status, &answer);
     }
     Ok(Answer {
         status,

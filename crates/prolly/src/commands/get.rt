@@ -5,7 +5,6 @@ ghost use Rattle.prolly.specs.Kinds.{IsGet};
 use crate::commands::version_of;
 use crate::found::Found;
 use crate::host::Host;
-use crate::inputs::Chunks;
 use crate::known_root::KnownRoot;
 use crate::listed_keys::ListedKeys;
 use crate::named_tree::{NamedTree, OpenTree};
@@ -13,12 +12,10 @@ use crate::refusal::Refusal;
 use crate::sinks::stdout_sink;
 use crate::streams::Stream;
 use prolly_answer::{
-    Answer, Notation, answer_found, answer_found_raw, answer_get_in, answer_get_keys,
-    answer_get_keys_by_root, answer_get_raw,
+    Answer, Notation, answer_get_by_root, answer_get_in, answer_get_keys, answer_get_keys_by_root,
+    answer_get_raw, answer_get_raw_by_root,
 };
 use prolly_line::Command;
-use prolly_root::{Reader, RootFault};
-use std::alloc::Global;
 use std::thread::Threads;
 
 /// The answer of a `get`.
@@ -71,26 +68,15 @@ fn get<T: Threads + Sync>(
             }
         }
         OpenTree::Rooted(mut chunks, known) => {
-            let found = value_in(alloc, &mut chunks, &known, key);
+            let (chunks, KnownRoot { version, root }) = (&mut chunks, known);
             if raw {
-                answer_found_raw(alloc, &found)
+                answer_get_raw_by_root(alloc, chunks, version, &root, key)
             } else {
-                answer_found(alloc, notation, &found)
+                answer_get_by_root(alloc, chunks, version, &root, key, notation)
             }
         }
     };
     Ok(answer?)
-}
-
-/// The value of the key in the tree of this root, or none.
-fn value_in(
-    alloc: Global,
-    chunks: &mut Chunks,
-    known: &KnownRoot,
-    key: &[u8],
-) -> Result<Option<Vec<u8>>, RootFault> {
-    let mut reader = Reader::open(alloc, chunks, known.version, &known.root)?;
-    reader.get(alloc, chunks, key)
 }
 
 /// `get [--text] [--root ROOT] [--format V] --keys KEYS FILE`, which prints a line for each key.

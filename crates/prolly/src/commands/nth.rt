@@ -5,14 +5,12 @@ ghost use Rattle.prolly.specs.Kinds.{IsNth};
 use crate::commands::version_of;
 use crate::found::Found;
 use crate::host::Host;
-use crate::inputs::Chunks;
+use crate::known_root::KnownRoot;
 use crate::named_tree::{NamedTree, OpenTree};
 use crate::refusal::Refusal;
-use prolly_answer::{Answer, Fault, answer_found_pair, answer_nth_in};
-use prolly_entry::{Pair, Ref, Version};
+use prolly_answer::{Answer, Fault, answer_nth_by_root, answer_nth_in};
+use prolly_entry::Version;
 use prolly_line::Command;
-use prolly_root::{Reader, RootFault};
-use std::alloc::Global;
 use std::thread::Threads;
 
 /// `nth [--text] [--root ROOT] [--format V] FILE N`. Chunks of version One have no counts to go by.
@@ -41,20 +39,9 @@ pub fn answer<T: Threads + Sync>(host: &Host<'_, T>, command: Command) -> Result
             answer_nth_in(&host.hasher(), alloc, &mut source, n, notation)
         }
         OpenTree::Rooted(mut chunks, known) => {
-            let found = pair_in(alloc, &mut chunks, &known.root, n);
-            answer_found_pair(alloc, notation, &found)
+            let (chunks, KnownRoot { version, root }) = (&mut chunks, known);
+            answer_nth_by_root(alloc, chunks, version, &root, n, notation)
         }
     };
     Ok(answer?)
-}
-
-/// The pair of the number in the tree of this root, whose chunks are of version Two, or none.
-fn pair_in(
-    alloc: Global,
-    chunks: &mut Chunks,
-    root: &Ref,
-    n: u64,
-) -> Result<Option<Pair>, RootFault> {
-    let mut reader = Reader::open(alloc, chunks, Version::Two, root)?;
-    reader.nth(alloc, chunks, n)
 }

@@ -1,7 +1,7 @@
 //! The command `check`: whether a file is a lawful chunk file.
-ghost use Rattle.std.specs.Prelude.{◌≡◌, ◌≢◌, true, IfOk};
+ghost use Rattle.std.specs.Prelude.{◌≡◌, ◌≢◌, ◌∷◌, ◌++◌, [], ℕ, List, true, IfOk};
 ghost use Rattle.prolly_look_up.specs.Content.{Content, IsFileOf};
-ghost use Rattle.prolly_answer.specs.Answers.{ShowsFault};
+ghost use Rattle.prolly_answer.specs.Answers.{ShowsFault, first_refusal};
 ghost use Rattle.prolly_answer.specs.LookUps.{AnswersFailedRead, AnswersLookUp, IsCheckByRoot};
 ghost use Rattle.prolly_answer.specs.LookUps.{ShowsCheck, check_text, ok_text};
 
@@ -72,6 +72,15 @@ pub fn answer_check_by_root<H: ChunkHasher, S: Source>(
     };
     let line = text_of(alloc, root, report.bits, report.chunks)?;
     Answer::of_line(alloc, &line)
+}
+
+/// The status of a `check` of several files, of which one more was answered: that of the first
+/// refusal. `status` is that of the files before, and 0 where there are none.
+pub fn status_behind(status: u8, answer: &Answer) -> u8
+    ensures { (before : List ℕ) → status ≡ first_refusal before →
+        result ≡ first_refusal (before ++ answer.now.status ∷ []) }
+{
+    if status == 0 { answer.status } else { status }
 }
 
 fn line_of(alloc: Global, tree: &Tree) -> Result<Vec<u8>, AllocError>

@@ -1,14 +1,20 @@
 //! What `get` answers, of a checked file and by the root.
+ghost use Rattle.std.specs.Prelude.{option_map, IfErr, IfOk};
+ghost use Rattle.prolly_look_up.specs.Way.{IsWay};
+ghost use Rattle.prolly_root.specs.RootFault.{TellsReads};
 ghost use Rattle.prolly_text.specs.declared.notation.Notation.TheVariants.{Hex};
-ghost use Rattle.prolly_answer.specs.LookUps.{AnswersFailedRead, AnswersLookUp, ShowsGet, ShowsFound};
-ghost use Rattle.std.specs.Prelude.{IfOk};
+ghost use Rattle.prolly_answer.specs.LookUps.{AnswersFailedRead, AnswersLookUp, ShowsFound};
+ghost use Rattle.prolly_answer.specs.LookUps.{ShowsGet, ShowsValue};
+ghost use Rattle.prolly_answer.specs.RootLookUps.{IsFoundByRoot, IsLookUpByRoot};
+ghost use Rattle.prolly_answer.specs.RootOutcomes.{RefusesNone};
 
 use crate::answers::answer::Answer;
 use crate::faults::Fault;
 use crate::input::INPUT_LIMIT;
 use prolly_check::{ChunkHasher, OneThread, check_by};
+use prolly_entry::{Ref, Version};
 use prolly_io::Source;
-use prolly_root::RootFault;
+use prolly_root::{ChunkSource, Reader, RootFault};
 use prolly_text::Notation;
 use std::alloc::{AllocError, Global};
 
@@ -47,9 +53,48 @@ pub fn answer_get<S: Source>(
     answer_get_in(&OneThread, alloc, source, key, Notation::Hex)
 }
 
-/// What `get` answers to who names the root: the value that was found, in this notation; nothing,
-/// with status 1, where it was found that there is none; or the line of the fault for which nothing
-/// was found out. An `Err` is want of memory for that text.
+/// What `get` answers to who names the root: the value of the key in this notation; nothing, with
+/// status 1, where the tree with this root has no such key; or the line of the fault for which
+/// nothing was found out. An `Err` is want of memory for that text.
+///
+/// Of the source only the chunks on the way to the key are read, each compared with the reference
+/// above it, and memory is taken for these and for the value. What a value or none says of a map
+/// with the root is said by [`ways_are_right`](prolly_look_up::laws::ways_are_right).
+pub fn answer_get_by_root<S: ChunkSource>(
+    alloc: Global,
+    source: &mut S,
+    version: Version,
+    root: &Ref,
+    key: &[u8],
+    notation: Notation,
+) -> Result<Answer, AllocError>
+    ensures { IfOk result (IsLookUpByRoot (IsWay version root.now.0 key.now) (ShowsValue notation)
+        (RefusesNone (S.has source.old) version root.now.0)
+        (TellsReads (S.failures source.old) (S.failures source.new))) }
+{
+    let found = value_in(alloc, source, version, root, key);
+    answer_found(alloc, notation, &found)
+}
+
+/// The value that the source's tree with this root has at the key, or none.
+pub(crate) fn value_in<S: ChunkSource>(
+    alloc: Global,
+    source: &mut S,
+    version: Version,
+    root: &Ref,
+    key: &[u8],
+) -> Result<Option<Vec<u8>>, RootFault>
+    ensures found { IfOk result (λ value. IsFoundByRoot (IsWay version root.now.0 key.now)
+        (option_map (λ v. v.items) value)) }
+    ensures lawful { IfErr result (RefusesNone (S.has source.old) version root.now.0) }
+    ensures reads { TellsReads (S.failures source.old) (S.failures source.new) result }
+{
+    let mut reader = Reader::open(alloc, source, version, root)?;
+    reader.get(alloc, source, key)
+}
+
+/// The answer of a look-up by the root that came to this: see [`answer_get_by_root`]. An `Err` is
+/// want of memory for the answer's own text.
 ///
 /// What a value or none says of the map with the root is said where the look-up is made: see
 /// [`Reader::get`](prolly_root::Reader::get).

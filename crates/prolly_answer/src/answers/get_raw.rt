@@ -1,14 +1,20 @@
 //! What `get --raw` answers, of a checked file and by the root.
-ghost use Rattle.prolly_answer.specs.LookUps.{AnswersFailedRead, AnswersLookUp, ShowsFoundRaw};
-ghost use Rattle.prolly_answer.specs.LookUps.{ShowsGetRaw};
 ghost use Rattle.std.specs.Prelude.{IfOk};
+ghost use Rattle.prolly_look_up.specs.Way.{IsWay};
+ghost use Rattle.prolly_root.specs.RootFault.{TellsReads};
+ghost use Rattle.prolly_answer.specs.LookUps.{AnswersFailedRead, AnswersLookUp, ShowsFoundRaw};
+ghost use Rattle.prolly_answer.specs.LookUps.{ShowsGetRaw, ShowsRaw};
+ghost use Rattle.prolly_answer.specs.RootLookUps.{IsLookUpByRoot};
+ghost use Rattle.prolly_answer.specs.RootOutcomes.{RefusesNone};
 
 use crate::answers::answer::Answer;
+use crate::answers::get::value_in;
 use crate::faults::Fault;
 use crate::input::INPUT_LIMIT;
 use prolly_check::{ChunkHasher, check_by};
+use prolly_entry::{Ref, Version};
 use prolly_io::Source;
-use prolly_root::RootFault;
+use prolly_root::{ChunkSource, RootFault};
 use std::alloc::{AllocError, Global};
 
 /// What `get --raw` answers: the value's bytes and nothing else. All else is as of [`answer_get_in`](crate::answer_get_in).
@@ -29,8 +35,25 @@ pub fn answer_get_raw<H: ChunkHasher, S: Source>(
     Answer::of_raw(alloc, tree.get(key))
 }
 
-/// What `get --raw` answers to who names the root: the bytes of the value that was found and nothing
-/// else. All else is as of [`answer_found`](crate::answer_found).
+/// What `get --raw` answers to who names the root: the value's bytes and nothing else. All else is
+/// as of [`answer_get_by_root`](crate::answer_get_by_root).
+pub fn answer_get_raw_by_root<S: ChunkSource>(
+    alloc: Global,
+    source: &mut S,
+    version: Version,
+    root: &Ref,
+    key: &[u8],
+) -> Result<Answer, AllocError>
+    ensures { IfOk result (IsLookUpByRoot (IsWay version root.now.0 key.now) ShowsRaw
+        (RefusesNone (S.has source.old) version root.now.0)
+        (TellsReads (S.failures source.old) (S.failures source.new))) }
+{
+    let found = value_in(alloc, source, version, root, key);
+    answer_found_raw(alloc, &found)
+}
+
+/// The answer of a look-up by the root that came to this: see [`answer_get_raw_by_root`]. All else
+/// is as of [`answer_found`](crate::answer_found).
 pub fn answer_found_raw(
     alloc: Global,
     found: &Result<Option<Vec<u8>>, RootFault>,

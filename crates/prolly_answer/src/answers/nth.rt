@@ -1,20 +1,24 @@
 //! What `nth` answers, of a checked file and by the root.
-ghost use Rattle.std.specs.Prelude.{◌≡◌, ◌↔◌, ℕ, List, IfOk, IsErr};
+ghost use Rattle.std.specs.Prelude.{◌≡◌, ◌↔◌, ℕ, List, IfErr, IfOk, IsErr};
 ghost use Rattle.prolly_look_up.specs.Content.{Content, IsFileOf};
 ghost use Rattle.prolly_look_up.specs.FoundPairs.{pair_found};
-ghost use Rattle.prolly_entry.specs.declared.version.Version.TheVariants.{One};
+ghost use Rattle.prolly_look_up.specs.Way.{IsCountWay};
+ghost use Rattle.prolly_entry.specs.declared.version.Version.TheVariants.{One, Two};
+ghost use Rattle.prolly_root.specs.RootFault.{TellsReads};
 ghost use Rattle.prolly_text.specs.declared.notation.Notation.TheVariants.{Hex};
 ghost use Rattle.prolly_tree.specs.LookUp.{nth};
 ghost use Rattle.prolly_answer.specs.LookUps.{AnswersFailedRead, AnswersLookUp, ShowsPlace};
 ghost use Rattle.prolly_answer.specs.LookUps.{ShowsFoundPair, ShowsPair};
+ghost use Rattle.prolly_answer.specs.RootLookUps.{IsFoundByRoot, IsNthByRoot};
+ghost use Rattle.prolly_answer.specs.RootOutcomes.{RefusesNone};
 
 use crate::answers::answer::Answer;
 use crate::faults::Fault;
 use crate::input::INPUT_LIMIT;
 use prolly_check::{ChunkHasher, NoCounts, OneThread, check_by};
-use prolly_entry::Pair;
+use prolly_entry::{Pair, Ref, Version};
 use prolly_io::Source;
-use prolly_root::RootFault;
+use prolly_root::{ChunkSource, Reader, RootFault};
 use prolly_text::Notation;
 use std::alloc::{AllocError, Global};
 
@@ -73,9 +77,54 @@ pub fn answer_nth<S: Source>(alloc: Global, source: &mut S, n: u64) -> Result<An
     answer_nth_in(&OneThread, alloc, source, n, Notation::Hex)
 }
 
-/// What `nth` answers to who names the root: the pair that was found, as key and value in this
-/// notation; nothing, with status 1, where it was found that there is none; or the line of the
-/// fault for which nothing was found out. An `Err` is want of memory for that text.
+/// What `nth` answers to who names the root: the pair of this number, counted from 0 in the order
+/// of keys, as key and value in this notation; nothing, with status 1, where the tree with this
+/// root has none; or the line of the fault for which nothing was found out. Chunks of version One
+/// have no counts, and of such a tree nothing is read. An `Err` is want of memory for that text.
+///
+/// Of the source only the chunks on the way to the pair are read, each compared with the reference
+/// above it, and memory is taken for these and for the pair. What a pair or none says of a map with
+/// the root is said by [`ways_are_right`](prolly_look_up::laws::ways_are_right).
+pub fn answer_nth_by_root<S: ChunkSource>(
+    alloc: Global,
+    source: &mut S,
+    version: Version,
+    root: &Ref,
+    n: u64,
+    notation: Notation,
+) -> Result<Answer, AllocError>
+    ensures shown { IfOk result (IsNthByRoot version root.now.0 n notation
+        (RefusesNone (S.has source.old) version root.now.0)
+        (TellsReads (S.failures source.old) (S.failures source.new))) }
+    ensures unread { version ≡ One → source.new ≡ source.old }
+{
+    match version {
+        Version::One => Answer::of_fault(alloc, Fault::NoCounts),
+        Version::Two => {
+            let found = pair_in(alloc, source, root, n);
+            answer_found_pair(alloc, notation, &found)
+        }
+    }
+}
+
+/// The pair of this number that the source's tree with this root has, or none. Its chunks are of
+/// version Two.
+fn pair_in<S: ChunkSource>(
+    alloc: Global,
+    source: &mut S,
+    root: &Ref,
+    n: u64,
+) -> Result<Option<Pair>, RootFault>
+    ensures found { IfOk result (IsFoundByRoot (IsCountWay root.now.0 n)) }
+    ensures lawful { IfErr result (RefusesNone (S.has source.old) Two root.now.0) }
+    ensures reads { TellsReads (S.failures source.old) (S.failures source.new) result }
+{
+    let mut reader = Reader::open(alloc, source, Version::Two, root)?;
+    reader.nth(alloc, source, n)
+}
+
+/// The answer of a look-up by a number that came to this: see [`answer_nth_by_root`]. An `Err` is
+/// want of memory for the answer's own text.
 ///
 /// What a pair or none says of the map with the root is said where the look-up is made: see
 /// [`Reader::nth`](prolly_root::Reader::nth).

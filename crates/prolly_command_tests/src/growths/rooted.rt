@@ -5,8 +5,9 @@ use crate::expect::expect_bytes;
 use crate::tools::look_up_answers::file_of_three;
 use prolly_answer::{
     Notation, RecordForm, RootDiff, RootScan, answer_check_by_root, answer_diff_by_root,
-    answer_dump_by_root, answer_found, answer_found_pair, answer_found_raw, answer_prove_by_root,
-    answer_root, answer_scan_by_root,
+    answer_dump_by_root, answer_found, answer_found_pair, answer_found_raw, answer_get_by_root,
+    answer_get_raw_by_root, answer_nth_by_root, answer_prove_by_root, answer_root,
+    answer_scan_by_root,
 };
 use prolly_check::OneThread;
 use prolly_entry::{Pair, Ref, Version};
@@ -60,6 +61,11 @@ fn what_is_found_is_shown_or_wants_memory(rt: HostRuntime) -> Result<(), Fail> {
     let value = answer_found(alloc, Notation::Hex, &found);
     expect_shown(&rt, value, 0, b"31\n");
     expect_shown(&rt, answer_found_raw(alloc, &found), 0, b"1");
+    let (version, root) = (Version::One, root_of_one());
+    let value = answer_get_by_root(alloc, &mut chunks, version, &root, b"a", Notation::Hex);
+    expect_shown(&rt, value, 0, b"31\n");
+    let value = answer_get_raw_by_root(alloc, &mut chunks, version, &root, b"a");
+    expect_shown(&rt, value, 0, b"1");
     Ok(())
 }
 
@@ -73,6 +79,8 @@ fn what_has_a_number_is_shown_or_wants_memory(rt: HostRuntime) -> Result<(), Fai
     let mut chunks = chunks_of(file_of_three(alloc, Version::Two)?);
     let found = third_pair(alloc, &mut chunks, &root);
     let pair = answer_found_pair(alloc, Notation::Hex, &found);
+    expect_shown(&rt, pair, 0, b"63 31\n");
+    let pair = answer_nth_by_root(alloc, &mut chunks, Version::Two, &root, 2, Notation::Hex);
     expect_shown(&rt, pair, 0, b"63 31\n");
     Ok(())
 }

@@ -1,18 +1,16 @@
 //! Lists of keys out of lines, and what `get` answers of many keys.
 use super::expect_answer;
-use super::look_up_answers::file_of_three;
+use super::look_up_answers::{file_of_three, root_of_three};
 use crate::expect::{expect_bytes, expect_eq};
 use prolly_answer::{
     Answer, Fault, KeysFault, Notation, answer_get_keys, answer_get_keys_by_root,
     answer_prove_set_by_root, answer_verify_set, keys_of_lines, read_keys,
 };
 use prolly_check::OneThread;
-use prolly_entry::{Ref, Sha512Cut, Version};
-use prolly_file::scratch_as;
+use prolly_entry::Version;
 use prolly_io::{FromRead, ScriptDevice, ScriptSink, ScriptSource};
 use prolly_range::{KeySet, SortedKeys};
 use prolly_root::FileChunks;
-use prolly_test_parts::pairs_of;
 use std::alloc::{AllocError, Global};
 use std::process::Abort;
 use std::test::Fail;
@@ -150,14 +148,6 @@ fn keys(alloc: Global) -> Result<Vec<Vec<u8>>, Fail> {
         Ok(keys) => Ok(keys),
         Err(_) => Err("keys".into()),
     }
-}
-
-/// The root of the map of three.
-fn root_of_three(alloc: Global, version: Version) -> Result<Ref, Fail> {
-    let cut = Sha512Cut::new(0).ok_or("bits")?;
-    let pairs = pairs_of(alloc, &[b"a", b"b", b"c"])?;
-    let mut file = Vec::new(alloc);
-    Ok(scratch_as(alloc, cut, version, &pairs, 12, &mut file)?)
 }
 
 /// What is answered by the root, over a device and a sink whose calls of these numbers fail; 0 for

@@ -1,25 +1,46 @@
 //! What `get`, `scan`, `nth` and `check` answer.
 use super::expect_answer;
 use prolly_answer::{
-    Notation, answer_check, answer_get, answer_get_in, answer_nth, answer_nth_in, answer_scan,
-    answer_scan_in,
+    Notation, answer_check, answer_get, answer_get_by_root, answer_get_in, answer_nth,
+    answer_nth_by_root, answer_nth_in, answer_scan, answer_scan_in,
 };
 use prolly_check::OneThread;
-use prolly_entry::{Sha512Cut, Version};
+use prolly_entry::{Ref, Sha512Cut, Version};
 use prolly_file::scratch_as;
-use prolly_io::FromRead;
+use prolly_io::{FromRead, ScriptDevice};
+use prolly_root::FileChunks;
 use prolly_test_parts::pairs_of;
 use std::alloc::Global;
 use std::process::Abort;
 use std::test::Fail;
 
-/// The chunk file of a=1, b=1 and c=1, of 0 bits.
-pub(crate) fn file_of_three(alloc: Global, version: Version) -> Result<Vec<u8>, Fail> {
+/// The chunk file of a=1, b=1 and c=1, of 0 bits, and the root.
+fn tree_of_three(alloc: Global, version: Version) -> Result<(Vec<u8>, Ref), Fail> {
     let mut file = Vec::new(alloc);
     let cut = Sha512Cut::new(0).ok_or("bits")?;
     let pairs = pairs_of(alloc, &[b"a", b"b", b"c"])?;
-    scratch_as(alloc, cut, version, &pairs, 12, &mut file)?;
-    Ok(file)
+    let root = scratch_as(alloc, cut, version, &pairs, 12, &mut file)?;
+    Ok((file, root))
+}
+
+/// The chunk file of a=1, b=1 and c=1, of 0 bits.
+pub(crate) fn file_of_three(alloc: Global, version: Version) -> Result<Vec<u8>, Fail> {
+    Ok(tree_of_three(alloc, version)?.0)
+}
+
+/// The root of its tree.
+pub(crate) fn root_of_three(alloc: Global, version: Version) -> Result<Ref, Fail> {
+    Ok(tree_of_three(alloc, version)?.1)
+}
+
+/// The chunks of a file; at 1 its first read fails, and at 0 none does.
+pub(crate) fn chunks_of(
+    alloc: Global,
+    file: &[u8],
+    fail_at: u64,
+) -> Result<FileChunks<ScriptDevice>, Fail> {
+    let device = ScriptDevice::new(file.to_vec(alloc)?, Some(fail_at));
+    Ok(FileChunks::new(device))
 }
 
 /// Keys, the status, and what is shown in hexadecimal and as text.
@@ -42,6 +63,24 @@ fn a_value_is_shown_or_the_status_tells_that_there_is_none(rt: HostRuntime) -> R
         let answer = answer_get_in(&OneThread, alloc, &mut source, key, Notation::Text)?;
         expect_answer(&rt, &answer, status, text, b"");
     }
+    Ok(())
+}
+
+#[test]
+fn by_the_root_a_value_is_shown_or_a_failed_read_is(rt: HostRuntime) -> Result<(), Fail> {
+    let alloc = rt.alloc();
+    let version = Version::Two;
+    let (file, root) = tree_of_three(alloc, version)?;
+    for &(key, status, hex, text) in VALUES {
+        let mut chunks = chunks_of(alloc, &file, 0)?;
+        let answer = answer_get_by_root(alloc, &mut chunks, version, &root, key, Notation::Hex)?;
+        expect_answer(&rt, &answer, status, hex, b"");
+        let answer = answer_get_by_root(alloc, &mut chunks, version, &root, key, Notation::Text)?;
+        expect_answer(&rt, &answer, status, text, b"");
+    }
+    let mut chunks = chunks_of(alloc, &file, 1)?;
+    let answer = answer_get_by_root(alloc, &mut chunks, version, &root, b"a", Notation::Hex)?;
+    expect_answer(&rt, &answer, 5, b"", b"prolly: chunk file: read failed\n");
     Ok(())
 }
 
@@ -94,6 +133,39 @@ fn the_pair_of_a_number_is_shown(rt: HostRuntime) -> Result<(), Fail> {
         let mut source = FromRead::new(file.as_slice());
         let answer = answer_nth_in(&OneThread, alloc, &mut source, n, Notation::Text)?;
         expect_answer(&rt, &answer, status, text, err);
+    }
+    Ok(())
+}
+
+#[test]
+fn by_the_root_the_pair_of_a_number_is_shown(rt: HostRuntime) -> Result<(), Fail> {
+    let alloc = rt.alloc();
+    for &(version, n, status, hex, text, err) in NUMBERS {
+        let (file, root) = tree_of_three(alloc, version)?;
+        let mut chunks = chunks_of(alloc, &file, 0)?;
+        let answer = answer_nth_by_root(alloc, &mut chunks, version, &root, n, Notation::Hex)?;
+        expect_answer(&rt, &answer, status, hex, err);
+        let answer = answer_nth_by_root(alloc, &mut chunks, version, &root, n, Notation::Text)?;
+        expect_answer(&rt, &answer, status, text, err);
+    }
+    Ok(())
+}
+
+/// The version of a tree, the status where the first read fails, and what is told. Where there are
+/// no counts, nothing is read.
+const UNREAD: &[(Version, u8, &[u8])] = &[
+    (Version::One, 4, b"prolly: chunk file: no counts\n"),
+    (Version::Two, 5, b"prolly: chunk file: read failed\n"),
+];
+
+#[test]
+fn by_the_root_no_pair_is_shown_where_a_read_fails(rt: HostRuntime) -> Result<(), Fail> {
+    let alloc = rt.alloc();
+    for &(version, status, err) in UNREAD {
+        let (file, root) = tree_of_three(alloc, version)?;
+        let mut chunks = chunks_of(alloc, &file, 1)?;
+        let answer = answer_nth_by_root(alloc, &mut chunks, version, &root, 0, Notation::Hex)?;
+        expect_answer(&rt, &answer, status, b"", err);
     }
     Ok(())
 }

@@ -1,9 +1,10 @@
 //! What `get --raw`, `check` of several files and the bits of a sample come to.
 use super::expect_answer;
-use super::look_up_answers::file_of_three;
+use super::look_up_answers::{chunks_of, file_of_three, root_of_three};
 use crate::expect::{expect_bytes, expect_eq};
 use prolly_answer::{
-    Answer, Fault, Sample, answer_check, answer_found_raw, answer_get_raw, bits_note,
+    Answer, Fault, Sample, answer_check, answer_found_raw, answer_get_raw, answer_get_raw_by_root,
+    bits_note, status_behind,
 };
 use prolly_check::OneThread;
 use prolly_entry::Version;
@@ -16,10 +17,15 @@ const VALUES: &[(&[u8], u8, &[u8])] = &[(b"a", 0, b"1"), (b"", 1, b""), (b"z", 1
 #[test]
 fn a_value_is_shown_as_it_is(rt: HostRuntime) -> Result<(), Fail> {
     let alloc = rt.alloc();
-    let file = file_of_three(alloc, Version::One)?;
+    let version = Version::One;
+    let file = file_of_three(alloc, version)?;
+    let root = root_of_three(alloc, version)?;
     for &(key, status, value) in VALUES {
         let mut source = FromRead::new(file.as_slice());
         let answer = answer_get_raw(&OneThread, alloc, &mut source, key)?;
+        expect_answer(&rt, &answer, status, value, b"");
+        let mut chunks = chunks_of(alloc, &file, 0)?;
+        let answer = answer_get_raw_by_root(alloc, &mut chunks, version, &root, key)?;
         expect_answer(&rt, &answer, status, value, b"");
     }
     let found = Ok(Some(Vec::from_slice(alloc, b"\0\xFF\n")?));
@@ -44,6 +50,20 @@ fn an_answer_of_a_file_has_its_name(rt: HostRuntime) -> Result<(), Fail> {
         b"",
         b"prolly: a\\x0ab: chunk file: no counts\n",
     );
+    Ok(())
+}
+
+#[test]
+fn the_status_of_files_is_that_of_the_first_refusal(rt: HostRuntime) -> Result<(), Fail> {
+    let alloc = rt.alloc();
+    let mut status = 0;
+    let refused = Answer::of_fault(alloc, Fault::NoCounts)?;
+    let unread = Answer::of_fault(alloc, Fault::Read)?;
+    let done = Answer::of_done(alloc);
+    for (answer, behind) in [(&done, 0), (&refused, 4), (&unread, 4), (&done, 4)] {
+        status = status_behind(status, answer);
+        expect_eq(&rt, &status, &behind);
+    }
     Ok(())
 }
 
