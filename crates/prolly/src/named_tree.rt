@@ -1,4 +1,8 @@
 //! The tree that the words name.
+ghost use Rattle.std.specs.Prelude.{◌≡◌, IfOk};
+ghost use Rattle.std.specs.Option.{option_map};
+ghost use Rattle.prolly.specs.Roots.{root_of};
+
 use crate::found::Found;
 use crate::inputs::{Chunks, Input, refuse_read_twice};
 use crate::known_root::KnownRoot;
@@ -17,7 +21,10 @@ pub struct NamedTree {
 
 impl NamedTree {
     /// The tree of this file, and of this root where one is given, in chunks of the version.
-    pub fn of(file: String, root: Option<Ref>, version: Version) -> NamedTree {
+    pub fn of(file: String, root: Option<Ref>, version: Version) -> NamedTree
+        ensures { result.root ≡
+            option_map (λ root. record { version = version; root = root }) root }
+    {
         NamedTree {
             file,
             root: KnownRoot::given(root, version),
@@ -25,12 +32,16 @@ impl NamedTree {
     }
 
     /// The root that is believed.
-    pub fn root(&self) -> Option<KnownRoot> {
+    pub fn root(&self) -> Option<KnownRoot>
+        ensures { result ≡ self.now.root }
+    {
         self.root
     }
 
     /// Opens the file, where that is not the output.
-    pub fn open(&self, rt: &HostRuntime, output: Found) -> Result<OpenTree, Refusal> {
+    pub fn open(&self, rt: &HostRuntime, output: Found) -> Result<OpenTree, Refusal>
+        ensures { IfOk result (λ tree. root_of tree ≡ self.now.root) }
+    {
         self.open_after(rt, Found::Nothing, output)
     }
 
@@ -40,7 +51,9 @@ impl NamedTree {
         rt: &HostRuntime,
         earlier: Found,
         output: Found,
-    ) -> Result<OpenTree, Refusal> {
+    ) -> Result<OpenTree, Refusal>
+        ensures { IfOk result (λ tree. root_of tree ≡ self.now.root) }
+    {
         let input = Input::open_beside(rt, &self.file, output)?;
         refuse_read_twice(rt, input.found(), &[earlier], &self.file)?;
         match self.root {

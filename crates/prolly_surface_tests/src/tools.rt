@@ -18,6 +18,7 @@ mod checked;
 mod lines;
 mod requests;
 mod rooted;
+mod runs;
 
 fn config() -> Result<Config, ConfigFault> {
     match Config::new(12, 12, 64, 1000) {

@@ -4,17 +4,19 @@
 #![tactic(auto)]
 
 mod refusal;
+mod runs;
 
 pub use prolly_answer::{
     Answer, ChosenBits, Fault, INPUT_LIMIT, NameFault, OutputFault, RootDiff, RootScan, Sample,
     SortedPack, StatForm, Stated, agreed_header, answer_apply, answer_build, answer_check,
     answer_check_by, answer_check_by_root, answer_diff, answer_diff_by_root, answer_dump,
     answer_dump_by_root, answer_explain, answer_explain_lines, answer_found, answer_found_pair,
-    answer_found_raw, answer_get, answer_get_in, answer_get_keys, answer_get_keys_by_root,
-    answer_get_raw, answer_nth, answer_nth_in, answer_pack, answer_pack_in, answer_pack_sorted,
+    answer_found_raw, answer_get, answer_get_by_root, answer_get_in, answer_get_keys,
+    answer_get_keys_by_root, answer_get_raw, answer_get_raw_by_root, answer_nth,
+    answer_nth_by_root, answer_nth_in, answer_pack, answer_pack_in, answer_pack_sorted,
     answer_prove, answer_prove_by_root, answer_prove_set, answer_prove_set_by_root, answer_root,
     answer_scan, answer_scan_by_root, answer_scan_in, answer_scratch, answer_stat, answer_verify,
-    answer_verify_set, bits_note, laws, read_keys,
+    answer_verify_set, bits_note, laws, read_keys, status_behind,
 };
 pub use prolly_build::{
     AllStart, AppliedChanges, ApplyFault, CHANGES_LIMIT, Config, ConfigFault, FILES_LIMIT, Permit,
@@ -26,3 +28,4 @@ pub use prolly_text::{
     pack_lines_in,
 };
 pub use refusal::answer_refusal;
+pub use runs::{answer_apply_into, answer_build_into};

@@ -1,6 +1,10 @@
 //! The command `apply`.
+ghost use Rattle.std.specs.Prelude.{IfOk};
+ghost use Rattle.prolly_answer.specs.Apply.{AgreesWith};
+ghost use Rattle.prolly_io.specs.declared.format.header.Header.{Header as HeaderValue};
 ghost use Rattle.prolly_line.specs.GivenCommand.{IsWithinLimits};
 ghost use Rattle.prolly.specs.Kinds.{IsApply};
+ghost use Rattle.prolly.specs.Requests.{IsSetBy};
 
 use crate::commands::record_files::{RecordFiles, target_of};
 use crate::commands::version_of;
@@ -11,14 +15,14 @@ use crate::output::Output;
 use crate::refusal::Refusal;
 use crate::sinks::buffered;
 use crate::target::Target;
-use prolly_answer::{Answer, Fault, agreed_header, answer_apply};
-use prolly_build::{ApplyFault, CHANGES_LIMIT, Config, ConfigFault, Report, apply_changes};
+use prolly_answer::{Answer, Fault, agreed_header};
+use prolly_build::{CHANGES_LIMIT, Config, ConfigFault};
 use prolly_entry::{Ref, Version};
-use prolly_io::{Blocks, FromFile, FromRead, Header, Sink, ToWrite};
+use prolly_io::{Blocks, FromFile, FromRead, Header, ToWrite};
 use prolly_line::Command;
-use prolly_link::RunFault;
 use prolly_progress::{CountedSink, CountedSource, CountingGate, Counts};
 use prolly_root::{FileChunks, RootFault, named_header};
+use prolly_tool::answer_apply_into;
 use std::alloc::AllocError;
 use std::fs::File;
 use std::sync::Wait;
@@ -118,7 +122,10 @@ fn settings_of(
     old: &mut Blocks<FromFile>,
     bits: Option<u8>,
     version: Option<Version>,
-) -> Result<Config, Fault> {
+) -> Result<Config, Fault>
+    ensures { IfOk result (λ config. (header : HeaderValue) × AgreesWith bits version header ×
+        IsSetBy header config) }
+{
     let header = agreed_header(named_header(old), bits, version)?;
     // A header that was read is within the limits of a run.
     match config_of(header) {
@@ -128,7 +135,9 @@ fn settings_of(
 }
 
 /// The settings of a run over a tree with this header.
-fn config_of(header: Header) -> Result<Config, ConfigFault> {
+fn config_of(header: Header) -> Result<Config, ConfigFault>
+    ensures { IfOk result (IsSetBy header) }
+{
     Config::new(header.bits, STAGES, CAPACITY, MAX_RECORDS)?
         .with_batch(BATCH)?
         .with_version(header.version.to_byte())
@@ -142,7 +151,7 @@ struct Inputs<'a> {
     changes: Vec<CountedSource<'a, FromRead<File>>>,
 }
 
-/// Makes the next tree in the file.
+/// Makes the next tree in the file, and shows meanwhile how far that is, unless it is to show nothing.
 fn apply_into<T: Wait + Threads + Clock + Sync>(
     host: &Host<'_, T>,
     config: &Config,
@@ -150,45 +159,25 @@ fn apply_into<T: Wait + Threads + Clock + Sync>(
     inputs: Inputs<'_>,
     output: &mut Output<'_>,
 ) -> Result<Answer, AllocError> {
-    let output = CountedSink::new(ToWrite::new(output), watch.counts);
-    let mut sink = buffered(host.rt, output)?;
-    let applied = watched_run(host, config, watch, inputs, &mut sink);
-    // As of a build, a failed write is told before that a tree was made, or is too tall.
-    let applied = match (applied, sink.flush()) {
-        (Ok(_) | Err(ApplyFault::Run(RunFault::TooTall)), Err(_)) => {
-            Err(ApplyFault::Run(RunFault::Write))
-        }
-        (applied, _) => applied,
-    };
-    answer_apply(host.rt.alloc(), &applied)
-}
-
-/// Makes the next tree, and shows meanwhile how far that is, unless it is to show nothing.
-fn watched_run<T: Wait + Threads + Clock + Sync, W: Sink>(
-    host: &Host<'_, T>,
-    config: &Config,
-    watch: Watch<'_>,
-    inputs: Inputs<'_>,
-    sink: &mut W,
-) -> Result<Report, ApplyFault> {
     let Inputs {
         root,
         old,
         mut changes,
     } = inputs;
+    let output = CountedSink::new(ToWrite::new(output), watch.counts);
+    let mut sink = buffered(host.rt, output)?;
     let (threads, alloc) = (host.threads, host.rt.alloc());
     let gate = CountingGate::new(watch.counts);
     watch.during(host, || {
-        apply_changes(
+        answer_apply_into(
             threads,
             alloc,
             config,
             &root,
             old,
             &mut changes,
-            sink,
+            &mut sink,
             &gate,
         )
-        .answer
     })
 }

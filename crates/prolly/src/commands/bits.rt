@@ -1,5 +1,6 @@
 //! The bits of a tree whose chunks are to have so many bytes.
 ghost use Rattle.std.specs.Prelude.{◌≤◌, IfOk};
+ghost use Rattle.prolly.specs.Requests.{AreChosen};
 
 use crate::patient::Patient;
 use prolly_answer::{Sample, bits_note};
@@ -16,7 +17,8 @@ pub fn chosen_bits(
     default: u8,
 ) -> Result<u8, AllocError>
     requires { default ≤ 24 }
-    ensures { IfOk result (λ bits. bits ≤ 24) }
+    ensures range { IfOk result (λ bits. bits ≤ 24) }
+    ensures chosen { IfOk result (AreChosen sample.now chunk_bytes default) }
 {
     let chosen = sample.bits_for(chunk_bytes);
     let note = bits_note(rt.alloc(), default, chosen)?;

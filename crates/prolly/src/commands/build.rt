@@ -1,5 +1,7 @@
 //! The command `build`.
-ghost use Rattle.std.specs.Prelude.{◌≤◌};
+ghost use Rattle.std.specs.Prelude.{◌≡◌, ◌≤◌};
+ghost use Rattle.prolly_entry.specs.Version.{version_byte};
+ghost use Rattle.prolly_build.specs.Config.{settings_of};
 ghost use Rattle.prolly_line.specs.GivenCommand.{IsWithinLimits};
 ghost use Rattle.prolly.specs.Kinds.{IsBuild};
 ghost use Rattle.prolly.specs.Requests.{AreInRange};
@@ -12,12 +14,13 @@ use crate::output::Output;
 use crate::refusal::Refusal;
 use crate::sinks::buffered;
 use crate::target::Target;
-use prolly_answer::{Answer, Fault, Sample, answer_build};
-use prolly_build::{Config, FILES_LIMIT, Report, build};
-use prolly_io::{FromRead, Rejoined, Sink, Source, SourceFault, ToWrite};
+use prolly_answer::{Answer, Fault, Sample};
+use prolly_build::{Config, FILES_LIMIT};
+use prolly_io::{FromRead, Rejoined, Source, SourceFault, ToWrite};
 use prolly_line::Command;
 use prolly_link::RunFault;
 use prolly_progress::{CountedSink, CountedSource, CountingGate, Counts};
+use prolly_tool::answer_build_into;
 use std::alloc::AllocError;
 use std::fs::File;
 use std::sync::Wait;
@@ -82,6 +85,9 @@ impl BuildRequest {
     fn config(self, bits: u8) -> Config
         requires bits { bits ≤ 24 }
         requires numbers { AreInRange self }
+        ensures settings { result ≡ settings_of bits self.stages self.capacity self.max_records
+            self.batch result.version }
+        ensures version { version_byte result.version ≡ self.version }
     {
         let config = Config::new(bits, self.stages, self.capacity, self.max_records).unwrap();
         let config = config.with_batch(self.batch).unwrap();
@@ -156,7 +162,8 @@ fn fronts_of<S: Source>(
     Ok(Ok(fronts))
 }
 
-/// Builds the tree of the sources into the file, with these settings.
+/// Builds the tree of the sources into the file, with these settings, and shows meanwhile how far that
+/// is, unless it is to show nothing.
 fn build_into<T: Wait + Threads + Clock + Sync, S: Source + Send + Drop>(
     host: &Host<'_, T>,
     config: &Config,
@@ -166,25 +173,9 @@ fn build_into<T: Wait + Threads + Clock + Sync, S: Source + Send + Drop>(
 ) -> Result<Answer, AllocError> {
     let output = CountedSink::new(ToWrite::new(output), watch.counts);
     let mut sink = buffered(host.rt, output)?;
-    let built = watched_build(host, config, watch, sources, &mut sink);
-    // What was taken is in the file also after a fault. That a tree was made is told only once all
-    // of it is there, and so is that it is too tall: a failed write is told before that.
-    let built = match (built, sink.flush()) {
-        (Ok(_) | Err(RunFault::TooTall), Err(_)) => Err(RunFault::Write),
-        (built, _) => built,
-    };
-    answer_build(host.rt.alloc(), &built)
-}
-
-/// Builds the tree, and shows meanwhile how far that is, unless it is to show nothing.
-fn watched_build<T: Wait + Threads + Clock + Sync, S: Source + Send + Drop, W: Sink>(
-    host: &Host<'_, T>,
-    config: &Config,
-    watch: Watch<'_>,
-    sources: &mut Vec<S>,
-    sink: &mut W,
-) -> Result<Report, RunFault> {
     let (threads, alloc) = (host.threads, host.rt.alloc());
     let gate = CountingGate::new(watch.counts);
-    watch.during(host, || build(threads, alloc, config, sources, sink, &gate))
+    watch.during(host, || {
+        answer_build_into(threads, alloc, config, sources, &mut sink, &gate)
+    })
 }

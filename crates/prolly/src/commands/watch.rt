@@ -23,6 +23,7 @@ impl Watch<'_> {
         work: F,
     ) -> R
         requires { F.pre work }
+        ensures { F.post work result }
     {
         if self.quiet {
             return work();

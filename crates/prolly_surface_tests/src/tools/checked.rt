@@ -5,12 +5,16 @@ use prolly_range::KeySet;
 use prolly_tool::{
     Answer, INPUT_LIMIT, Notation, RecordForm, StatForm, Stated, answer_check_by, answer_diff,
     answer_dump, answer_get_in, answer_get_keys, answer_get_raw, answer_nth_in, answer_prove,
-    answer_prove_set, answer_scan_in, answer_stat,
+    answer_prove_set, answer_scan_in, answer_stat, status_behind,
 };
 use std::alloc::{AllocError, Global};
 
+fn checked<S: Source>(alloc: Global, source: &mut S, status: u8) -> Result<u8, AllocError> {
+    let answer = answer_check_by(&OneThread, alloc, source)?;
+    Ok(status_behind(status, &answer))
+}
+
 fn looked_up<S: Source>(alloc: Global, source: &mut S) -> Result<Answer, AllocError> {
-    answer_check_by(&OneThread, alloc, source)?;
     answer_get_in(&OneThread, alloc, source, b"a", Notation::Hex)?;
     answer_get_raw(&OneThread, alloc, source, b"a")?;
     answer_scan_in(&OneThread, alloc, source, b"a", 1, Notation::Hex)?;

@@ -8,8 +8,9 @@ use prolly_root::{ChunkSource, ReadAhead, RootFault};
 use prolly_tool::{
     Answer, Notation, RecordForm, RootDiff, RootPair, RootScan, answer_check_by_root,
     answer_diff_by_root, answer_dump_by_root, answer_found, answer_found_pair, answer_found_raw,
-    answer_get_keys_by_root, answer_prove_by_root, answer_prove_set_by_root, answer_root,
-    answer_scan_by_root, answer_verify, answer_verify_set,
+    answer_get_by_root, answer_get_keys_by_root, answer_get_raw_by_root, answer_nth_by_root,
+    answer_prove_by_root, answer_prove_set_by_root, answer_root, answer_scan_by_root,
+    answer_verify, answer_verify_set,
 };
 use std::alloc::{AllocError, Global};
 use std::thread::Threads;
@@ -84,6 +85,16 @@ fn changes<S: ChunkSource, T: ChunkSource, W: Sink>(
         stat: true,
     };
     answer_diff_by_root(alloc, old, new, &diff, sink)
+}
+
+fn looked_up<S: ChunkSource>(
+    alloc: Global,
+    chunks: &mut S,
+    root: &Ref,
+) -> Result<Answer, AllocError> {
+    answer_get_by_root(alloc, chunks, VERSION, root, b"a", HEX)?;
+    answer_get_raw_by_root(alloc, chunks, VERSION, root, b"a")?;
+    answer_nth_by_root(alloc, chunks, VERSION, root, 0, HEX)
 }
 
 fn found(
