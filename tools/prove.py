@@ -2,9 +2,9 @@
 """Proves and builds the program with the libraries that it stands on, and says a line a crate: `tools/prove.py [JOBS]`.
 
 JOBS crates are proved side by side, each by one job of the prover, since every further job of one crate loads all that it
-stands on once more. Without JOBS there are as many as processors, and fewer where memory is short. The first crate, beside
-which nothing can run, and the last ones, of which two could at most, are proved one by one by up to four jobs. What the prover
-notes goes to a log, which is named where a proof fails.
+stands on once more. Without JOBS there are two more than processors, since some wait for those below them, and fewer where
+memory is short. The first crate, beside which nothing can run, and the last ones, of which two could at most, are proved one by
+one by up to four jobs. What the prover notes goes to a log, which is named where a proof fails.
 """
 
 import os
@@ -24,13 +24,16 @@ LOG = CRATES / PROGRAM / "out" / "proofs.log"
 JOB_BYTES = 2_500_000_000
 """What a job takes of memory at most, but for the last ones, which run alone."""
 
+WAITING = 2
+"""How many crates are in hand beyond the number of processors: some wait for those below them, and take a place."""
+
 JOBS_ALONE = 4
 """By how many jobs a crate is proved at most while no other one is."""
 
 
 def main():
     """Proves all, builds, and runs the program once: over the empty map."""
-    jobs = int(sys.argv[1]) if len(sys.argv) > 1 else most_jobs()
+    jobs = int(sys.argv[1]) if len(sys.argv) > 1 else most_jobs(WAITING)
     LOG.parent.mkdir(parents=True, exist_ok=True)
     with open(LOG, "w", encoding="utf-8") as log:
         proving = Proving(jobs, log)
@@ -40,11 +43,12 @@ def main():
     print(f"crates/{PROGRAM}/out/{PROGRAM} is built; the root of the empty map is {root}")
 
 
-def most_jobs():
-    """How many jobs the processors allow, and the memory that the system can give: what it keeps of files counts as such."""
+def most_jobs(waiting=0):
+    """How many jobs the processors allow, beside some that wait, and the memory that the system can give: what it keeps of files
+    counts as such."""
     told = Path("/proc/meminfo").read_text(encoding="ascii").splitlines()
     available = next(int(line.split()[1]) for line in told if line.startswith("MemAvailable:")) * 1024
-    return max(1, min(len(os.sched_getaffinity(0)), available // JOB_BYTES))
+    return max(1, min(len(os.sched_getaffinity(0)) + waiting, available // JOB_BYTES))
 
 
 class Proving:
