@@ -11,7 +11,7 @@ use std::fs::File;
 use std::os::unix::fs::FileExt;
 
 /// The chunks of a file of which any part is read.
-pub type Chunks = FileChunks<Blocks<FromFile>>;
+pub type Chunks = FileChunks<Blocks<FromFile<File>>>;
 
 /// A file that is open to be read.
 #[derive(Drop)]
@@ -59,7 +59,7 @@ impl Input {
     }
 
     /// The file, of which any part can be read.
-    pub fn into_device(self) -> FromFile {
+    pub fn into_device(self) -> FromFile<File> {
         FromFile::new(self.file)
     }
 

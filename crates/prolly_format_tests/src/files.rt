@@ -6,6 +6,7 @@ use std::process::Abort;
 mod blocks;
 mod buffers;
 mod chunk_files;
+mod placed_reads;
 mod plain;
 mod readers;
 mod script_devices;

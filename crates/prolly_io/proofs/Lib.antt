@@ -8,6 +8,8 @@ pub mod Fronts
 pub mod Spans
 -- Bytes that are read behind a part of others.
 pub mod ReadBehind
+-- Reads at an offset that give less than was asked.
+pub mod PlacedReads
 -- Reads that are served from a block of a device.
 pub mod BlockReads
 -- The header, byte by byte.

@@ -10,6 +10,8 @@ pub mod BytesLaws
 pub mod Source
 -- What a contract sees of a device that reads anywhere, and what a read gives.
 pub mod Device
+-- What a contract sees of a `FromFile`.
+pub mod FromFile
 -- What a clause reads of a `FromRead`.
 pub mod FromRead
 -- What a contract sees of a sink, and what a write does to the bytes that it took.

@@ -5,9 +5,9 @@ mod device;
 mod format;
 
 pub use device::{
-    Blocks, Buffered, Device, FromFile, FromRead, InMemory, PartReader, ReadBuffer, ReadFault,
-    Rejoined, ScriptDevice, ScriptSink, ScriptSource, Sink, SinkFault, Source, SourceFault,
-    ToWrite, WholeFault, read_whole, take_front,
+    Blocks, Buffered, Device, FromFile, FromRead, InMemory, PartReader, PlacedRead, ReadBuffer,
+    ReadFault, Rejoined, ScriptDevice, ScriptSink, ScriptSource, Sink, SinkFault, Source,
+    SourceFault, ToWrite, WholeFault, read_whole, take_front,
 };
 pub use format::{
     CHUNK_LIMIT, END_LETTER, END_SIZE, FRAME_FRONT, FRAME_LETTER, FRAME_START, FileWriter,

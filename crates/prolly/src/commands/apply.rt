@@ -119,7 +119,7 @@ fn apply_to<T: Wait + Threads + Clock + Sync>(
 /// The settings of a run over an old file whose header has to say these bits and this version, where
 /// they are given.
 fn settings_of(
-    old: &mut Blocks<FromFile>,
+    old: &mut Blocks<FromFile<File>>,
     bits: Option<u8>,
     version: Option<Version>,
 ) -> Result<Config, Fault>

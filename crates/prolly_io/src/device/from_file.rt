@@ -1,37 +1,43 @@
 //! A file as a device.
-ghost use Rattle.std.specs.Prelude.{◌≡◌, ◌≤◌, length, IfOk};
+ghost use Rattle.std.specs.Prelude.{◌≡◌, ◌≤◌, length, IfOk, IfSome};
 ghost use Rattle.std.specs.Io.{ReadsAtMost};
+ghost use Rattle.prolly_io.specs.Device.{GivesFrom, GivesSome};
 ghost use Rattle.prolly_io.specs.Failures.{CountsFailure};
 
 use crate::device::from_read::MOST_TRIES;
+use crate::device::placed_read::PlacedRead;
 use crate::device::read_at::Device;
 use crate::device::source::SourceFault;
-use std::fs::File;
 use std::io;
-use std::io::{ErrorKind, Seek, SeekFrom};
-use std::os::unix::fs::FileExt;
+use std::io::ErrorKind;
 
-/// A file as a device. A file tells contracts nothing of its bytes, so to them it is not honest.
+/// A file as a device. It is honest where the file tells its bytes, and what it tells are bytes. A
+/// file of the system tells none.
 ///
 /// A read is one call of the system where the file has the bytes. One that was interrupted is made
 /// again; every other error is a `SourceFault`.
 #[derive(Drop)]
-pub struct FromFile {
-    file: File,
+pub struct FromFile<F> {
+    file: F,
     failures: u64,
 }
 
-impl FromFile {
+impl<F: PlacedRead> FromFile<F> {
+    ghost use Rattle.prolly_io.specs.FromFile.{view_of};
+
     /// A device of the file's bytes. It reads nothing yet.
-    pub fn new(file: File) -> FromFile
-        ensures { (⟦<FromFile as Device>⟧.seen result).failures ≡ 0 }
+    pub fn new(file: F) -> FromFile<F>
+        ensures seen { ⟦<FromFile<F> as Device>⟧.seen result ≡ view_of (F.known file) 0 }
     {
         FromFile { file, failures: 0 }
     }
+}
 
+impl<F> FromFile<F> {
     /// The answer of a call, which is counted where it failed.
     fn counted<T>(&mut self, answer: io::Result<T>) -> Result<T, SourceFault>
         ensures ok { IfOk result (λ value. answer ≡ Ok value) }
+        ensures file { self.new.file ≡ self.old.file }
         ensures failures { CountsFailure self.old.failures self.new.failures result }
     {
         match answer {
@@ -44,18 +50,14 @@ impl FromFile {
     }
 }
 
-impl Device for FromFile {
-    ghost use Rattle.std.specs.Prelude.{false, []};
+impl<F: PlacedRead> Device for FromFile<F> {
+    ghost use Rattle.prolly_io.specs.FromFile.{view_of};
 
-    ghost seen = { λ device. record {
-      is_honest = false;
-      bytes = [];
-      failures = device.failures;
-    } };
+    ghost seen = { λ device. view_of (F.known device.file) device.failures };
 
     fn len(&mut self) -> Result<u64, SourceFault> {
-        let end = self.file.seek(SeekFrom::End(0));
-        self.counted(end)
+        let size = self.file.size();
+        self.counted(size)
     }
 
     fn read_at(&mut self, offset: u64, buf: &mut [u8]) -> Result<usize, SourceFault> {
@@ -64,17 +66,18 @@ impl Device for FromFile {
     }
 }
 
-/// Reads from this offset on, until the buffer is full or the file has no more.
-fn fill_from(file: &File, offset: u64, buf: &mut [u8]) -> io::Result<usize>
-    ensures { IfOk result (λ n. n ≤ length buf.new) }
+/// Reads from this offset on, until the buffer is full or the file has no more. No file has bytes
+/// behind the greatest offset, so to go on there is an error.
+fn fill_from<F: PlacedRead>(file: &F, offset: u64, buf: &mut [u8]) -> io::Result<usize>
+    ensures bound { IfOk result (λ n. n ≤ length buf.new) }
+    ensures bytes { IfSome (F.known file.now) (λ bytes. GivesFrom bytes offset result buf.new) }
 {
     let mut filled = 0;
     while filled < buf.len() {
-        let count = read_again_at(
-            file,
-            offset.saturating_add(filled as u64),
-            &mut buf[filled..],
-        )?;
+        let Some(at) = offset.checked_add(filled as u64) else {
+            return Err(ErrorKind::InvalidInput.into());
+        };
+        let count = read_again_at(file, at, &mut buf[filled..])?;
         if count == 0 {
             return Ok(filled);
         }
@@ -84,14 +87,15 @@ fn fill_from(file: &File, offset: u64, buf: &mut [u8]) -> io::Result<usize>
 }
 
 /// Reads into the buffer from this offset on, as often as the read is interrupted.
-fn read_again_at(file: &File, offset: u64, buf: &mut [u8]) -> io::Result<usize>
-    ensures { ReadsAtMost result buf.new }
+fn read_again_at<F: PlacedRead>(file: &F, offset: u64, buf: &mut [u8]) -> io::Result<usize>
+    ensures bound { ReadsAtMost result buf.new }
+    ensures bytes { IfSome (F.known file.now) (λ bytes. GivesSome bytes offset result buf.new) }
 {
     for _ in 1..MOST_TRIES {
-        match file.read_at(buf, offset) {
+        match file.read_some_at(buf, offset) {
             Err(error) if error.kind() == ErrorKind::Interrupted => {}
             result => return result,
         }
     }
-    file.read_at(buf, offset)
+    file.read_some_at(buf, offset)
 }
