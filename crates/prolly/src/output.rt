@@ -5,6 +5,7 @@ use crate::place::{Place, Replaced, Replacement};
 use crate::refusal::Refusal;
 use crate::target::Target;
 use prolly_answer::{Answer, Fault, NameFault};
+use prolly_tool::HeldBack;
 use std::alloc::AllocError;
 use std::fs::File;
 use std::io::{ErrorKind, Seek, SeekFrom, Write};
@@ -89,6 +90,15 @@ impl<'a> Output<'a> {
                 self.remove(rt);
                 Ok(answer?)
             }
+        }
+    }
+
+    /// What becomes of what the command has not written yet, where a run into the file ends with a fault.
+    /// It is lost where the output held bytes: these may be there still.
+    pub fn held_back(&self) -> HeldBack {
+        match self.target.found() {
+            Found::Regular(_, 1..) | Found::Block(_) => HeldBack::Lost,
+            _ => HeldBack::Written,
         }
     }
 

@@ -59,21 +59,21 @@ WroteOwn seen own old new (Err Memory) = new ≡ old
 WroteOwn {T = T} seen own old new (Err Write) =
     Writes {T = T} {E = OutputFault} own (seen old) (seen new) (Err Write)
 
--- The sink was flushed, which takes no more bytes, and the outcome is answered, or else a
--- failed write.
-pub record IsFlushedAs {W T F : Type 0} (seen : W → SinkView) (write : F) (old new : W)
+-- The sink was flushed, which takes no more bytes. It holds nothing back then, and the outcome is
+-- answered; or else the flush failed, and what is to be said of that.
+pub record IsFlushedAs {W T F : Type 0} (seen : W → SinkView) (failed : Result T F) (old new : W)
     (outcome answered : Result T F) : Type 0 where
   pub same : (seen old).is_keeping ≡ true → (seen new).taken ≡ (seen old).taken
   pub tells : ((answered ≡ outcome) × ((seen new).failures ≡ (seen old).failures) ×
       IsSettled (seen new))
-      ⊎ ((answered ≡ Err write) × ((seen new).failures ≡ after_failure (seen old).failures))
+      ⊎ ((answered ≡ failed) × ((seen new).failures ≡ after_failure (seen old).failures))
 
 -- So it was, where no write had failed before.
 abbrev pub IsSettledAs : {W T F : Type 0} → (W → SinkView) → F → W → W → Result T F → Result T F →
     Type 0
 IsSettledAs seen write old new outcome answered =
     ((outcome ≡ Err write) × (answered ≡ outcome) × (new ≡ old))
-    ⊎ ((outcome ≢ Err write) × IsFlushedAs seen write old new outcome answered)
+    ⊎ ((outcome ≢ Err write) × IsFlushedAs seen (Err write) old new outcome answered)
 
 -- This happened to the sink, if there is one.
 abbrev pub IfSink : {W : Type 0} → (W → W → Type 0) → Option W → Option W → Type 0

@@ -1,9 +1,8 @@
 -- What `build` and `apply` answer over files that are open.
-use Rattle.std.specs.Prelude.{◌≡◌, ◌↔◌, ◌⊎◌, ◌<◌, ℕ, true, List, Option, Result, Ok, Err, IfOk}
+use Rattle.std.specs.Prelude.{◌≡◌, ◌↔◌, ◌<◌, ℕ, List, Option, Result, Ok, Err, IfOk}
 use Rattle.std.specs.declared.alloc.AllocError.{AllocError}
 use Rattle.prolly_look_up.specs.Content.{Content}
-use Rattle.prolly_io.specs.Failures.{after_failure}
-use Rattle.prolly_io.specs.Sink.{IsSettled, SinkView}
+use Rattle.prolly_io.specs.Sink.{SinkView}
 use Rattle.prolly_io.specs.Source.{SourceView}
 use Rattle.prolly_link.specs.declared.fault.RunFault.{RunFault}
 use Rattle.prolly_link.specs.declared.fault.RunFault.TheVariants.{TooManyFiles, TooTall, Write}
@@ -16,7 +15,10 @@ use Rattle.prolly_build.specs.GivenBack.{IsGivenBack}
 use Rattle.prolly_build.specs.Outcome.{IsOutcome}
 use Rattle.prolly_answer.specs.Apply.{ShowsApply}
 use Rattle.prolly_answer.specs.Build.{ShowsBuild}
+use Rattle.prolly_answer.specs.Outputs.{IsFlushedAs}
 use Rattle.prolly_answer.specs.declared.answers.answer.Answer.{Answer}
+use Rattle.prolly_tool.specs.declared.held_back.HeldBack.{HeldBack}
+use Rattle.prolly_tool.specs.declared.held_back.HeldBack.TheVariants.{Lost}
 
 -- What is told of a build behind which the flush failed: a tree that was made, or that is too tall,
 -- is told as a failed write, and any other fault as it is.
@@ -31,33 +33,33 @@ unapplied (Ok report) = Err (Run Write)
 unapplied (Err (Run TooTall)) = Err (Run Write)
 unapplied (Err fault) = Err fault
 
--- The sink was flushed behind a run: it took no more bytes. It holds nothing back then, and what the
--- run came to is told; or the flush failed, and what is told of that.
-pub record IsToldBehind {A : Type 0} (unflushed : A → A) (old new : SinkView) (came told : A)
-    : Type 0 where
-  pub same : old.is_keeping ≡ true → new.taken ≡ old.taken
-  pub tells : ((told ≡ came) × (new.failures ≡ old.failures) × IsSettled new) ⊎
-      ((told ≡ unflushed came) × (new.failures ≡ after_failure old.failures))
+-- What is told of a run, and what became of the sink behind it. Where the run made no tree, and what
+-- the sink holds back is to be lost then, the run's fault is told, and the sink is as it was. Else the
+-- sink was flushed, and of a flush that failed that is told which `unflushed` makes of the outcome.
+abbrev pub IsToldBehind : {W T F : Type 0} → (W → SinkView) → (Result T F → Result T F) → HeldBack →
+    W → W → Result T F → Result T F → Type 0
+IsToldBehind sees unflushed Lost old new (Err fault) told = (told ≡ Err fault) × (new ≡ old)
+IsToldBehind sees unflushed held_back old new came told =
+    IsFlushedAs sees (unflushed came) old new came told
 
 module _ {S W : Type 0} (seen : S → SourceView) (sees : W → SinkView) where
-  -- What `build` answers, over so many sources, before it and after it, and a sink: what a build with
-  -- these settings came to, of which the sink was flushed, and what is told of both is shown.
-  pub record AnswersBuild (settings : Settings) (count : ℕ) (before after : List S) (old new : W)
-      (result : Result Answer AllocError) : Type 0 where
+  -- What `build` answers, over so many sources, before it and after it, and a sink: a build with these
+  -- settings came to something, and what is told of that and of the sink behind it is shown.
+  pub record AnswersBuild (settings : Settings) (held_back : HeldBack) (count : ℕ)
+      (before after : List S) (old new : W) (result : Result Answer AllocError) : Type 0 where
     pub built : Result Report RunFault
     pub mid : W
     pub outcome : IsOutcome seen settings before after (sees old) (sees mid) (mid ≡ old) built
     pub too_many : (built ≡ Err TooManyFiles) ↔ (16 < count)
     pub told : Result Report RunFault
-    pub flushed : IsToldBehind unbuilt (sees mid) (sees new) built told
+    pub tells : IsToldBehind sees unbuilt held_back mid new built told
     pub shows : IfOk result (λ answer. ShowsBuild answer told)
 
   -- What `apply` answers, over the source of an old tree, of which `has` says which contents it has,
   -- and `failures` how many of its calls failed; over so many sources of changes; and a sink.
   pub record AnswersApply {D : Type 0} (has : D → Content → Type 0) (failures : D → ℕ)
-      (settings : Settings) (root : List ℕ) (source : D) (count : ℕ) (before after : List S)
-      (old new : W)
-      (result : Result Answer AllocError) : Type 0 where
+      (settings : Settings) (held_back : HeldBack) (root : List ℕ) (source : D) (count : ℕ)
+      (before after : List S) (old new : W) (result : Result Answer AllocError) : Type 0 where
     pub applied : Result Report ApplyFault
     pub mid : W
     pub outcome : IsApplyOutcome seen (has source) settings root before after (sees old) (sees mid)
@@ -66,5 +68,5 @@ module _ {S W : Type 0} (seen : S → SourceView) (sees : W → SinkView) where
     pub given_back : IsGivenBack has failures source given applied
     pub too_many : (applied ≡ Err (Run TooManyFiles)) ↔ (15 < count)
     pub told : Result Report ApplyFault
-    pub flushed : IsToldBehind unapplied (sees mid) (sees new) applied told
+    pub tells : IsToldBehind sees unapplied held_back mid new applied told
     pub shows : IfOk result (λ answer. ShowsApply answer told)

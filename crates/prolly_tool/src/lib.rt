@@ -3,9 +3,11 @@
 //! of `prolly_file` and `prolly_root`.
 #![tactic(auto)]
 
+mod held_back;
 mod refusal;
 mod runs;
 
+pub use held_back::HeldBack;
 pub use prolly_answer::{
     Answer, ChosenBits, Fault, INPUT_LIMIT, NameFault, OutputFault, RootDiff, RootScan, Sample,
     SortedPack, StatForm, Stated, agreed_header, answer_apply, answer_build, answer_check,

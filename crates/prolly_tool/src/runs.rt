@@ -1,9 +1,10 @@
-//! What `build` and `apply` answer over files that are open: a run into a sink, the flush behind it,
-//! and what is told of both.
+//! What `build` and `apply` answer over files that are open: a run into a sink, what becomes of the
+//! sink behind it, and what is told of both.
 ghost use Rattle.std.specs.Prelude.{vec_len};
 ghost use Rattle.prolly_tool.specs.Runs.{AnswersApply, AnswersBuild, IsToldBehind};
 ghost use Rattle.prolly_tool.specs.Runs.{unapplied, unbuilt};
 
+use crate::held_back::HeldBack;
 use prolly_answer::{Answer, answer_apply, answer_build};
 use prolly_build::{ApplyFault, Config, Report, apply_changes, build};
 use prolly_entry::Ref;
@@ -15,10 +16,10 @@ use std::alloc::{AllocError, Global};
 use std::sync::Wait;
 use std::thread::Threads;
 
-/// What `build` answers over record files that are open. It [builds](build) their tree into the sink,
-/// and flushes that, also after a fault. Where the flush fails, that is told in place of a tree that
-/// was made, or that is too tall; any other fault is told as it is. An `Err` is want of memory for the
-/// line that is to be shown.
+/// What `build` answers over record files that are open. It [builds](build) their tree into the sink.
+/// After a fault `held_back` says whether what the sink holds back is written. Where that fails, it is
+/// told in place of a tree that is too tall; any other fault is told as it is. An `Err` is want of
+/// memory for the line that is to be shown.
 pub fn answer_build_into<R: Wait + Threads + Sync, S: Source + Send + Drop, W: Sink, G: Gate>(
     rt: &R,
     alloc: Global,
@@ -26,19 +27,27 @@ pub fn answer_build_into<R: Wait + Threads + Sync, S: Source + Send + Drop, W: S
     sources: &mut Vec<S>,
     sink: &mut W,
     gate: &G,
+    held_back: HeldBack,
 ) -> Result<Answer, AllocError>
-    ensures { AnswersBuild S.seen W.seen config.now (vec_len sources.old) sources.old.items
+    ensures { AnswersBuild S.seen W.seen config.now held_back (vec_len sources.old) sources.old.items
         sources.new.items sink.old sink.new result }
 {
     let built = build(rt, alloc, config, sources, sink, gate);
-    let told = built_told(sink, built);
+    let told = built_told(sink, built, held_back);
     answer_build(alloc, &told)
 }
 
-/// Flushes the sink behind a build, and gives what is told of both.
-fn built_told<W: Sink>(sink: &mut W, built: Result<Report, RunFault>) -> Result<Report, RunFault>
-    ensures { IsToldBehind unbuilt (W.seen sink.old) (W.seen sink.new) built result }
+/// Gives what is told of a build, behind which the sink is flushed, or left alone.
+fn built_told<W: Sink>(
+    sink: &mut W,
+    built: Result<Report, RunFault>,
+    held_back: HeldBack,
+) -> Result<Report, RunFault>
+    ensures { IsToldBehind W.seen unbuilt held_back sink.old sink.new built result }
 {
+    if built.is_err() && held_back == HeldBack::Lost {
+        return built;
+    }
     match (built, sink.flush()) {
         (Ok(_) | Err(RunFault::TooTall), Err(_)) => Err(RunFault::Write),
         (built, _) => built,
@@ -63,24 +72,29 @@ pub fn answer_apply_into<
     sources: &mut Vec<S>,
     sink: &mut W,
     gate: &G,
+    held_back: HeldBack,
 ) -> Result<Answer, AllocError>
 where
     D::Place: Send,
-    ensures { AnswersApply S.seen W.seen D.has D.failures config.now root.now.0 old
+    ensures { AnswersApply S.seen W.seen D.has D.failures config.now held_back root.now.0 old
         (vec_len sources.old) sources.old.items sources.new.items sink.old sink.new result }
 {
     let applied = apply_changes(rt, alloc, config, root, old, sources, sink, gate);
-    let told = applied_told(sink, applied.answer);
+    let told = applied_told(sink, applied.answer, held_back);
     answer_apply(alloc, &told)
 }
 
-/// Flushes the sink behind a run over an old tree, and gives what is told of both.
+/// The same of a run over an old tree.
 fn applied_told<W: Sink>(
     sink: &mut W,
     applied: Result<Report, ApplyFault>,
+    held_back: HeldBack,
 ) -> Result<Report, ApplyFault>
-    ensures { IsToldBehind unapplied (W.seen sink.old) (W.seen sink.new) applied result }
+    ensures { IsToldBehind W.seen unapplied held_back sink.old sink.new applied result }
 {
+    if applied.is_err() && held_back == HeldBack::Lost {
+        return applied;
+    }
     match (applied, sink.flush()) {
         (Ok(_) | Err(ApplyFault::Run(RunFault::TooTall)), Err(_)) => {
             Err(ApplyFault::Run(RunFault::Write))

@@ -164,6 +164,7 @@ fn apply_into<T: Wait + Threads + Clock + Sync>(
         old,
         mut changes,
     } = inputs;
+    let held_back = output.held_back();
     let output = CountedSink::new(ToWrite::new(output), watch.counts);
     let mut sink = buffered(host.rt, output)?;
     let (threads, alloc) = (host.threads, host.rt.alloc());
@@ -178,6 +179,7 @@ fn apply_into<T: Wait + Threads + Clock + Sync>(
             &mut changes,
             &mut sink,
             &gate,
+            held_back,
         )
     })
 }

@@ -171,11 +171,12 @@ fn build_into<T: Wait + Threads + Clock + Sync, S: Source + Send + Drop>(
     sources: &mut Vec<S>,
     output: &mut Output<'_>,
 ) -> Result<Answer, AllocError> {
+    let held_back = output.held_back();
     let output = CountedSink::new(ToWrite::new(output), watch.counts);
     let mut sink = buffered(host.rt, output)?;
     let (threads, alloc) = (host.threads, host.rt.alloc());
     let gate = CountingGate::new(watch.counts);
     watch.during(host, || {
-        answer_build_into(threads, alloc, config, sources, &mut sink, &gate)
+        answer_build_into(threads, alloc, config, sources, &mut sink, &gate, held_back)
     })
 }
