@@ -8,8 +8,8 @@ import subprocess
 from functools import partial
 
 from cases.dumps import lines
-from cases.files import FAULTS, IN_PLACE, WRITERS, in_place_of_out, laid, refusal
-from cases.scratch import ABC
+from cases.files import FAULTS, IN_PLACE, MANY, NOT_LAST, OLD_ROOT, ROOT, WRITERS, in_place_of_out, laid, refusal
+from cases.scratch import ABC, numbered
 from oracle.proof import proof_of
 from oracle.trees import chunk_file, records, report, root_text, tree
 from support.harness import Skipped
@@ -46,6 +46,9 @@ KINDS = {
     "prove --root": "proof",
 }
 """What each command writes."""
+
+WRITE_BYTES = 65_536
+"""How many bytes a build holds back before it writes."""
 
 CALLS = ("statx", "open", "realpath", "readlink", "pread", "ftruncate", "flock", "fchmod", "fsync", "rename", "unlink")
 """The calls of the system that look at, open, make, lock, empty, rename or remove a file."""
@@ -134,19 +137,40 @@ def names_all_files(place):
 
 
 def stays_until_written(place, command, before):
-    """After a fault of an input OUT is what it was, and is not there where it was not. A run by threads has begun by then."""
+    """After a fault of an input OUT is what it was, and is not there where it was not. A run by threads has begun by then, but
+    writes over no byte."""
     words, given, status, line = FAULTS[command]
     files = laid(place)
     if before is not None:
         files["out"] = before
         place.lay(out=before)
     place.answers(place.run(*words, stdin=given or b""), (status, b"", line))
-    if command in ("build", "apply"):
+    if command in ("build", "apply") and not before:
         left = place.path("out").read_bytes()
         if not chunk_file([ABC[0], ABC[1]], 0).startswith(left) or len(left) < 6:
             place.note(f"OUT holds {len(left)} bytes")
         files["out"] = None
     place.holds(**files)
+
+
+def stays_at_a_late_fault(place, words, before, answer):
+    """A run by threads finds a fault: what OUT held is there still."""
+    files = laid(place) | {"table": TABLE, "out": before}
+    place.lay(table=TABLE, out=before)
+    place.answers(place.run(*words), answer)
+    place.holds(**files)
+
+
+def goes_at_a_fault_behind_a_write(place):
+    """A fault that is found when a part of the tree has been written: OUT is that part."""
+    pairs = numbered(MANY)
+    files = {"many_rec": records(pairs), "cut_rec": records([(b"\xfe", b""), (b"\xff", b"")])[:-1]}
+    place.lay(out=OLD_FILES["chunk file"], **files)
+    place.answers(place.run("build", "--bits", "2", "out", "many.rec", "cut.rec"), (3, b"", b"prolly: file 1: record 1 is cut\n"))
+    left = place.path("out").read_bytes()
+    if not chunk_file(pairs, 2).startswith(left) or len(left) < WRITE_BYTES:
+        place.note(f"OUT holds {len(left)} bytes")
+    place.holds(out=None, **files)
 
 
 def stays_before_the_header(place):
@@ -581,7 +605,7 @@ def tests():
 
 def kinds():
     """Files of all kinds before each command."""
-    others = {**OLD_FILES, "table": TABLE, "picture": PICTURE}
+    others = {**OLD_FILES, "table": TABLE, "picture": PICTURE, "file of zeros": bytes(64), "record and more": records(ABC[1:2]) + TABLE, "file of numbers": b"".join(number.to_bytes(8, "big") for number in range(1, 20_000))}
     for command, kind in KINDS.items():
         for name, before in others.items():
             if name == kind or (kind, name) == ("file of lines", "table"):
@@ -607,8 +631,32 @@ LONG = [
 """Commands that read a chunk file whole, and how they name it."""
 
 
+TALL = ["build", "--bits", "0", "--stages", "1", "out", "a.rec"]
+
+LAST_OLD = 5
+"""The number of the last chunk of the old tree, its root."""
+
+LATE = [
+    (["build", "out", "a.rec", "table"], (3, b"", b"prolly: file 1: record 0: key too long\n")),
+    (["build", "--sync", "out", "table"], (3, b"", b"prolly: file 0: record 0: key too long\n")),
+    (["build", "--max-records", "1", "out", "a.rec"], (3, b"", b"prolly: file 0: too many records\n")),
+    (["build", "--bits", "0", "out", "a.rec", "."], (5, b"", b"prolly: file 1: read failed\n")),
+    (["build", "--chunk-bytes", "1000", "out", "table"], (3, b"", b"prolly: --bits 12, since no record was seen\nprolly: file 0: record 0: key too long\n")),
+    (TALL, (7, b"", b"prolly: tree too tall\n")),
+    (["apply", "--root", OLD_ROOT, "old.prl", "out", "table"], (3, b"", b"prolly: file 0: record 0: key too long\n")),
+    (["apply", *ROOT, "turned.prl", "out", "changes.rec"], (4, b"", b"prolly: old " + NOT_LAST.removeprefix(b"prolly: "))),
+    (["apply", *ROOT, "old.prl", "out", "changes.rec"], (4, b"", b"prolly: old chunk file: chunk %d is not the one referred to\n" % LAST_OLD)),
+]
+"""Faults that are found while threads run: the words, and the answer."""
+
+
 def stays():
     """What OUT held before a fault, and files that are not read."""
+    for words, answer in LATE:
+        yield f"a late fault: {' '.join(words)}", partial(stays_at_a_late_fault, words=words, before=OLD_FILES["chunk file"], answer=answer)
+        forced = [words[0], "--force", *words[1:]]
+        yield f"a late fault: {' '.join(forced)}", partial(stays_at_a_late_fault, words=forced, before=PICTURE, answer=answer)
+    yield "a fault behind a write", goes_at_a_fault_behind_a_write
     for words, name in LONG:
         line = 4, b"", b"prolly: " + name + b": too long\n"
         yield f"not read: {' '.join(words)}", partial(is_not_read, words=words, line=line)

@@ -1,8 +1,8 @@
 //! What kind of file a command writes, and whether a file is one.
 use prolly_answer::NameFault;
-use prolly_entry::{FrontRecord, KEY_LIMIT, VALUE_LIMIT, front_record};
+use prolly_entry::{KEY_LIMIT, RecordFault, VALUE_LIMIT, records};
 use prolly_io::{FromRead, take_front};
-use std::alloc::AllocError;
+use std::alloc::{AllocError, Global};
 use std::fs;
 
 /// The letters that a chunk file begins with.
@@ -14,6 +14,13 @@ const PROOF_LETTERS: &[u8; 4] = b"PRLP";
 /// The greatest size of a record: the lengths of key and value, of two and of four bytes, and both of
 /// them as long as they may be.
 const RECORD_BYTES: usize = 2 + KEY_LIMIT + 4 + VALUE_LIMIT;
+
+/// How much of a file is looked at to tell whether it is one of records: two of the greatest size, and
+/// a byte more.
+const RECORDS_BYTES: usize = 2 * RECORD_BYTES + 1;
+
+/// How many records are looked at, where so many are in these bytes.
+const FIRST_RECORDS: u32 = 16;
 
 /// How much of a file is looked at to tell whether it is one of lines. All other kinds have a byte
 /// that no line has among their first ones.
@@ -52,7 +59,7 @@ impl OutputKind {
         let Ok(count) = take_front(&mut FromRead::new(file), &mut front) else {
             return Err(LookFault::Read);
         };
-        Ok(count == 0 || self.begins(&front[..count]))
+        self.begins(rt.alloc(), &front[..count])
     }
 
     /// The fault of a file of another kind.
@@ -69,23 +76,31 @@ impl OutputKind {
     fn most_bytes(self) -> usize {
         match self {
             OutputKind::ChunkFile | OutputKind::Proof => 4,
-            OutputKind::RecordFile => RECORD_BYTES,
+            OutputKind::RecordFile => RECORDS_BYTES,
             OutputKind::Lines => LINE_BYTES,
         }
     }
 
-    /// Whether a file of this kind begins so. A record file has no letters to begin with, so its
-    /// first record has to be a whole one.
-    fn begins(self, front: &[u8]) -> bool {
+    /// Whether a file of this kind, or one without a byte, begins so.
+    fn begins(self, alloc: Global, front: &[u8]) -> Result<bool, LookFault> {
         match self {
-            OutputKind::ChunkFile => front.starts_with(CHUNK_FILE_LETTERS),
-            OutputKind::Proof => front.starts_with(PROOF_LETTERS),
-            OutputKind::RecordFile => matches!(
-                front_record(front),
-                FrontRecord::Put { .. } | FrontRecord::Remove { .. }
-            ),
-            OutputKind::Lines => front.iter().all(|byte| is_of_lines(*byte)),
+            _ if front.is_empty() => Ok(true),
+            OutputKind::ChunkFile => Ok(front.starts_with(CHUNK_FILE_LETTERS)),
+            OutputKind::Proof => Ok(front.starts_with(PROOF_LETTERS)),
+            OutputKind::RecordFile => is_of_records(alloc, front),
+            OutputKind::Lines => Ok(front.iter().all(|byte| is_of_lines(*byte))),
         }
+    }
+}
+
+/// Whether bytes begin with good records in order, of which one alone tells little: it may be a few
+/// zeros. The last one may be cut where the file goes on behind these bytes.
+fn is_of_records(alloc: Global, front: &[u8]) -> Result<bool, LookFault> {
+    match records(alloc, front, FIRST_RECORDS) {
+        Ok(_) | Err(RecordFault::TooManyRecords) => Ok(true),
+        Err(RecordFault::Truncated { .. }) => Ok(front.len() == RECORDS_BYTES),
+        Err(RecordFault::Memory) => Err(LookFault::Memory),
+        Err(_) => Ok(false),
     }
 }
 
