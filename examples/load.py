@@ -5,7 +5,8 @@
     prolly dump --text OUT | load.py --back [--csv | --tsv | --json-lines] [--header] --key COLUMN > TABLE
 
 One column is the key. The others are the value, as JSON text: an object where the columns have names, which a header or
-JSON lines give them, else a list. COLUMN is a name, or a number counted from 1. Of rows with one key the last one counts.
+JSON lines give them, else a list. COLUMN is a name or, but for JSON lines, a number counted from 1. Of rows with one key the
+last one counts.
 
 Rows are read one after another and go through a pipe to `prolly pack --sort`. Its record file lies in a folder beside OUT
 until `prolly build` has made OUT, and prints its line: the root, and the numbers of chunks, rows and levels. After a fault
@@ -16,6 +17,7 @@ fault of the table has status 3, one of a file 5, and one of the program's its o
 import argparse
 import csv
 import json
+import os
 import re
 import signal
 import subprocess
@@ -43,12 +45,12 @@ TAB_SEPARATED = {"delimiter": "\t", "quoting": csv.QUOTE_NONE, "quotechar": None
 
 AS_JSON = json.JSONEncoder(ensure_ascii=False, separators=(",", ":"))
 
-BACKSLASH = "\\"
+BACKSLASH, UNIT = "\\", "\\u"
 
 ESCAPES = str.maketrans({BACKSLASH: 2 * BACKSLASH, "\t": r"\t", "\n": r"\n", "\r": r"\r", "\ufeff": r"\xef\xbb\xbf"})
 """What stands in a line of text for characters that may not, or may not begin the first one (docs/format.md)."""
 
-ESCAPE = re.compile(rb"\\(?:x(?P<digits>[0-9a-fA-F]{2})|(?P<letter>.))")
+ESCAPE = re.compile(rb"\\(?:x(?P<digits>[0-9a-fA-F]{2})|(?P<letter>.?))")
 
 NAMED = {b"b": b"\b", b"t": b"\t", b"n": b"\n", b"v": b"\v", b"f": b"\f", b"r": b"\r", b"\\": b"\\"}
 """The bytes that have a letter behind a backslash."""
@@ -70,14 +72,21 @@ def main():
         else:
             load(asked)
     except Fault as fault:
-        print(f"load.py: {fault}", file=sys.stderr)
+        tell(fault)
         return 3
     except OSError as fault:
-        print(f"load.py: {fault.filename or 'a file'}: {fault.strerror}", file=sys.stderr)
+        tell(f"{fault.filename or 'a file'}: {fault.strerror}")
         return 5
     except KeyboardInterrupt:
         return 128 + signal.SIGINT
     return 0
+
+
+def tell(fault):
+    """Prints a fault, which may have a part of a table in it. No character of that does anything to a terminal."""
+    line = "".join(c if c.isprintable() else c.encode("unicode_escape", "surrogatepass").decode() for c in str(fault))
+    with suppress(OSError):  # Where standard error fails there is no one to tell; the status tells.
+        os.write(2, f"load.py: {line}\n".encode())
 
 
 def arguments():
@@ -88,7 +97,7 @@ def arguments():
     forms.add_argument("--tsv", dest="form", action="store_const", const="tsv", help="tab-separated values without quotes")
     forms.add_argument("--json-lines", dest="form", action="store_const", const="json", help="a JSON object a line")
     parser.add_argument("--header", action="store_true", help="the first row names the columns")
-    parser.add_argument("--key", required=True, metavar="COLUMN", help="the column that is the key: its name, or its number from 1")
+    parser.add_argument("--key", required=True, metavar="COLUMN", help="the column that is the key: its name, or its number from 1, but for JSON lines")
     parser.add_argument("--unique", action="store_true", help="refuse a key that stands in two rows")
     parser.add_argument("--memory", metavar="MB", help="how many megabytes the sort uses")
     cuts = parser.add_mutually_exclusive_group()
@@ -99,13 +108,24 @@ def arguments():
     parser.add_argument("table", nargs="?", metavar="TABLE", help="the table, in UTF-8")
     parser.add_argument("out", nargs="?", metavar="OUT", help="the chunk file to make")
     parser.set_defaults(form="csv")
-    asked = parser.parse_args()
+    # Options may stand among the names, but where these may begin with a dash: Python's parser can't do both.
+    asked = parser.parse_args() if "--" in sys.argv else parser.parse_intermixed_args()
     if asked.back != (asked.table is None) or asked.back != (asked.out is None):
         parser.error("TABLE and OUT are needed, and with --back neither may be there")
     asked.has_names = asked.header or asked.form == "json"
     if not (asked.has_names or number_of(asked.key)):
         parser.error("without --header COLUMN is a number, counted from 1")
+    if not is_text(asked.key):
+        parser.error("COLUMN is not UTF-8")
     return asked
+
+
+def is_text(text):
+    """Whether a text can be written. One with a half of a pair of code units, as JSON and words that are no UTF-8 may have, can't."""
+    try:
+        return text.encode() is not None
+    except UnicodeEncodeError:
+        return False
 
 
 def program_beside():
@@ -116,7 +136,7 @@ def program_beside():
 
 def number_of(column):
     """The number that a column is named by, or none."""
-    return int(column) if re.fullmatch("0*[1-9][0-9]*", column) else None
+    return int(column) if re.fullmatch("0*[1-9][0-9]{0,8}", column) else None
 
 
 # ---- from a table to a tree
@@ -134,7 +154,7 @@ def load(asked):
             files.append(str(Path(folder) / f"{len(files)}.rec"))
             pack(asked, part, files[-1])
         cut = [*given("--bits", asked.bits), *given("--chunk-bytes", asked.chunk_bytes)]
-        ends_well(subprocess.run([asked.prolly, "build", "--atomic", *cut, asked.out, *files], check=False).returncode)
+        ends_well(subprocess.run([asked.prolly, "build", "--atomic", *cut, "--", asked.out, *files], check=False).returncode)
 
 
 def refuse_other(out, table):
@@ -169,19 +189,18 @@ def parts_of(lines):
 def pack(asked, lines, file):
     """Packs lines, and ends with the status of the packer where that is at fault."""
     flags = ["--unique"] if asked.unique else []
-    words = [asked.prolly, "pack", "--sort", "--text", *flags, *given("--memory", asked.memory), file]
+    words = [asked.prolly, "pack", "--sort", "--text", *flags, *given("--memory", asked.memory), "--", file]
     packer = subprocess.Popen(words, stdin=subprocess.PIPE, stdout=subprocess.DEVNULL, bufsize=PIPE_BYTES)
     try:
-        packer.stdin.writelines(lines)
-    except BrokenPipeError:
-        pass  # It has told a fault, and reads no more.
-    except BaseException:
-        packer.kill()
-        raise
-    finally:
+        with suppress(BrokenPipeError):  # It has told a fault, and reads no more.
+            packer.stdin.writelines(lines)
         with suppress(BrokenPipeError):
             packer.stdin.close()
         packer.wait()
+    except BaseException:
+        packer.kill()
+        packer.wait()
+        raise
     ends_well(packer.returncode)
 
 
@@ -273,10 +292,17 @@ def read_json(text):
 def exact(digits):
     """A number that is no whole one, where a float has just its value."""
     number = float(digits)
-    written = repr(number)
-    if written != digits and Decimal(written) != Decimal(digits):
-        raise ValueError(f"the number {digits} would become {written}: make it a text")
+    if not is_written(number, digits):
+        raise ValueError(f"the number {digits} would become {number}: make it a text")
     return number
+
+
+def is_written(number, digits):
+    """Whether a float has just the value of these digits. Of an exponent that is too large to compare it is said to have another."""
+    try:
+        return repr(number) == digits or Decimal(repr(number)) == Decimal(digits)
+    except ArithmeticError:
+        return False
 
 
 def refuse_constant(name):
@@ -308,28 +334,31 @@ def line_of(key, others):
 
 def give_back(asked):
     """Writes the table whose rows the lines of standard input are."""
-    with open(1, "w", encoding="utf-8", newline="", closefd=False) as out:
+    with open(0, "rb", closefd=False) as lines, open(1, "w", encoding="utf-8", newline="", closefd=False) as out:
         if asked.form == "json":
-            for key, others in rows_back(asked, sys.stdin.buffer):
+            for key, others in rows_back(asked, lines):
                 out.write(json.dumps({asked.key: key, **others}, ensure_ascii=False) + "\n")
             return
         writer = csv.writer(ByNewlines(out), **(TAB_SEPARATED if asked.form == "tsv" else {}))
         try:
-            writer.writerows(whole_rows(asked, rows_back(asked, sys.stdin.buffer)))
+            writer.writerows(whole_rows(asked, rows_back(asked, lines)))
         except csv.Error as error:
             raise Fault(f"no tab-separated values: {error}") from error
 
 
 class ByNewlines:
     """Takes rows that end with a carriage return and a newline, and writes them with a newline alone. Where the writer takes
-    both for the end of a row, it quotes cells that have one of them."""
+    both for the end of a row, it quotes cells that have one of them. A table whose first cell begins with a byte order mark
+    begins with two, since a reader takes one away."""
 
     def __init__(self, file):
-        self.file = file
+        self.file, self.has_begun = file, False
 
     def write(self, row):
         """Writes a row."""
-        self.file.write(row[: -len("\r\n")] + "\n")
+        mark = "" if self.has_begun or not row.startswith("\ufeff") else "\ufeff"
+        self.file.write(mark + row[: -len("\r\n")] + "\n")
+        self.has_begun = True
 
 
 def whole_rows(asked, found):
@@ -360,11 +389,18 @@ def rows_back(asked, lines):
     for number, line in enumerate(lines, 1):
         key, _, value = line.rstrip(b"\n").partition(b"\t")
         try:
-            key, others = unescaped(key).decode(), read_json(unescaped(value).decode())
+            key, value = unescaped(key).decode(), unescaped(value).decode()
+            others = read_json(value)
+            if UNIT in value and not is_text(AS_JSON.encode(others)):
+                raise ValueError("it has a half of a pair of code units")
         except (KeyError, ValueError) as error:
             raise Fault(f"line {number}: it has no value as load.py makes them") from error
         if not isinstance(others, kind):
             raise Fault(f"line {number}: its columns have {'no ' if kind is dict else ''}names")
+        if asked.has_names and asked.key in others:
+            raise Fault(f"line {number}: another column has the name {asked.key}")
+        if not asked.has_names and number_of(asked.key) > len(others) + 1:
+            raise Fault(f"line {number}: there is no column {asked.key}")
         yield key, others
 
 

@@ -81,10 +81,10 @@ def latest(pairs):
     return sorted(dict(pairs).items())
 
 
-def loaded(program, name, words, table, pairs, bits=12, **more):
+def loaded(program, name, words, table, pairs, bits=12, out="out.prl", **more):
     """A table that is loaded."""
-    made = {"out.prl": chunk_file(pairs, bits)}
-    words = ["--prolly", program, *words, "table", "out.prl"]
+    made = {out: chunk_file(pairs, bits)}
+    words = ["--prolly", program, *words, "table", out]
     return Case(f"load.py: {name}", words, out=report(pairs, bits), before={"table": table, **more.pop("before", {})}, after=made, **more)
 
 
@@ -118,6 +118,8 @@ def loads(program):
         loaded(program, "bits", [*header, "id", "--bits", "1"], text, named(PEOPLE, 0), bits=1),
         loaded(program, "memory, and each key once", [*header, "name", "--memory", "16", "--unique"], text, named(PEOPLE, 1)),
         loaded(program, "the longest key and the longest columns", ["--key", "1"], b"k" * 1_024 + b"," + b"v" * 65_532 + b"\n", unnamed([["k" * 1_024, "v" * 65_532]], 0)),
+        loaded(program, "a tree whose name begins with a dash", ["--key", "1", "--"], b"a,1\n", unnamed([["a", "1"]], 0), out="-out.prl"),
+        Case("load.py: options among the names", ["--prolly", program, "table", "--key", "1", "out.prl"], out=report([(b"a", b"[]")], 12), before={"table": b"a\n"}, after={"out.prl": chunk_file([(b"a", b"[]")], 12)}),
         loaded(program, "a tree is replaced", [*header, "id"], text, named(PEOPLE, 0), before={"out.prl": BEFORE}),
     ]
 
@@ -141,6 +143,7 @@ def faults(program):
         refused(program, "no such name", [*header, "town"], b"id,name\n1,Ada\n", "load.py: table: line 1: there is no column town"),
         refused(program, "no such number", ["--key", "3"], b"1,2,3\n1,2\n", "load.py: table: line 2: there is no column 3"),
         refused(program, "no such number beside names", [*header, "3"], b"id,name\n", "load.py: table: line 1: there is no column 3"),
+        refused(program, "a number that is too long", [*header, 5_000 * "1"], b"id,name\n", f"load.py: table: line 1: there is no column {5_000 * '1'}"),
         refused(program, "two columns of one name", [*header, "id"], b"id,a,a\n", "load.py: table: line 1: two columns have one name"),
         refused(program, "a row that is too short", [*header, "id"], b"id,name\n1,Ada\n2\n", unlike),
         refused(program, "a row that is too long, over two lines", [*header, "id"], b'id,name\n1,"A\nda",3\n', "load.py: table: line 3: it has 3 columns, and the header names 2"),
@@ -154,6 +157,8 @@ def faults(program):
         refused(program, "columns that are too long", ["--key", "1"], b"1," + b"v" * 65_533 + b"\n", "load.py: table: line 1: the other columns are too long"),
         refused(program, "a key of two rows", ["--key", "1", "--unique"], b"7,a\n8,b\n7,c\n", "prolly: line 2: has the key of line 0"),
         refused(program, "a number that a float does not hold", objects, b'{"id": "1", "x": [1.50, 1e2, -0.0]}\n{"id": "2", "x": 12345678901234567890.5}\n', "load.py: table: line 2: the number 12345678901234567890.5 would become 1.2345678901234567e+19: make it a text"),
+        *(refused(program, f"the exponent of {number}", objects, b'{"id": "1", "x": %s}\n' % number.encode(), f"load.py: table: line 1: the number {number} would become {float(number)}: make it a text") for number in ("1e2000000000000000000", "1e-2000000000000000000")),
+        refused(program, "a name that a terminal would heed", ["--header", "--key", "a\x1b[2J\u202e"], b"id\n", "load.py: table: line 1: there is no column a\\x1b[2J\\u202e"),
         refused(program, "a number that is too large", objects, b'{"id": "1", "x": 1e400}\n', "load.py: table: line 1: the number 1e400 would become inf: make it a text"),
         *(refused(program, f"the number {name}", objects, b'{"id": "1", "x": %s}\n' % name.encode(), f"load.py: table: line 1: it is no JSON: {name}") for name in ("NaN", "-Infinity")),
         refused(program, "a name that stands twice", objects, b'{"id": "1", "x": {"a": 1, "a": 2}}\n', "load.py: table: line 1: two columns have one name"),
@@ -191,6 +196,14 @@ def backs(program):
         back(program, "names where none are told", ["--key", "1"], b'1\t{"a":"1"}\n', b"", b"load.py: line 1: its columns have names\n", 3),
         back(program, "no names where they are told", ["--header", "--key", "k"], b'1\t["a"]\n', b"", b"load.py: line 1: its columns have no names\n", 3),
         back(program, "other columns", ["--header", "--key", "k"], b'1\t{"a":"1"}\n2\t{"b":"1"}\n', b"k,a\n1,1\n", b"load.py: line 2: it has other columns than the first one\n", 3),
+        back(program, "another column of the key's name", ["--header", "--key", "a"], b'1\t{"a":"1"}\n', b"", b"load.py: line 1: another column has the name a\n", 3),
+        back(program, "the same of JSON lines", ["--json-lines", "--key", "a"], b'1\t{"b":"1"}\n2\t{"a":"1"}\n', b'{"a": "1", "b": "1"}\n', b"load.py: line 2: another column has the name a\n", 3),
+        back(program, "a number behind all columns", ["--key", "3"], b'1\t["a","b"]\n2\t["a"]\n', b"a,b,1\n", b"load.py: line 2: there is no column 3\n", 3),
+        back(program, "a pair of code units", ["--json-lines", "--key", "k"], b'1\t{"a":"\\\\ud83d\\\\ude00"}\n', '{"k": "1", "a": "\U0001f600"}\n'.encode()),
+        *(back(program, f"a half of one, {form}", [form, "--header", "--key", "k"], b'1\t{"a":{"b":"\\\\ud83d"}}\n', b"", none % 1, 3) for form in ("--csv", "--tsv", "--json-lines")),
+        back(program, "no standard input", ["--key", "1"], None, b"", b"load.py: a file: Bad file descriptor\n", 5),
+        back(program, "a backslash at the end", ["--key", "1"], b'1\\\t["a"]\n', b"", none % 1, 3),
+        *(back(program, f"a key that begins with a byte order mark, {form}", [form, "--key", "1"], b'\\xef\\xbb\\xbfk\t["a"]\n\xef\xbb\xbfl\t["b"]\n', f"\ufeff\ufeffk{between}a\n\ufeffl{between}b\n".encode()) for form, between in (("--csv", ","), ("--tsv", "\t"))),
         back(program, "a tab in a cell of TSV", ["--tsv", "--key", "1"], b'1\t["a\\\\tb"]\n', b"", b"load.py: no tab-separated values: need to escape, but no escapechar set\n", 3),
     ]
 
