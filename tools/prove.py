@@ -1,54 +1,63 @@
 #!/usr/bin/env python3
 """Proves and builds the program with the libraries that it stands on, and says a line a crate: `tools/prove.py [JOBS]`.
 
-JOBS crates are proved side by side, each by one job of the prover, since every further job of one crate loads all that it
-stands on once more. Without JOBS there are two more than processors, since some wait for those below them, and fewer where
-memory is short. The first crate, beside which nothing can run, and the last ones, of which two could at most, are proved one by
-one by up to four jobs. What the prover notes goes to a log, which is named where a proof fails.
+A crate is proved once all that it stands on are. Of those that could be next the one comes first above which most is left to be
+proved, since the program waits for it longest. JOBS jobs of the prover run at a time, by default as many as there are processors,
+and fewer where memory is short. A crate gets more than one where there are fewer crates than jobs: each further one loads all that
+the crate stands on once more.
+
+While `rt` proves a crate it lets no other run use the folders of those below, so runs that go on side by side have a room each.
+What the prover notes goes to a log, which is named where a proof fails.
 """
 
 import os
-import signal
+import shutil
 import subprocess
 import sys
 import time
-from itertools import combinations, starmap
+from concurrent.futures import FIRST_COMPLETED, ThreadPoolExecutor, wait
+from functools import cache
 from pathlib import Path
 
 TOP = Path(__file__).resolve().parents[1]
 CRATES = TOP / "crates"
 PROGRAM = "prolly"
-LIBRARIES = "prolly_tool"
-LOG = CRATES / PROGRAM / "out" / "proofs.log"
+OUT = CRATES / PROGRAM / "out"
+LOG = OUT / "proofs.log"
+ROOMS = OUT / "rooms"
+
+PARTS = "src", "specs", "proofs"
+"""The folders of a crate that are read."""
 
 JOB_BYTES = 2_500_000_000
 """What a job takes of memory at most, but for the last ones, which run alone."""
 
-WAITING = 2
-"""How many crates are in hand beyond the number of processors: some wait for those below them, and take a place."""
+MOST_JOBS = 4
+"""By how many jobs a crate is proved at most."""
 
-JOBS_ALONE = 4
-"""By how many jobs a crate is proved at most while no other one is."""
+LINES_A_JOB = 1_000
+"""How many lines of code a crate has for each job beyond the first: a small one is proved before a second job has loaded."""
 
 
 def main():
     """Proves all, builds, and runs the program once: over the empty map."""
-    jobs = int(sys.argv[1]) if len(sys.argv) > 1 else most_jobs(WAITING)
-    LOG.parent.mkdir(parents=True, exist_ok=True)
+    jobs = int(sys.argv[1]) if len(sys.argv) > 1 else most_jobs()
+    OUT.mkdir(parents=True, exist_ok=True)
+    shutil.rmtree(ROOMS, ignore_errors=True)
     with open(LOG, "w", encoding="utf-8") as log:
         proving = Proving(jobs, log)
-        root = proving.first() and proving.side_by_side() and proving.last() and proving.built()
+        root = proving.libraries() and proving.program()
+    shutil.rmtree(ROOMS, ignore_errors=True)
     if not root:
         sys.exit(f"what the prover says stands in {LOG.relative_to(TOP)}")
     print(f"crates/{PROGRAM}/out/{PROGRAM} is built; the root of the empty map is {root}")
 
 
-def most_jobs(waiting=0):
-    """How many jobs the processors allow, beside some that wait, and the memory that the system can give: what it keeps of files
-    counts as such."""
+def most_jobs():
+    """How many jobs the processors allow, and the memory that the system can give: what it keeps of files counts as such."""
     told = Path("/proc/meminfo").read_text(encoding="ascii").splitlines()
     available = next(int(line.split()[1]) for line in told if line.startswith("MemAvailable:")) * 1024
-    return max(1, min(len(os.sched_getaffinity(0)) + waiting, available // JOB_BYTES))
+    return max(1, min(len(os.sched_getaffinity(0)), available // JOB_BYTES))
 
 
 class Proving:
@@ -56,83 +65,115 @@ class Proving:
 
     def __init__(self, jobs, log):
         self.jobs, self.log, self.start = jobs, log, time.monotonic()
-        self.below = {crate: crates_below(crate) for crate in [PROGRAM, *crates_below(PROGRAM)]}
-        self.beside = crates_below(LIBRARIES)
-        self.left = set(self.below)
+        self.crates = {PROGRAM, *crates_below(PROGRAM)}
+        self.done, self.rooms = set(), []
 
-    def first(self):
-        """Proves the crate on which all others stand. Gives whether it is proved."""
-        return self.proved(next(crate for crate, below in self.below.items() if not below))
+    def libraries(self):
+        """Proves all libraries. Gives whether none has failed: with the first one that has, no further one begins."""
+        free, under_way, failed = self.jobs, {}, False
+        with ThreadPoolExecutor(self.jobs) as pool:
+            while True:
+                ready = [] if failed else self.ready(under_way.values())
+                while free and ready:
+                    crate = ready.pop(0)
+                    jobs = min(jobs_for(crate), max(1, free // (len(ready) + 1)))
+                    under_way[pool.submit(self.proved, crate, jobs)] = crate, jobs
+                    free -= jobs
+                if not under_way:
+                    return not failed
+                for run in wait(under_way, return_when=FIRST_COMPLETED).done:
+                    crate, jobs = under_way.pop(run)
+                    free += jobs
+                    failed = not self.noted(crate, run.result()) or failed
 
-    def side_by_side(self):
-        """Proves crates beside one another, as long as three of those that are left could be. Gives whether none has failed.
+    def ready(self, under_way):
+        """The libraries that could be next, those first above which most is left."""
+        begun = self.done | {crate for crate, _ in under_way}
+        ready = [crate for crate in self.crates - begun - {PROGRAM} if set(crates_below(crate)) <= self.done]
+        return sorted(ready, key=self.work_from, reverse=True)
 
-        They are those below a crate that stands on all libraries, which is small: the prover reads it through before it begins.
-        """
-        words = ["rt", "all", "check", "--jobs", str(self.jobs)]
-        how = {"stdout": subprocess.PIPE, "stderr": subprocess.STDOUT, "text": True, "start_new_session": True}
-        with subprocess.Popen(words, cwd=CRATES / LIBRARIES, **how) as proving:
-            crate = ""
-            for line in proving.stdout:
-                self.log.write(line)
-                is_bad = line.startswith("logic=not-proved")
-                if line.startswith("== ") and line != "== summary\n":
-                    crate = line[3:].strip()
-                    self.note(crate)
-                if is_bad or not self.has_three():
-                    os.killpg(proving.pid, signal.SIGTERM)
-                    if is_bad:
-                        print(f"{crate} is not proved")
-                    return not is_bad
-        return proving.returncode == 0
+    @cache
+    def work_from(self, crate):
+        """How many lines of code are proved one after another from a crate on, up to the program."""
+        above = [other for other in self.crates if crate in crates_below(other)]
+        return lines_of(crate) + max(map(self.work_from, above), default=0)
 
-    def has_three(self):
-        """Whether of some three crates that are left to be proved beside others none stands on another."""
-        threes = combinations(self.left & self.beside, 3)
-        return any(not any(starmap(self.are_in_line, combinations(three, 2))) for three in threes)
+    def proved(self, crate, jobs):
+        """Proves a library in a room. Gives whether it is proved, and what the prover said."""
+        room = self.rooms.pop() if self.rooms else Room(ROOMS / crate)
+        try:
+            return room.proved(crate, jobs)
+        finally:
+            self.rooms.append(room)
 
-    def are_in_line(self, one, other):
-        """Whether one of the crates stands on the other."""
-        return one in self.below[other] or other in self.below[one]
-
-    def last(self):
-        """Proves the libraries that are left, from the lowest up. Gives whether all are proved."""
-        return all(map(self.proved, sorted(self.left - {PROGRAM}, key=lambda crate: len(self.below[crate]))))
-
-    def proved(self, crate):
-        """Proves a library, beside which nothing runs. Gives whether it is proved."""
-        is_proved = self.run(crate, "lib") is not None
-        if is_proved:
-            self.note(crate)
-        return is_proved
-
-    def built(self):
-        """Proves and builds the program, and runs it. Gives the last word that it prints, or None."""
-        with open(CRATES / PROGRAM / "stdin", "rb") as empty:
-            printed = self.run(PROGRAM, "run", "--", "scratch", "--bits", "0", stdin=empty)
-        if printed is not None:
-            self.note(PROGRAM)
-        return printed and printed.split()[-1]
-
-    def run(self, crate, verb, *words, stdin=subprocess.DEVNULL):
-        """Runs rt in a crate. Gives what it prints, or None where that fails."""
+    def noted(self, crate, outcome):
+        """Says of a crate that it is done, or is not proved. Gives whether it is."""
+        is_proved, said = outcome
+        self.log.write(f"== {crate}\n{said}")
         self.log.flush()
-        jobs = str(min(JOBS_ALONE, self.jobs))
-        how = {"stdin": stdin, "stdout": subprocess.PIPE, "stderr": self.log, "text": True}
-        done = subprocess.run(["rt", verb, "--jobs", jobs, *words], cwd=CRATES / crate, check=False, **how)
-        self.log.write(done.stdout)
-        return done.stdout if done.returncode == 0 else None
-
-    def note(self, crate):
-        """Says that a crate is done, where that was not said yet."""
-        if crate not in self.left:
-            return
-        self.left.remove(crate)
-        done, every = len(self.below) - len(self.left), len(self.below)
+        if not is_proved:
+            print(f"{crate} is not proved", flush=True)
+            return False
+        self.done.add(crate)
         minutes, seconds = divmod(int(time.monotonic() - self.start), 60)
-        print(f"[{done:2} of {every}] {crate:16} done after {minutes} min {seconds:02} s", flush=True)
+        print(f"[{len(self.done):2} of {len(self.crates)}] {crate:16} done after {minutes} min {seconds:02} s", flush=True)
+        return True
+
+    def program(self):
+        """Proves and builds the program, and runs it. Gives the last word that it prints, or None."""
+        words = ["rt", "run", "--jobs", str(min(jobs_for(PROGRAM), self.jobs)), "--", "scratch", "--bits", "0"]
+        with open(CRATES / PROGRAM / "stdin", "rb") as empty:
+            how = {"stdin": empty, "stdout": subprocess.PIPE, "stderr": subprocess.PIPE, "text": True}
+            done = subprocess.run(words, cwd=CRATES / PROGRAM, check=False, **how)
+        is_proved = self.noted(PROGRAM, (done.returncode == 0, done.stderr))
+        return done.stdout.split()[-1] if is_proved else None
 
 
+class Room:
+    """A folder with the sources of all crates, in which one run at a time proves."""
+
+    def __init__(self, folder):
+        self.crates = folder / CRATES.name
+        for part in PARTS:
+            for sources in CRATES.glob(f"*/{part}"):
+                same_files(sources, self.crates / sources.relative_to(CRATES))
+        for name in ("crates.txt", "HANDLES"):
+            shutil.copy(TOP / name, folder / name)
+
+    def proved(self, crate, jobs):
+        """Proves a library, over what earlier runs kept of it. Gives whether it is proved, and what the prover said."""
+        for lower in crates_below(crate):
+            library = self.crates / lower / "out" / "rlib"
+            if not library.exists():
+                same_files(CRATES / lower / "out" / "rlib", library)
+        kept, out = CRATES / crate / "out", self.crates / crate / "out"
+        if kept.exists():
+            kept.rename(out)
+        try:
+            how = {"stdin": subprocess.DEVNULL, "stdout": subprocess.PIPE, "stderr": subprocess.STDOUT, "text": True}
+            done = subprocess.run(["rt", "lib", "--jobs", str(jobs)], cwd=self.crates / crate, check=False, **how)
+            return done.returncode == 0, done.stdout
+        finally:
+            if out.exists():
+                out.rename(kept)
+
+
+def same_files(folder, other):
+    """Gives the files of a folder a second name each, in another one."""
+    shutil.copytree(folder, other, copy_function=os.link)
+
+
+def lines_of(crate):
+    """How many lines of code a crate has."""
+    return sum(file.read_bytes().count(b"\n") for file in (CRATES / crate / "src").rglob("*.rt"))
+
+
+def jobs_for(crate):
+    """By how many jobs a crate is proved, where there are as many processors."""
+    return min(MOST_JOBS, 1 + lines_of(crate) // LINES_A_JOB)
+
+
+@cache
 def crates_below(name):
     """The crates of the repository on which a crate stands."""
     lines = (TOP / "crates.txt").read_text(encoding="utf-8").splitlines()
