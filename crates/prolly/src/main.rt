@@ -29,7 +29,7 @@ use crate::streams::ClosedStreams;
 use crate::words::read_words;
 use prolly_answer::{Answer, Fault};
 use prolly_line::parse;
-use prolly_tool::answer_refusal;
+use prolly_runs::answer_refusal;
 use std::alloc::AllocError;
 use std::process::ExitCode;
 use std::sync::Wait;

@@ -5,7 +5,7 @@ use crate::place::{Place, Replaced, Replacement};
 use crate::refusal::Refusal;
 use crate::target::Target;
 use prolly_answer::{Answer, Fault, NameFault};
-use prolly_tool::HeldBack;
+use prolly_runs::HeldBack;
 use std::alloc::AllocError;
 use std::fs::File;
 use std::io::{ErrorKind, Seek, SeekFrom, Write};

@@ -17,8 +17,8 @@ use Rattle.prolly_answer.specs.Apply.{ShowsApply}
 use Rattle.prolly_answer.specs.Build.{ShowsBuild}
 use Rattle.prolly_answer.specs.Outputs.{IsFlushedAs}
 use Rattle.prolly_answer.specs.declared.answers.answer.Answer.{Answer}
-use Rattle.prolly_tool.specs.declared.held_back.HeldBack.{HeldBack}
-use Rattle.prolly_tool.specs.declared.held_back.HeldBack.TheVariants.{Lost}
+use Rattle.prolly_runs.specs.declared.held_back.HeldBack.{HeldBack}
+use Rattle.prolly_runs.specs.declared.held_back.HeldBack.TheVariants.{Lost}
 
 -- What is told of a build behind which the flush failed: a tree that was made, or that is too tall,
 -- is told as a failed write, and any other fault as it is.

@@ -1,6 +1,6 @@
 //! The answer to words that give no command.
 ghost use Rattle.std.specs.Prelude.{IfOk};
-ghost use Rattle.prolly_tool.specs.Refusals.{ShowsRefusal};
+ghost use Rattle.prolly_runs.specs.Refusals.{ShowsRefusal};
 
 use prolly_answer::{Answer, Fault};
 use prolly_line::ParseFault;

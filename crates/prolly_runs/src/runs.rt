@@ -1,8 +1,8 @@
 //! What `build` and `apply` answer over files that are open: a run into a sink, what becomes of the
 //! sink behind it, and what is told of both.
 ghost use Rattle.std.specs.Prelude.{vec_len};
-ghost use Rattle.prolly_tool.specs.Runs.{AnswersApply, AnswersBuild, IsToldBehind};
-ghost use Rattle.prolly_tool.specs.Runs.{unapplied, unbuilt};
+ghost use Rattle.prolly_runs.specs.Runs.{AnswersApply, AnswersBuild, IsToldBehind};
+ghost use Rattle.prolly_runs.specs.Runs.{unapplied, unbuilt};
 
 use crate::held_back::HeldBack;
 use prolly_answer::{Answer, answer_apply, answer_build};

@@ -3,11 +3,6 @@
 //! of `prolly_file` and `prolly_root`.
 #![tactic(auto)]
 
-mod held_back;
-mod refusal;
-mod runs;
-
-pub use held_back::HeldBack;
 pub use prolly_answer::{
     Answer, ChosenBits, Fault, INPUT_LIMIT, NameFault, OutputFault, RootDiff, RootScan, Sample,
     SortedPack, StatForm, Stated, agreed_header, answer_apply, answer_build, answer_check,
@@ -25,9 +20,8 @@ pub use prolly_build::{
     Report, apply_changes, apply_changes_with, build, build_with,
 };
 pub use prolly_line::{Command, ParseFault, RootPair, Sought, WriteMode, parse};
+pub use prolly_runs::{HeldBack, answer_apply_into, answer_build_into, answer_refusal};
 pub use prolly_text::{
     KeysFault, LineForm, LinesFault, Notation, PackFault, RecordForm, keys_of_lines, pack_lines,
     pack_lines_in,
 };
-pub use refusal::answer_refusal;
-pub use runs::{answer_apply_into, answer_build_into};

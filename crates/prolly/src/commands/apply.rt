@@ -22,7 +22,7 @@ use prolly_io::{Blocks, FromFile, FromRead, Header, ToWrite};
 use prolly_line::Command;
 use prolly_progress::{CountedSink, CountedSource, CountingGate, Counts};
 use prolly_root::{FileChunks, RootFault, named_header};
-use prolly_tool::answer_apply_into;
+use prolly_runs::answer_apply_into;
 use std::alloc::AllocError;
 use std::fs::File;
 use std::sync::Wait;

@@ -20,7 +20,7 @@ use prolly_io::{FromRead, Rejoined, Source, SourceFault, ToWrite};
 use prolly_line::Command;
 use prolly_link::RunFault;
 use prolly_progress::{CountedSink, CountedSource, CountingGate, Counts};
-use prolly_tool::answer_build_into;
+use prolly_runs::answer_build_into;
 use std::alloc::AllocError;
 use std::fs::File;
 use std::sync::Wait;
