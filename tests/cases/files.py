@@ -108,6 +108,9 @@ NO_WRITE = (5, b"", b"prolly: write failed\n")
 MANY = 4_000
 """Pairs whose files take several writes."""
 
+WRITE_BYTES = 65_536
+"""How many bytes a build holds back before it writes."""
+
 
 SHORT = (1, 3, 7)
 """How many bytes each read and write moves at most."""

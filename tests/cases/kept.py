@@ -8,7 +8,7 @@ import subprocess
 from functools import partial
 
 from cases.dumps import lines
-from cases.files import FAULTS, IN_PLACE, MANY, NOT_LAST, OLD_ROOT, ROOT, WRITERS, in_place_of_out, laid, refusal
+from cases.files import FAULTS, IN_PLACE, MANY, NOT_LAST, OLD_ROOT, ROOT, WRITE_BYTES, WRITERS, in_place_of_out, laid, refusal
 from cases.scratch import ABC, numbered
 from oracle.proof import proof_of
 from oracle.trees import chunk_file, records, report, root_text, tree
@@ -46,9 +46,6 @@ KINDS = {
     "prove --root": "proof",
 }
 """What each command writes."""
-
-WRITE_BYTES = 65_536
-"""How many bytes a build holds back before it writes."""
 
 CALLS = ("statx", "open", "realpath", "readlink", "pread", "ftruncate", "flock", "fchmod", "fsync", "rename", "unlink")
 """The calls of the system that look at, open, make, lock, empty, rename or remove a file."""

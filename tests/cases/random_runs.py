@@ -8,6 +8,7 @@ from functools import partial
 from cases.diffs import difference, stat_line
 from cases.diffs_by_root import by_roots
 from cases.dumps import lines
+from cases.files import WRITE_BYTES
 from cases.named_root import asked as asked_root
 from cases.proofs import verdict
 from cases.surveys import as_json, explained, record_lines, record_numbers, table, tree_json
@@ -170,13 +171,15 @@ def apply(chance):
 
 def written(chance, name, left, status, is_begun=False):
     """What a file holds before a run that writes it, if it is there, and after it, and flags. After a fault it is as it was,
-    unless the run had begun to write and no flag had it write a file beside this one."""
+    unless it held nothing, and the run had begun to write and no flag had it write a file beside this one."""
     flags = [flag for flag in ("--atomic", "--sync") if chance.random() < 0.2]
     before = {name: chance.randbytes(20)} if chance.random() < 0.3 else {}
+    if is_begun and status and left and len(left) > WRITE_BYTES:
+        before = {}  # It would hold those of the bytes that were written before the fault was found.
     # What it holds is of no kind, so it has to be given up by a word.
     if before or chance.random() < 0.2:
         flags.append("--force")
-    is_changed = left is not None and (not status or (is_begun and "--atomic" not in flags))
+    is_changed = left is not None and (not status or (is_begun and not before and "--atomic" not in flags))
     return before, {name: left} if is_changed else {}, flags
 
 
