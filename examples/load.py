@@ -123,9 +123,10 @@ def arguments():
 def is_text(text):
     """Whether a text can be written. One with a half of a pair of code units, as JSON and words that are no UTF-8 may have, can't."""
     try:
-        return text.encode() is not None
+        text.encode()
     except UnicodeEncodeError:
         return False
+    return True
 
 
 def program_beside():
