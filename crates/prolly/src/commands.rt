@@ -25,9 +25,9 @@ ghost use Rattle.std.specs.Prelude.{◌≤◌};
 ghost use Rattle.prolly_line.specs.GivenCommand.{IsWithinLimits};
 
 use crate::host::Host;
-use crate::refusal::{Refusal, told};
-use prolly_answer::Answer;
 use prolly_entry::Version;
+use prolly_fault::Answer;
+use prolly_files::{Refusal, told};
 use prolly_line::Command;
 use std::alloc::AllocError;
 use std::sync::Wait;

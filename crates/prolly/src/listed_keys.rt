@@ -1,8 +1,8 @@
 //! The keys of a file of keys.
-use crate::found::Found;
-use crate::inputs::Input;
-use crate::refusal::Refusal;
-use prolly_answer::{Fault, Notation, read_keys};
+use prolly_answer::read_keys;
+use prolly_fault::Fault;
+use prolly_files::{Found, Input, Refusal};
+use prolly_text::Notation;
 
 /// The keys of a file of keys, and what that file is.
 #[derive(Drop)]

@@ -2,32 +2,18 @@
 //! the answer. What it says, and the status with which it ends, are those of `prolly_answer`.
 #![tactic(auto)]
 
-mod access;
 mod commands;
-mod found;
 mod host;
-mod inputs;
 mod known_root;
-mod links;
 mod listed_keys;
 mod named_tree;
-mod output;
-mod output_kind;
-mod patient;
-mod place;
-mod refusal;
-mod run_files;
-mod sinks;
-mod streams;
-mod target;
 mod words;
 
 use crate::commands::answer_of;
 use crate::host::Host;
-use crate::sinks::print;
-use crate::streams::ClosedStreams;
 use crate::words::read_words;
-use prolly_answer::{Answer, Fault};
+use prolly_fault::{Answer, Fault};
+use prolly_files::{ClosedStreams, print};
 use prolly_line::parse;
 use prolly_runs::answer_refusal;
 use std::alloc::AllocError;

@@ -3,11 +3,9 @@ ghost use Rattle.std.specs.Prelude.{◌≡◌, IfOk};
 ghost use Rattle.std.specs.Option.{option_map};
 ghost use Rattle.prolly.specs.Roots.{root_of};
 
-use crate::found::Found;
-use crate::inputs::{Chunks, Input, refuse_read_twice};
 use crate::known_root::KnownRoot;
-use crate::refusal::Refusal;
 use prolly_entry::{Ref, Version};
+use prolly_files::{Chunks, Found, Input, Refusal, refuse_read_twice};
 use prolly_io::FromRead;
 use std::fs::File;
 

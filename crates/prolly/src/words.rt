@@ -1,5 +1,5 @@
 //! The words of the command line.
-use prolly_answer::Fault;
+use prolly_fault::Fault;
 use std::env;
 use std::io::ErrorKind;
 

@@ -7,14 +7,14 @@ use Rattle.prolly_look_up.specs.Content.{Content, IsFileOf}
 use Rattle.prolly_check.specs.Verdict.{IsRefusal}
 use Rattle.prolly_check.specs.declared.verdict.fault.CheckFault.{CheckFault}
 use Rattle.prolly_check.specs.declared.verdict.fault.CheckFault.TheVariants.{Read}
-use Rattle.prolly_answer.specs.Answers.{ShowsFault}
+use Rattle.prolly_fault.specs.Answers.{ShowsFault}
 use Rattle.prolly_answer.specs.LookUps.{IsLookedUp, IsNoFileAs, file_limit}
-use Rattle.prolly_answer.specs.OutputFault.{told}
+use Rattle.prolly_fault.specs.OutputFault.{told}
 use Rattle.prolly_answer.specs.Outputs.{IsAnswer, IsShownPart, IsCutShort, IsPart}
-use Rattle.prolly_answer.specs.declared.answers.answer.Answer.{Answer}
-use Rattle.prolly_answer.specs.declared.faults.fault.Fault.{Fault}
-use Rattle.prolly_answer.specs.declared.faults.fault.Fault.TheVariants.{Write}
-use Rattle.prolly_answer.specs.declared.faults.output_fault.OutputFault.{OutputFault}
+use Rattle.prolly_fault.specs.declared.answer.Answer.{Answer}
+use Rattle.prolly_fault.specs.declared.fault.Fault.{Fault}
+use Rattle.prolly_fault.specs.declared.fault.Fault.TheVariants.{Write}
+use Rattle.prolly_fault.specs.declared.output_fault.OutputFault.{OutputFault}
 
 pub short_answer : {E : Type 0} (makes : List ℕ → List ℕ → Type 0) (at_fault : Fault → Type 0)
     (took_all took_part : List ℕ → Type 0) (untouched : Type 0)

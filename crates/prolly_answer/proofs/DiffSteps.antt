@@ -25,8 +25,8 @@ use Rattle.std.specs.Prelude.{IfOk, OnErr}
 use Rattle.prolly_check.specs.Chunks.{IsFile}
 use Rattle.prolly_look_up.specs.Content.{Content, IsFileOf}
 use Rattle.prolly_check.specs.lemmas.Sizes.{few_pairs}
-use Rattle.prolly_answer.specs.declared.faults.output_fault.OutputFault.TheVariants.{Memory, Write}
-use Rattle.prolly_answer.specs.declared.answers.answer.Answer.{Answer}
+use Rattle.prolly_fault.specs.declared.output_fault.OutputFault.TheVariants.{Memory, Write}
+use Rattle.prolly_fault.specs.declared.answer.Answer.{Answer}
 use Rattle.prolly_answer.specs.declared.answers.diff.ChangeCounts.{ChangeCounts}
 use Rattle.prolly_text.specs.declared.lines.form.RecordForm.{RecordForm}
 use Rattle.prolly_answer.specs.Counts.{AreCounts}

@@ -10,7 +10,7 @@ use Rattle.prolly_io.specs.Writes.{Writes}
 use Rattle.prolly_text.specs.declared.notation.Notation.{Notation}
 use Rattle.prolly_tree.specs.Difference.{puts}
 use Rattle.prolly_tree.specs.RecordFile.{record_file}
-use Rattle.prolly_answer.specs.declared.faults.output_fault.OutputFault.TheVariants.{Write}
+use Rattle.prolly_fault.specs.declared.output_fault.OutputFault.TheVariants.{Write}
 use Rattle.prolly_text.specs.declared.lines.form.RecordForm.{RecordForm}
 use Rattle.prolly_text.specs.declared.lines.form.RecordForm.TheVariants.{Lines, Records}
 use Rattle.prolly_answer.specs.Dump.{IsStoppedDump, MayStop, RecordFilesAreDumped}

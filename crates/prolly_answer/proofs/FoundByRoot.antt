@@ -9,12 +9,12 @@ use Rattle.prolly_root.specs.Reader.{ReaderView}
 use Rattle.prolly_root.specs.RootFault.{TellsFailure, TellsReads}
 use Rattle.prolly_root.specs.declared.root_fault.RootFault.{RootFault}
 use Rattle.prolly_text.specs.declared.notation.Notation.{Notation}
-use Rattle.prolly_answer.specs.Answers.{ShowsFault}
+use Rattle.prolly_fault.specs.Answers.{ShowsFault}
 use Rattle.prolly_answer.specs.LookUps.{ShowsFound, ShowsFoundPair, ShowsFoundRaw, ShowsPair}
 use Rattle.prolly_answer.specs.LookUps.{ShowsRaw, ShowsValue}
 use Rattle.prolly_answer.specs.RootLookUps.{IsFoundByRoot, IsLookUpByRoot}
-use Rattle.prolly_answer.specs.declared.answers.answer.Answer.{Answer}
-use Rattle.prolly_answer.specs.declared.faults.fault.Fault.TheVariants.{Root}
+use Rattle.prolly_fault.specs.declared.answer.Answer.{Answer}
+use Rattle.prolly_fault.specs.declared.fault.Fault.TheVariants.{Root}
 
 module _ {V E : Type 0} (is_way : List (List ℕ) → V → Type 0) (shows : Answer → V → Type 0)
     (may : RootFault → Type 0) (old new : ℕ) where

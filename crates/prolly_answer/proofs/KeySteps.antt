@@ -21,10 +21,10 @@ use Rattle.prolly_answer.specs.KeyLookUps.{AreFoundByRoot, AreWays, FitsKeys, Ke
 use Rattle.prolly_answer.specs.KeyLookUps.{found_at, found_line, found_lines}
 use Rattle.prolly_answer.specs.RootOutcomes.{Outcome, TakesAllFor, TakesFor}
 use Rattle.prolly_answer.specs.Outputs.{IsSettledAs, TookBytes, TookSoFar, TookUntil}
-use Rattle.prolly_answer.specs.declared.faults.output_fault.OutputFault.{OutputFault}
-use Rattle.prolly_answer.specs.declared.faults.output_fault.OutputFault.TheVariants as outputs
-use Rattle.prolly_answer.specs.declared.faults.root_output_fault.RootOutputFault.TheVariants.{Output}
-use Rattle.prolly_answer.specs.declared.faults.root_output_fault.RootOutputFault.TheVariants.{Root}
+use Rattle.prolly_fault.specs.declared.output_fault.OutputFault.{OutputFault}
+use Rattle.prolly_fault.specs.declared.output_fault.OutputFault.TheVariants as outputs
+use Rattle.prolly_fault.specs.declared.root_output_fault.RootOutputFault.TheVariants.{Output}
+use Rattle.prolly_fault.specs.declared.root_output_fault.RootOutputFault.TheVariants.{Root}
 use Rattle.prolly_answer.proofs.RootSteps.{taken_told}
 use Rattle.prolly_answer.proofs.ScanSteps.{so_told, took_also, until_also}
 use Rattle.prolly_answer.proofs.Writing.{took_none}

@@ -41,12 +41,12 @@ use Rattle.prolly_answer.specs.RootDiffs.{before_of, fault_of, WroteIn, record_o
 use Rattle.std.specs.Prelude.{IfErr, IfOk}
 use Rattle.prolly_answer.specs.declared.answers.root_diff.Told.{Told}
 use Rattle.prolly_answer.specs.declared.answers.diff.ChangeCounts.{ChangeCounts}
-use Rattle.prolly_answer.specs.OutputFault.{told}
-use Rattle.prolly_answer.specs.declared.faults.output_fault.OutputFault.{OutputFault}
-use Rattle.prolly_answer.specs.declared.faults.output_fault.OutputFault.TheVariants as outputs
+use Rattle.prolly_fault.specs.OutputFault.{told}
+use Rattle.prolly_fault.specs.declared.output_fault.OutputFault.{OutputFault}
+use Rattle.prolly_fault.specs.declared.output_fault.OutputFault.TheVariants as outputs
 use Rattle.prolly_answer.specs.RootOutcomes.{RefusesNone}
-use Rattle.prolly_answer.specs.declared.faults.fault.Fault.{Fault}
-use Rattle.prolly_answer.specs.declared.faults.fault.Fault.TheVariants as faults
+use Rattle.prolly_fault.specs.declared.fault.Fault.{Fault}
+use Rattle.prolly_fault.specs.declared.fault.Fault.TheVariants as faults
 use Rattle.prolly_answer.proofs.Counting.{line_is}
 use Rattle.prolly_answer.proofs.Writing.{flushed, took_more, took_none, took_until, unflushed}
 

@@ -29,10 +29,10 @@ use Rattle.prolly_answer.specs.Outputs.{IsSettledAs, TookAll, TookBytes, TookPar
 use Rattle.prolly_answer.specs.RootDumps.{written_pairs}
 use Rattle.prolly_answer.specs.RootOutcomes.{FitsOutcome, IsWrittenByRoot, Outcome}
 use Rattle.prolly_answer.specs.RootOutcomes.{Scanned, TakesAllFor, TakesFor}
-use Rattle.prolly_answer.specs.declared.faults.output_fault.OutputFault.{OutputFault}
-use Rattle.prolly_answer.specs.declared.faults.output_fault.OutputFault.TheVariants.{Memory, Write}
-use Rattle.prolly_answer.specs.declared.faults.root_output_fault.RootOutputFault.TheVariants.{Output}
-use Rattle.prolly_answer.specs.declared.faults.root_output_fault.RootOutputFault.TheVariants.{Root}
+use Rattle.prolly_fault.specs.declared.output_fault.OutputFault.{OutputFault}
+use Rattle.prolly_fault.specs.declared.output_fault.OutputFault.TheVariants.{Memory, Write}
+use Rattle.prolly_fault.specs.declared.root_output_fault.RootOutputFault.TheVariants.{Output}
+use Rattle.prolly_fault.specs.declared.root_output_fault.RootOutputFault.TheVariants.{Root}
 use Rattle.prolly_answer.proofs.DumpSteps.{put_of, record_files_are_dumped}
 use Rattle.prolly_answer.proofs.KeyRanks.{AreBytes, less_room_above, room_above}
 use Rattle.prolly_answer.proofs.ScanSteps.{all_flushed, all_unflushed, behind, behind_more}

@@ -16,8 +16,8 @@ use Rattle.prolly_answer.specs.LookUps.{pair_lines, pair_text}
 use Rattle.prolly_answer.specs.Outputs.{IsSettledAs, TookAll, TookBytes, TookPart, TookPrefix}
 use Rattle.prolly_answer.specs.Outputs.{TookUntil}
 use Rattle.prolly_answer.specs.RootScans.{AreEnough, limited_lines}
-use Rattle.prolly_answer.specs.declared.faults.output_fault.OutputFault.{OutputFault}
-use Rattle.prolly_answer.specs.declared.faults.output_fault.OutputFault.TheVariants as outputs
+use Rattle.prolly_fault.specs.declared.output_fault.OutputFault.{OutputFault}
+use Rattle.prolly_fault.specs.declared.output_fault.OutputFault.TheVariants as outputs
 use Rattle.prolly_answer.proofs.Writing.{TookSoFar, flushed, unflushed}
 
 -- ---- look-ups one after another

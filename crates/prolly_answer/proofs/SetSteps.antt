@@ -25,16 +25,17 @@ use Rattle.prolly_range.specs.declared.fault.SetFault.TheVariants as sets
 use Rattle.prolly_range.specs.lemmas.Taken.{taken_more}
 use Rattle.prolly_text.specs.declared.notation.Notation.{Notation}
 use Rattle.prolly_tree.specs.Events.{greatest_count}
-use Rattle.prolly_answer.specs.OutputFault.{told}
+use Rattle.prolly_fault.specs.OutputFault.{told}
 use Rattle.prolly_answer.specs.Outputs.{IsSettledAs, TookAll, TookPart, WroteOwn}
 use Rattle.prolly_answer.specs.SetLines.{FitsLeft, RisesIn, alone_lines, left_at_first, left_behind}
 use Rattle.prolly_answer.specs.SetLines.{lines_at_end, lines_so_far, more_lines}
 use Rattle.prolly_answer.specs.SetProofs.{BeginsWithChunks, IsEndedSet, IsNoSetProof, IsStoppedSet}
-use Rattle.prolly_answer.specs.SetProofs.{IsVerifiedSet, StoppedSet, TellsProofReads, told_set}
-use Rattle.prolly_answer.specs.declared.faults.fault.Fault.{Fault}
-use Rattle.prolly_answer.specs.declared.faults.fault.Fault.TheVariants.{Memory, Read, Write}
-use Rattle.prolly_answer.specs.declared.faults.output_fault.OutputFault.{OutputFault}
-use Rattle.prolly_answer.specs.declared.faults.output_fault.OutputFault.TheVariants as outputs
+use Rattle.prolly_answer.specs.SetProofs.{IsVerifiedSet, StoppedSet, TellsProofReads}
+use Rattle.prolly_fault.specs.SetFaults.{told_set}
+use Rattle.prolly_fault.specs.declared.fault.Fault.{Fault}
+use Rattle.prolly_fault.specs.declared.fault.Fault.TheVariants.{Memory, Read, Write}
+use Rattle.prolly_fault.specs.declared.output_fault.OutputFault.{OutputFault}
+use Rattle.prolly_fault.specs.declared.output_fault.OutputFault.TheVariants as outputs
 use Rattle.prolly_range.specs.lemmas.Rests.{not_begun, rest_behind, rest_begins}
 use Rattle.prolly_answer.proofs.ShownKeys.{IsLeft, SomeOfSet, left_begins, left_fits, left_goes_on}
 use Rattle.prolly_answer.proofs.ShownKeys.{lines_ended, lines_more, lines_of_none, some_of_set}

@@ -13,7 +13,7 @@ use Rattle.prolly_tree.specs.Split.{in_front}
 use Rattle.prolly_sort.specs.Run.{AreDoubled}
 use Rattle.prolly_sort.specs.declared.fault.SorterFault.{SorterFault}
 use Rattle.prolly_sort.specs.declared.fault.SorterFault.TheVariants as sorters
-use Rattle.prolly_answer.specs.Faults.{of_read_lines, of_sorter}
+use Rattle.prolly_fault.specs.Faults.{of_read_lines, of_sorter}
 use Rattle.prolly_answer.specs.SortedPack.{IsSortingFault}
 
 -- A text of some bytes has a first line.

@@ -2,7 +2,7 @@
 use Rattle.std.proofs.Common.{◌≡◌, ℕ, List, Bool, inl, subst, Result, Ok, Err}
 use Rattle.std.specs.Prelude.{IfOk, ◌≢◌}
 use Rattle.prolly_answer.specs.Stat.{IsStat, IsStatOf, is_chunk_file}
-use Rattle.prolly_answer.specs.declared.answers.answer.Answer.{Answer}
+use Rattle.prolly_fault.specs.declared.answer.Answer.{Answer}
 use Rattle.prolly_answer.specs.declared.answers.stat.StatForm.{StatForm}
 
 -- what is answered of bytes of a kind, and of failures from one number to another, is answered of

@@ -1,6 +1,6 @@
 -- The status of several files, of which one more was answered.
 use Rattle.std.proofs.Common.{◌≡◌, ◌≢◌, ℕ, zero, suc, List, [], ◌∷◌, ◌++◌, refl}
-use Rattle.prolly_answer.specs.Answers.{first_refusal}
+use Rattle.prolly_fault.specs.Answers.{first_refusal}
 
 -- Where none was refused before, it is that of the one.
 pub none_refused : (before : List ℕ) (status : ℕ) → first_refusal before ≡ 0 →

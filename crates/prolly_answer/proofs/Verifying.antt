@@ -6,11 +6,11 @@ use Rattle.prolly_root.specs.ProofFault.{IsFault}
 use Rattle.prolly_root.specs.ProofFile.{IsProof}
 use Rattle.prolly_root.specs.declared.proof.fault.ProofFault.{ProofFault}
 use Rattle.prolly_text.specs.declared.notation.Notation.{Notation}
-use Rattle.prolly_answer.specs.Answers.{ShowsFault}
+use Rattle.prolly_fault.specs.Answers.{ShowsFault}
 use Rattle.prolly_answer.specs.Input.{IsReadWhole}
 use Rattle.prolly_answer.specs.Proofs.{IsVerify}
-use Rattle.prolly_answer.specs.declared.answers.answer.Answer.{Answer}
-use Rattle.prolly_answer.specs.declared.faults.fault.Fault.TheVariants.{Proof}
+use Rattle.prolly_fault.specs.declared.answer.Answer.{Answer}
+use Rattle.prolly_fault.specs.declared.fault.Fault.TheVariants.{Proof}
 
 pub proof_refused : {E : Type 0} (notation : Notation) (version : Version)
     (root key bytes : List ℕ) (failed : Type 0) (fault : ProofFault) (result : Result Answer E) →

@@ -4,15 +4,15 @@ use Rattle.prolly_look_up.specs.Content.{Content}
 use Rattle.prolly_entry.specs.Pair.{Pair}
 use Rattle.prolly_entry.specs.Record.{Record}
 use Rattle.prolly_tree.specs.Difference.{IsDifference}
-use Rattle.prolly_answer.specs.Answers.{Shows}
+use Rattle.prolly_fault.specs.Answers.{Shows}
 use Rattle.prolly_answer.specs.Counts.{are_some, counts_line}
 use Rattle.prolly_answer.specs.LookUps.{IsLookedUp, IsNoFileAs}
 use Rattle.prolly_answer.specs.Outputs.{IsShownPart}
 use Rattle.prolly_text.specs.RecordForms.{written_records}
-use Rattle.prolly_answer.specs.declared.answers.answer.Answer.{Answer}
-use Rattle.prolly_answer.specs.declared.faults.output_fault.OutputFault.{OutputFault}
+use Rattle.prolly_fault.specs.declared.answer.Answer.{Answer}
+use Rattle.prolly_fault.specs.declared.output_fault.OutputFault.{OutputFault}
 use Rattle.prolly_text.specs.declared.lines.form.RecordForm.{RecordForm}
-use Rattle.prolly_answer.specs.declared.faults.fault.Fault.TheVariants.{CheckOld, CheckNew}
+use Rattle.prolly_fault.specs.declared.fault.Fault.TheVariants.{CheckOld, CheckNew}
 
 -- ---- of which difference
 

@@ -4,13 +4,13 @@ use Rattle.prolly_entry.specs.Pair.{Pair}
 use Rattle.prolly_entry.specs.Record.{Record}
 use Rattle.prolly_tree.specs.Difference.{puts}
 use Rattle.prolly_tree.specs.RecordFile.{record_file}
-use Rattle.prolly_answer.specs.Answers.{ShowsDone}
+use Rattle.prolly_fault.specs.Answers.{ShowsDone}
 use Rattle.prolly_answer.specs.LookUps.{IsLookedUp, IsNoFile}
 use Rattle.prolly_answer.specs.Outputs.{IsShownPart}
 use Rattle.prolly_text.specs.RecordForms.{written_records}
-use Rattle.prolly_answer.specs.declared.answers.answer.Answer.{Answer}
-use Rattle.prolly_answer.specs.declared.faults.output_fault.OutputFault.{OutputFault}
-use Rattle.prolly_answer.specs.declared.faults.output_fault.OutputFault.TheVariants.{Write}
+use Rattle.prolly_fault.specs.declared.answer.Answer.{Answer}
+use Rattle.prolly_fault.specs.declared.output_fault.OutputFault.{OutputFault}
+use Rattle.prolly_fault.specs.declared.output_fault.OutputFault.TheVariants.{Write}
 use Rattle.prolly_text.specs.declared.lines.form.RecordForm.{RecordForm}
 use Rattle.prolly_text.specs.declared.lines.form.RecordForm.TheVariants.{Lines, Records}
 

@@ -7,10 +7,10 @@ use Rattle.prolly_io.specs.Source.{SourceView}
 use Rattle.prolly_text.specs.FaultyLines.{AreExplained}
 use Rattle.prolly_text.specs.declared.lines.explain.LineCounts.{LineCounts}
 use Rattle.prolly_text.specs.declared.lines.form.LineForm.{LineForm}
-use Rattle.prolly_answer.specs.Answers.{Shows, ShowsFault, ShowsLine}
+use Rattle.prolly_fault.specs.Answers.{Shows, ShowsFault, ShowsLine}
 use Rattle.prolly_answer.specs.Surveys.{IsReadFailure}
-use Rattle.prolly_answer.specs.declared.answers.answer.Answer.{Answer}
-use Rattle.prolly_answer.specs.declared.faults.fault.Fault.TheVariants.{InputTooLong}
+use Rattle.prolly_fault.specs.declared.answer.Answer.{Answer}
+use Rattle.prolly_fault.specs.declared.fault.Fault.TheVariants.{InputTooLong}
 
 -- How many faulty lines are explained: the first one, or each up to a hundred.
 abbrev pub limit_of : Bool → ℕ

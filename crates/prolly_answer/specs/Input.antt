@@ -1,7 +1,7 @@
 -- How a command reads its input, and what it says of one that it can't read whole.
 use Rattle.std.specs.Prelude.{ℕ, ◌<◌, ◌≤◌, List, length}
-use Rattle.prolly_answer.specs.declared.faults.fault.Fault.{Fault}
-use Rattle.prolly_answer.specs.declared.faults.fault.Fault.TheVariants.{Memory, Read, InputTooLong}
+use Rattle.prolly_fault.specs.declared.fault.Fault.{Fault}
+use Rattle.prolly_fault.specs.declared.fault.Fault.TheVariants.{Memory, Read, InputTooLong}
 
 -- The input was read whole: it is no longer than a command reads, and no read failed.
 pub record IsReadWhole (bytes : List ℕ) (has_failed : Type 0) : Type 0 where

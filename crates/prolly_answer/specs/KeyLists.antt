@@ -3,8 +3,8 @@ use Rattle.std.specs.Prelude.{ℕ, List}
 use Rattle.prolly_text.specs.KeyLines.{IsKeyList, IsKeysFault}
 use Rattle.prolly_text.specs.declared.notation.Notation.{Notation}
 use Rattle.prolly_answer.specs.Input.{IsInputFault, IsReadWhole}
-use Rattle.prolly_answer.specs.declared.faults.fault.Fault.{Fault}
-use Rattle.prolly_answer.specs.declared.faults.fault.Fault.TheVariants.{Keys}
+use Rattle.prolly_fault.specs.declared.fault.Fault.{Fault}
+use Rattle.prolly_fault.specs.declared.fault.Fault.TheVariants.{Keys}
 
 -- The text was read whole, and is a list of these keys.
 pub record ReadsKeys (notation : Notation) (text : List ℕ) (has_failed : Type 0)

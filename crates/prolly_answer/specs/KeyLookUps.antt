@@ -14,14 +14,14 @@ use Rattle.prolly_text.specs.declared.notation.Notation.{Notation}
 use Rattle.prolly_tree.specs.Difference.{IsMap}
 use Rattle.prolly_tree.specs.File.{root_reference}
 use Rattle.prolly_tree.specs.LookUp.{find}
-use Rattle.prolly_answer.specs.Answers.{ShowsDone}
+use Rattle.prolly_fault.specs.Answers.{ShowsDone}
 use Rattle.prolly_answer.specs.LookUps.{IsLookedUp, IsNoFile}
 use Rattle.prolly_answer.specs.Outputs.{IsShownPart}
 use Rattle.prolly_answer.specs.RootOutcomes.{Outcome}
-use Rattle.prolly_answer.specs.declared.answers.answer.Answer.{Answer}
-use Rattle.prolly_answer.specs.declared.faults.output_fault.OutputFault.{OutputFault}
-use Rattle.prolly_answer.specs.declared.faults.root_output_fault.RootOutputFault.TheVariants.{Output}
-use Rattle.prolly_answer.specs.declared.faults.root_output_fault.RootOutputFault.TheVariants.{Root}
+use Rattle.prolly_fault.specs.declared.answer.Answer.{Answer}
+use Rattle.prolly_fault.specs.declared.output_fault.OutputFault.{OutputFault}
+use Rattle.prolly_fault.specs.declared.root_output_fault.RootOutputFault.TheVariants.{Output}
+use Rattle.prolly_fault.specs.declared.root_output_fault.RootOutputFault.TheVariants.{Root}
 
 -- What a map has at each of the keys: a value, or nothing.
 abbrev pub found_at : List Pair → List (List ℕ) → List Record

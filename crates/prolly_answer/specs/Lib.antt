@@ -1,7 +1,5 @@
 -- How a command reads its input, and what it says of one that it can't read whole.
 pub mod Input
--- Why an output is not written whole.
-pub mod OutputFault
 -- What a command that makes a file does to the sink that it is lent, and what it answers.
 pub mod Outputs
 -- What the command `scratch` answers.
@@ -10,16 +8,6 @@ pub mod Scratch
 pub mod Pack
 -- What `pack` answers of lines in any order.
 pub mod SortedPack
--- The line and the status of each fault. (This project's texts.)
-pub mod Faults
--- What a line says of a file that it names. (This project's texts.)
-pub mod Names
--- What the program prints.
-pub mod Answers
--- What the command `build` prints.
-pub mod Build
--- What the command `apply` asks of the old file's header, and what it prints.
-pub mod Apply
 -- The bits by which chunks have about so many bytes.
 pub mod ChunkBytes
 -- What the commands that read a chunk file print.

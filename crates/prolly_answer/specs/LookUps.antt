@@ -25,12 +25,12 @@ use Rattle.prolly_check.specs.declared.verdict.fault.CheckFault.TheVariants.{Rea
 use Rattle.prolly_root.specs.declared.root_fault.RootFault.{RootFault}
 use Rattle.prolly_text.specs.Notations.{separator, written}
 use Rattle.prolly_text.specs.declared.notation.Notation.{Notation}
-use Rattle.prolly_answer.specs.Answers.{Shows, ShowsLine, ShowsNothing, ShowsFault}
+use Rattle.prolly_fault.specs.Answers.{Shows, ShowsLine, ShowsNothing, ShowsFault}
 use Rattle.prolly_answer.specs.Input.{IsReadWhole}
-use Rattle.prolly_answer.specs.declared.answers.answer.Answer.{Answer}
-use Rattle.prolly_answer.specs.declared.faults.fault.Fault.{Fault}
-use Rattle.prolly_answer.specs.declared.faults.fault.Fault.TheVariants.{Check, Root, NoCounts}
-use Rattle.prolly_answer.specs.declared.faults.fault.Fault.TheVariants.{Stream}
+use Rattle.prolly_fault.specs.declared.answer.Answer.{Answer}
+use Rattle.prolly_fault.specs.declared.fault.Fault.{Fault}
+use Rattle.prolly_fault.specs.declared.fault.Fault.TheVariants.{Check, Root, NoCounts}
+use Rattle.prolly_fault.specs.declared.fault.Fault.TheVariants.{Stream}
 
 -- How many bytes a chunk file has at most that a command reads.
 abbrev pub file_limit : ℕ

@@ -12,9 +12,9 @@ use Rattle.prolly_root.specs.NamedRoot.{TellsEnd}
 use Rattle.prolly_root.specs.declared.file.named_root_fault.NamedRootFault.{NamedRootFault}
 use Rattle.prolly_root.specs.declared.file.named_root_fault.NamedRootFault.TheVariants as named
 use Rattle.prolly_tree.specs.File.{root_reference}
-use Rattle.prolly_answer.specs.Answers.{ShowsFault, ShowsLine}
-use Rattle.prolly_answer.specs.declared.answers.answer.Answer.{Answer}
-use Rattle.prolly_answer.specs.declared.faults.fault.Fault.TheVariants.{Check}
+use Rattle.prolly_fault.specs.Answers.{ShowsFault, ShowsLine}
+use Rattle.prolly_fault.specs.declared.answer.Answer.{Answer}
+use Rattle.prolly_fault.specs.declared.fault.Fault.TheVariants.{Check}
 
 -- The fault of a check that is told where a file names no root.
 abbrev pub check_fault : NamedRootFault → CheckFault

@@ -1,16 +1,16 @@
 -- What a command that makes a file does to the sink that it is lent, and what it answers.
 use Rattle.std.specs.Prelude.{◌≡◌, ◌≢◌, ℕ, ◌⊎◌, true, List, ◌++◌, Option, Some, None, Result, Ok, Err}
 use Rattle.prolly_entry.specs.Record.{Record}
-use Rattle.prolly_io.specs.Failures.{after_failure}
 use Rattle.prolly_io.specs.Sink.{IsSettled, SinkView, TakesPrefix}
 use Rattle.prolly_io.specs.Writes.{Writes}
-use Rattle.prolly_answer.specs.declared.answers.answer.Answer.{Answer}
-use Rattle.prolly_answer.specs.declared.faults.fault.Fault.{Fault}
-use Rattle.prolly_answer.specs.declared.faults.fault.Fault.TheVariants as faults
-use Rattle.prolly_answer.specs.declared.faults.output_fault.OutputFault.{OutputFault}
-use Rattle.prolly_answer.specs.declared.faults.output_fault.OutputFault.TheVariants.{Memory, Write}
-use Rattle.prolly_answer.specs.Answers.{ShowsLine, ShowsFault}
-use Rattle.prolly_answer.specs.OutputFault.{told}
+use Rattle.prolly_fault.specs.declared.answer.Answer.{Answer}
+use Rattle.prolly_fault.specs.declared.fault.Fault.{Fault}
+use Rattle.prolly_fault.specs.declared.fault.Fault.TheVariants as faults
+use Rattle.prolly_fault.specs.declared.output_fault.OutputFault.{OutputFault}
+use Rattle.prolly_fault.specs.declared.output_fault.OutputFault.TheVariants.{Memory, Write}
+use Rattle.prolly_fault.specs.Answers.{ShowsLine, ShowsFault}
+use Rattle.prolly_fault.specs.Flushes.{IsFlushedAs}
+use Rattle.prolly_fault.specs.OutputFault.{told}
 
 -- ---- sinks
 
@@ -58,15 +58,6 @@ WroteOwn {T = T} seen own old new (Ok x) =
 WroteOwn seen own old new (Err Memory) = new ≡ old
 WroteOwn {T = T} seen own old new (Err Write) =
     Writes {T = T} {E = OutputFault} own (seen old) (seen new) (Err Write)
-
--- The sink was flushed, which takes no more bytes. It holds nothing back then, and the outcome is
--- answered; or else the flush failed, and what is to be said of that.
-pub record IsFlushedAs {W T F : Type 0} (seen : W → SinkView) (failed : Result T F) (old new : W)
-    (outcome answered : Result T F) : Type 0 where
-  pub same : (seen old).is_keeping ≡ true → (seen new).taken ≡ (seen old).taken
-  pub tells : ((answered ≡ outcome) × ((seen new).failures ≡ (seen old).failures) ×
-      IsSettled (seen new))
-      ⊎ ((answered ≡ failed) × ((seen new).failures ≡ after_failure (seen old).failures))
 
 -- So it was, where no write had failed before.
 abbrev pub IsSettledAs : {W T F : Type 0} → (W → SinkView) → F → W → W → Result T F → Result T F →

@@ -4,13 +4,13 @@ use Rattle.std.specs.Prelude.{◌≢◌, Result, IfOk, OnErr}
 use Rattle.std.specs.declared.alloc.AllocError.{AllocError}
 use Rattle.std.specs.Fmt.{decimal}
 use Rattle.prolly_text.specs.declared.lines.form.LineForm.{LineForm}
-use Rattle.prolly_answer.specs.declared.faults.fault.Fault.{Fault}
-use Rattle.prolly_answer.specs.declared.faults.fault.Fault.TheVariants.{Pack, Read}
+use Rattle.prolly_fault.specs.declared.fault.Fault.{Fault}
+use Rattle.prolly_fault.specs.declared.fault.Fault.TheVariants.{Pack, Read}
 use Rattle.prolly_io.specs.Sink.{SinkView}
 use Rattle.prolly_io.specs.Source.{SourceView}
-use Rattle.prolly_answer.specs.Answers.{ShowsFault}
+use Rattle.prolly_fault.specs.Answers.{ShowsFault}
 use Rattle.prolly_answer.specs.Outputs.{IsAnswer, IsCutShort, TookAll, TookPart}
-use Rattle.prolly_answer.specs.declared.answers.answer.Answer.{Answer}
+use Rattle.prolly_fault.specs.declared.answer.Answer.{Answer}
 use Rattle.prolly_answer.specs.Input.{IsReadWhole, IsInputFault}
 use Rattle.prolly_text.specs.PackedLines.{IsLinesFault, Packs}
 

@@ -6,13 +6,13 @@ use Rattle.prolly_root.specs.ProofFault.{IsFault}
 use Rattle.prolly_root.specs.ProofFile.{IsProof, IsProofOf, IsSomeProof}
 use Rattle.prolly_root.specs.declared.root_fault.RootFault.{RootFault}
 use Rattle.prolly_text.specs.declared.notation.Notation.{Notation}
-use Rattle.prolly_answer.specs.Answers.{ShowsDone, ShowsFault}
+use Rattle.prolly_fault.specs.Answers.{ShowsDone, ShowsFault}
 use Rattle.prolly_answer.specs.Input.{IsInputFault, IsReadWhole}
 use Rattle.prolly_answer.specs.LookUps.{IsLookedUp, IsNoFile, ShowsValue}
 use Rattle.prolly_answer.specs.Outputs.{IsRefused}
-use Rattle.prolly_answer.specs.declared.answers.answer.Answer.{Answer}
-use Rattle.prolly_answer.specs.declared.faults.fault.Fault.{Fault}
-use Rattle.prolly_answer.specs.declared.faults.fault.Fault.TheVariants.{Proof, Root, Write}
+use Rattle.prolly_fault.specs.declared.answer.Answer.{Answer}
+use Rattle.prolly_fault.specs.declared.fault.Fault.{Fault}
+use Rattle.prolly_fault.specs.declared.fault.Fault.TheVariants.{Proof, Root, Write}
 
 -- ---- proofs that are made
 

@@ -9,7 +9,7 @@ use Rattle.prolly_entry.specs.Record.{Record}
 use Rattle.prolly_entry.specs.declared.version.Version.{Version}
 use Rattle.prolly_io.specs.Failures.{after_failure}
 use Rattle.prolly_io.specs.Sink.{SinkView}
-use Rattle.prolly_answer.specs.declared.faults.output_fault.OutputFault.{OutputFault}
+use Rattle.prolly_fault.specs.declared.output_fault.OutputFault.{OutputFault}
 use Rattle.prolly_root.specs.declared.root_fault.RootFault.{RootFault}
 use Rattle.prolly_root.specs.declared.root_fault.RootFault.TheVariants.{Read}
 use Rattle.prolly_chunk.specs.declared.missing.Missing.{Missing}
@@ -22,19 +22,19 @@ use Rattle.prolly_root_diff.specs.declared.fault.RootDiffFault.{RootDiffFault}
 use Rattle.prolly_root_diff.specs.declared.fault.RootDiffFault.TheVariants as walks
 use Rattle.prolly_text.specs.RecordForms.{spelled}
 use Rattle.prolly_text.specs.declared.lines.form.RecordForm.{RecordForm}
-use Rattle.prolly_answer.specs.Answers.{Shows, ShowsFault}
+use Rattle.prolly_fault.specs.Answers.{Shows, ShowsFault}
 use Rattle.prolly_answer.specs.Counts.{AreCounts, are_some, counts_line, stat_text}
 use Rattle.prolly_answer.specs.Diff.{status_of}
 use Rattle.prolly_answer.specs.Outputs.{WroteOwn}
 use Rattle.prolly_tree.specs.Difference.{IsMap}
 use Rattle.prolly_tree.specs.File.{root_reference}
 use Rattle.prolly_tree.specs.LookUp.{find}
-use Rattle.prolly_answer.specs.declared.answers.answer.Answer.{Answer}
+use Rattle.prolly_fault.specs.declared.answer.Answer.{Answer}
 use Rattle.prolly_answer.specs.declared.answers.diff.ChangeCounts.{ChangeCounts}
 use Rattle.prolly_answer.specs.declared.answers.root_diff.Told.{Told}
-use Rattle.prolly_answer.specs.declared.faults.fault.Fault.{Fault}
-use Rattle.prolly_answer.specs.declared.faults.fault.Fault.TheVariants.{Memory, RootNew, RootOld}
-use Rattle.prolly_answer.specs.declared.faults.fault.Fault.TheVariants.{Write}
+use Rattle.prolly_fault.specs.declared.fault.Fault.{Fault}
+use Rattle.prolly_fault.specs.declared.fault.Fault.TheVariants.{Memory, RootNew, RootOld}
+use Rattle.prolly_fault.specs.declared.fault.Fault.TheVariants.{Write}
 
 -- ---- what was given
 

@@ -5,10 +5,10 @@ use Rattle.prolly_entry.specs.declared.version.Version.{Version}
 use Rattle.prolly_entry.specs.declared.version.Version.TheVariants.{One, Two}
 use Rattle.prolly_root.specs.declared.root_fault.RootFault.{RootFault}
 use Rattle.prolly_text.specs.declared.notation.Notation.{Notation}
-use Rattle.prolly_answer.specs.Answers.{ShowsFault}
+use Rattle.prolly_fault.specs.Answers.{ShowsFault}
 use Rattle.prolly_answer.specs.LookUps.{ShowsPair}
-use Rattle.prolly_answer.specs.declared.answers.answer.Answer.{Answer}
-use Rattle.prolly_answer.specs.declared.faults.fault.Fault.TheVariants.{NoCounts, Root}
+use Rattle.prolly_fault.specs.declared.answer.Answer.{Answer}
+use Rattle.prolly_fault.specs.declared.fault.Fault.TheVariants.{NoCounts, Root}
 
 -- A look-up by the root found this, by some chunks.
 pub record IsFoundByRoot {V : Type 0} (is_way : List (List ℕ) → V → Type 0) (found : V) : Type 0

@@ -13,14 +13,14 @@ use Rattle.prolly_root.specs.RootFault.{MayFail, TellsFailure}
 use Rattle.prolly_root.specs.declared.root_fault.RootFault.{RootFault}
 use Rattle.prolly_tree.specs.File.{root_reference}
 use Rattle.prolly_tree.specs.Tree.{Tree}
-use Rattle.prolly_answer.specs.Answers.{ShowsDone, ShowsFault}
-use Rattle.prolly_answer.specs.OutputFault.{told_stop}
+use Rattle.prolly_fault.specs.Answers.{ShowsDone, ShowsFault}
+use Rattle.prolly_fault.specs.OutputFault.{told_stop}
 use Rattle.prolly_answer.specs.Outputs.{TookAll, TookBytes, TookUntil}
-use Rattle.prolly_answer.specs.declared.answers.answer.Answer.{Answer}
-use Rattle.prolly_answer.specs.declared.faults.output_fault.OutputFault.TheVariants.{Write}
-use Rattle.prolly_answer.specs.declared.faults.root_output_fault.RootOutputFault.{RootOutputFault}
-use Rattle.prolly_answer.specs.declared.faults.root_output_fault.RootOutputFault.TheVariants.{Output}
-use Rattle.prolly_answer.specs.declared.faults.root_output_fault.RootOutputFault.TheVariants.{Root}
+use Rattle.prolly_fault.specs.declared.answer.Answer.{Answer}
+use Rattle.prolly_fault.specs.declared.output_fault.OutputFault.TheVariants.{Write}
+use Rattle.prolly_fault.specs.declared.root_output_fault.RootOutputFault.{RootOutputFault}
+use Rattle.prolly_fault.specs.declared.root_output_fault.RootOutputFault.TheVariants.{Output}
+use Rattle.prolly_fault.specs.declared.root_output_fault.RootOutputFault.TheVariants.{Root}
 
 -- ---- what was found
 

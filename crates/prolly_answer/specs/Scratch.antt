@@ -10,8 +10,8 @@ use Rattle.prolly_entry.specs.Reference.{reference_text}
 use Rattle.prolly_file.specs.Scratch.{Builds, IsTallerTree}
 use Rattle.prolly_link.specs.declared.fault.RunFault.{RunFault}
 use Rattle.prolly_link.specs.declared.fault.RunFault.TheVariants as runs
-use Rattle.prolly_answer.specs.declared.faults.fault.Fault.{Fault}
-use Rattle.prolly_answer.specs.declared.faults.fault.Fault.TheVariants.{Run}
+use Rattle.prolly_fault.specs.declared.fault.Fault.{Fault}
+use Rattle.prolly_fault.specs.declared.fault.Fault.TheVariants.{Run}
 use Rattle.prolly_answer.specs.Input.{IsReadWhole, IsInputFault}
 
 -- The input was read whole, and is a record file of at most 16,777,216 records: these are its

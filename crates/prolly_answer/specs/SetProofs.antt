@@ -19,37 +19,20 @@ use Rattle.prolly_range.specs.Verifier.{IsProofFault}
 use Rattle.prolly_range.specs.declared.fault.SetFault.{SetFault}
 use Rattle.prolly_range.specs.declared.fault.SetFault.TheVariants as sets
 use Rattle.prolly_range.specs.declared.prove_fault.ProveFault.{ProveFault}
-use Rattle.prolly_range.specs.declared.prove_fault.ProveFault.TheVariants as proves
 use Rattle.prolly_root.specs.declared.proof.fault.ProofFault.{ProofFault}
-use Rattle.prolly_root.specs.declared.proof.fault.ProofFault.TheVariants.{Truncated}
 use Rattle.prolly_text.specs.declared.notation.Notation.{Notation}
 use Rattle.prolly_tree.specs.Difference.{IsMap}
 use Rattle.prolly_tree.specs.Events.{greatest_count}
 use Rattle.prolly_tree.specs.File.{root_reference}
 use Rattle.prolly_tree.specs.LookUp.{scan}
-use Rattle.prolly_answer.specs.Answers.{ShowsDone, ShowsFault}
+use Rattle.prolly_fault.specs.Answers.{ShowsDone, ShowsFault}
 use Rattle.prolly_answer.specs.KeyLookUps.{found_at}
 use Rattle.prolly_answer.specs.LookUps.{IsLookedUp, IsNoFile}
 use Rattle.prolly_answer.specs.SetLines.{keys_past, lines_at_end, lines_so_far}
-use Rattle.prolly_answer.specs.declared.answers.answer.Answer.{Answer}
-use Rattle.prolly_answer.specs.declared.faults.fault.Fault.{Fault}
-use Rattle.prolly_answer.specs.declared.faults.fault.Fault.TheVariants.{Memory, Proof, Read, Root}
-use Rattle.prolly_answer.specs.declared.faults.fault.Fault.TheVariants.{Write}
-
--- ---- what is told
-
--- The fault of the command that one of a proof is. (No command goes on behind a fault, and so none
--- tells that an earlier call failed; it would be a proof of which the rest is missing.)
-abbrev pub told_set : SetFault → Fault
-told_set sets.Memory = Memory
-told_set sets.Read = Read
-told_set (sets.Proof fault) = Proof fault
-told_set sets.Stopped = Proof Truncated
-
--- The fault of the command that one of writing a proof is.
-abbrev pub told_prove : ProveFault → Fault
-told_prove (proves.Chunks fault) = Root fault
-told_prove proves.Write = Write
+use Rattle.prolly_fault.specs.declared.answer.Answer.{Answer}
+use Rattle.prolly_fault.specs.declared.fault.Fault.{Fault}
+use Rattle.prolly_fault.specs.SetFaults.{told_prove, told_set}
+use Rattle.prolly_fault.specs.declared.fault.Fault.TheVariants.{Read, Write}
 
 -- ---- proofs that are made
 

@@ -15,12 +15,12 @@ use Rattle.prolly_text.specs.RecordLines.{HaveComeOf, LinesInHand}
 use Rattle.prolly_text.specs.PackedLines.{AreRecordsOf, IsLinesFault, StandsFor}
 use Rattle.prolly_text.specs.declared.lines.buffer.TheConstants.{LINE_LIMIT}
 use Rattle.prolly_text.specs.declared.lines.form.LineForm.{LineForm}
-use Rattle.prolly_answer.specs.Answers.{ShowsFault, ShowsLine}
-use Rattle.prolly_answer.specs.declared.answers.answer.Answer.{Answer}
-use Rattle.prolly_answer.specs.declared.faults.fault.Fault.{Fault}
-use Rattle.prolly_answer.specs.declared.faults.fault.Fault.TheVariants.{Memory, Read, Pack}
-use Rattle.prolly_answer.specs.declared.faults.fault.Fault.TheVariants.{LineTooLong, TooManyLines, Store}
-use Rattle.prolly_answer.specs.declared.faults.fault.Fault.TheVariants.{DoubledKey}
+use Rattle.prolly_fault.specs.Answers.{ShowsFault, ShowsLine}
+use Rattle.prolly_fault.specs.declared.answer.Answer.{Answer}
+use Rattle.prolly_fault.specs.declared.fault.Fault.{Fault}
+use Rattle.prolly_fault.specs.declared.fault.Fault.TheVariants.{Memory, Read, Pack}
+use Rattle.prolly_fault.specs.declared.fault.Fault.TheVariants.{LineTooLong, TooManyLines, Store}
+use Rattle.prolly_fault.specs.declared.fault.Fault.TheVariants.{DoubledKey}
 
 -- The line of this number is longer than any that stands for a record, and each line before it
 -- stands for one. If there are such lines, the text begins with no byte order mark. (A first line

@@ -18,11 +18,11 @@ use Rattle.prolly_text.specs.Records.{records_of}
 use Rattle.prolly_text.specs.Table.{table_of}
 use Rattle.prolly_text.specs.declared.numbers.records.RecordNumbers.{RecordNumbers}
 use Rattle.prolly_text.specs.declared.numbers.table.TreeNumbers.{TreeNumbers}
-use Rattle.prolly_answer.specs.Answers.{Shows, ShowsFault}
+use Rattle.prolly_fault.specs.Answers.{Shows, ShowsFault}
 use Rattle.prolly_answer.specs.LookUps.{IsLookUp, ShowsFailedRead}
 use Rattle.prolly_answer.specs.Surveys.{AreOfSurvey, IsSurveyAnswer, IsReadFailure}
-use Rattle.prolly_answer.specs.declared.answers.answer.Answer.{Answer}
-use Rattle.prolly_answer.specs.declared.faults.fault.Fault.TheVariants.{Read, Run}
+use Rattle.prolly_fault.specs.declared.answer.Answer.{Answer}
+use Rattle.prolly_fault.specs.declared.fault.Fault.TheVariants.{Read, Run}
 use Rattle.prolly_answer.specs.declared.answers.stat.StatForm.{StatForm}
 use Rattle.prolly_answer.specs.declared.answers.stat.StatForm.TheVariants.{Lines, Json}
 

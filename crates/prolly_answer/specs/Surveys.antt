@@ -11,9 +11,9 @@ use Rattle.prolly_load.specs.declared.tally.Survey.{Survey}
 use Rattle.prolly_text.specs.Flaws.{flawed_text}
 use Rattle.prolly_text.specs.declared.numbers.records.RecordNumbers.{RecordNumbers}
 use Rattle.prolly_text.specs.declared.notation.Notation.{Notation}
-use Rattle.prolly_answer.specs.Answers.{Shows, ShowsLine, ShowsFault}
-use Rattle.prolly_answer.specs.declared.answers.answer.Answer.{Answer}
-use Rattle.prolly_answer.specs.declared.faults.fault.Fault.TheVariants.{Read}
+use Rattle.prolly_fault.specs.Answers.{Shows, ShowsLine, ShowsFault}
+use Rattle.prolly_fault.specs.declared.answer.Answer.{Answer}
+use Rattle.prolly_fault.specs.declared.fault.Fault.TheVariants.{Read}
 
 -- No read of the bytes failed, and of the survey of them as a record file this is shown.
 pub record IsSurveyed (bytes : List ℕ) (failed : Type 0) (shows : Survey → Type 0) : Type 0 where

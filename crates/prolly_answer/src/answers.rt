@@ -1,7 +1,4 @@
 //! What each command answers.
-mod answer;
-mod apply;
-mod build;
 mod check;
 mod diff;
 mod dump;
@@ -27,9 +24,6 @@ mod set_verify;
 mod shown_lines;
 mod stat;
 
-pub use answer::Answer;
-pub use apply::{agreed_header, answer_apply};
-pub use build::answer_build;
 pub use check::{answer_check, answer_check_by, answer_check_by_root, status_behind};
 pub use diff::answer_diff;
 pub use dump::answer_dump;

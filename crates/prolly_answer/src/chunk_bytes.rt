@@ -5,8 +5,8 @@ ghost use Rattle.prolly_answer.specs.ChunkBytes.{chosen_note, default_note, note
 ghost use Rattle.prolly_answer.specs.ChunkBytes.{nothing_sampled};
 
 use crate::input::RECORD_LIMIT;
-use crate::lines::append_number;
 use prolly_entry::{NextRecord, next_record};
+use prolly_fault::append_number;
 use prolly_io::{Source, SourceFault, take_front};
 use std::alloc::{AllocError, Global};
 use std::marker::Model;

@@ -2,12 +2,9 @@
 ghost use Rattle.std.specs.Prelude.{◌≡◌, ◌≢◌, ◌≤◌, true, length, IfOk, OnOk, IfErr, IsErrOf};
 ghost use Rattle.prolly_answer.specs.Input.{IsReadWhole, IsInputFault};
 
-use crate::faults::Fault;
+use prolly_fault::{Fault, INPUT_LIMIT};
 use prolly_io::{Source, WholeFault, read_whole};
 use std::alloc::Global;
-
-/// How many bytes a command reads at most of an input that it reads whole.
-pub const INPUT_LIMIT: u32 = 1_073_741_824;
 
 /// How many records a record file has at most.
 pub(crate) const RECORD_LIMIT: u32 = 16_777_216;

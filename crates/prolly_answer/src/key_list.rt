@@ -3,8 +3,8 @@ ghost use Rattle.std.specs.Prelude.{◌≡◌, ◌≢◌, true, map, IfErr, IfOk
 ghost use Rattle.prolly_entry.specs.Keys.{Rising};
 ghost use Rattle.prolly_answer.specs.KeyLists.{IsKeyListFault, ReadsKeys};
 
-use crate::faults::Fault;
 use crate::input::input_of;
+use prolly_fault::Fault;
 use prolly_io::Source;
 use prolly_text::{Notation, keys_of_lines};
 use std::alloc::Global;

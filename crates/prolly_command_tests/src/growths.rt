@@ -9,13 +9,14 @@ use crate::tools::expect_answer;
 use crate::tools::look_up_answers::file_of_three;
 use crate::tools::run_files::RunFiles;
 use prolly_answer::{
-    Answer, LineForm, LinesFault, Notation, PackFault, RecordForm, answer_check, answer_dump,
-    answer_get, answer_nth, answer_pack, answer_pack_sorted, answer_prove, answer_scan,
-    answer_scratch, answer_verify, pack_lines_in,
+    answer_check, answer_dump, answer_get, answer_nth, answer_pack, answer_pack_sorted,
+    answer_prove, answer_scan, answer_scratch, answer_verify,
 };
 use prolly_check::OneThread;
 use prolly_entry::{Ref, Version};
+use prolly_fault::Answer;
 use prolly_io::{FromRead, ScriptSink};
+use prolly_text::{LineForm, LinesFault, Notation, PackFault, RecordForm, pack_lines_in};
 use std::alloc::{AllocError, Global};
 use std::process::Abort;
 use std::test::Fail;

@@ -1,6 +1,6 @@
 //! What the program shows and writes.
 use crate::expect::{expect_bytes, expect_eq};
-use prolly_answer::Answer;
+use prolly_fault::Answer;
 use std::process::Abort;
 
 mod build_answers;

@@ -1,8 +1,8 @@
 -- What is answered to words that give no command.
 use Rattle.std.specs.Prelude.{[], string_bytes}
-use Rattle.prolly_answer.specs.Answers.{Shows, ShowsFault}
-use Rattle.prolly_answer.specs.declared.answers.answer.Answer.{Answer}
-use Rattle.prolly_answer.specs.declared.faults.fault.Fault.TheVariants as faults
+use Rattle.prolly_fault.specs.Answers.{Shows, ShowsFault}
+use Rattle.prolly_fault.specs.declared.answer.Answer.{Answer}
+use Rattle.prolly_fault.specs.declared.fault.Fault.TheVariants as faults
 use Rattle.prolly_line.specs.declared.command.ParseFault.{ParseFault}
 use Rattle.prolly_line.specs.declared.command.ParseFault.TheVariants as refusals
 

@@ -13,10 +13,10 @@ use Rattle.prolly_build.specs.Applied.{IsApplyOutcome}
 use Rattle.prolly_build.specs.Config.{Settings}
 use Rattle.prolly_build.specs.GivenBack.{IsGivenBack}
 use Rattle.prolly_build.specs.Outcome.{IsOutcome}
-use Rattle.prolly_answer.specs.Apply.{ShowsApply}
-use Rattle.prolly_answer.specs.Build.{ShowsBuild}
-use Rattle.prolly_answer.specs.Outputs.{IsFlushedAs}
-use Rattle.prolly_answer.specs.declared.answers.answer.Answer.{Answer}
+use Rattle.prolly_runs.specs.Apply.{ShowsApply}
+use Rattle.prolly_runs.specs.Build.{ShowsBuild}
+use Rattle.prolly_fault.specs.Flushes.{IsFlushedAs}
+use Rattle.prolly_fault.specs.declared.answer.Answer.{Answer}
 use Rattle.prolly_runs.specs.declared.held_back.HeldBack.{HeldBack}
 use Rattle.prolly_runs.specs.declared.held_back.HeldBack.TheVariants.{Lost}
 

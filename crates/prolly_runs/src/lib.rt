@@ -2,10 +2,14 @@
 //! that give no command.
 #![tactic(auto)]
 
+mod applied;
+mod built;
 mod held_back;
 mod refusal;
 mod runs;
 
+pub use applied::{agreed_header, answer_apply};
+pub use built::answer_build;
 pub use held_back::HeldBack;
 pub use refusal::answer_refusal;
 pub use runs::{answer_apply_into, answer_build_into};

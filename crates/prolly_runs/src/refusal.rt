@@ -2,7 +2,7 @@
 ghost use Rattle.std.specs.Prelude.{IfOk};
 ghost use Rattle.prolly_runs.specs.Refusals.{ShowsRefusal};
 
-use prolly_answer::{Answer, Fault};
+use prolly_fault::{Answer, Fault};
 use prolly_line::ParseFault;
 use std::alloc::{AllocError, Global};
 

@@ -4,10 +4,12 @@ ghost use Rattle.std.specs.Prelude.{vec_len};
 ghost use Rattle.prolly_runs.specs.Runs.{AnswersApply, AnswersBuild, IsToldBehind};
 ghost use Rattle.prolly_runs.specs.Runs.{unapplied, unbuilt};
 
+use crate::applied::answer_apply;
+use crate::built::answer_build;
 use crate::held_back::HeldBack;
-use prolly_answer::{Answer, answer_apply, answer_build};
 use prolly_build::{ApplyFault, Config, Report, apply_changes, build};
 use prolly_entry::Ref;
+use prolly_fault::Answer;
 use prolly_io::{Sink, Source};
 use prolly_link::RunFault;
 use prolly_root::ReadAhead;
@@ -16,9 +18,9 @@ use std::alloc::{AllocError, Global};
 use std::sync::Wait;
 use std::thread::Threads;
 
-/// What `build` answers over record files that are open. It [builds](build) their tree into the sink.
-/// After a fault `held_back` says whether what the sink holds back is written. Where that fails, it is
-/// told in place of a tree that is too tall; any other fault is told as it is. An `Err` is want of
+/// What `build` answers over record files that are open. It [builds](build) their tree into the sink,
+/// and flushes that; after a fault only where `held_back` says so. A flush that fails is told in place
+/// of a tree that was made, or that is too tall; any other fault is told as it is. An `Err` is want of
 /// memory for the line that is to be shown.
 pub fn answer_build_into<R: Wait + Threads + Sync, S: Source + Send + Drop, W: Sink, G: Gate>(
     rt: &R,

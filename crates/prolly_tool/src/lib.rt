@@ -4,8 +4,7 @@
 #![tactic(auto)]
 
 pub use prolly_answer::{
-    Answer, ChosenBits, Fault, INPUT_LIMIT, NameFault, OutputFault, RootDiff, RootScan, Sample,
-    SortedPack, StatForm, Stated, agreed_header, answer_apply, answer_build, answer_check,
+    ChosenBits, RootDiff, RootScan, Sample, SortedPack, StatForm, Stated, answer_check,
     answer_check_by, answer_check_by_root, answer_diff, answer_diff_by_root, answer_dump,
     answer_dump_by_root, answer_explain, answer_explain_lines, answer_found, answer_found_pair,
     answer_found_raw, answer_get, answer_get_by_root, answer_get_in, answer_get_keys,
@@ -19,8 +18,12 @@ pub use prolly_build::{
     AllStart, AppliedChanges, ApplyFault, CHANGES_LIMIT, Config, ConfigFault, FILES_LIMIT, Permit,
     Report, apply_changes, apply_changes_with, build, build_with,
 };
+pub use prolly_fault::{Answer, Fault, INPUT_LIMIT, NameFault, OutputFault};
 pub use prolly_line::{Command, ParseFault, RootPair, Sought, WriteMode, parse};
-pub use prolly_runs::{HeldBack, answer_apply_into, answer_build_into, answer_refusal};
+pub use prolly_runs::{
+    HeldBack, agreed_header, answer_apply, answer_apply_into, answer_build, answer_build_into,
+    answer_refusal,
+};
 pub use prolly_text::{
     KeysFault, LineForm, LinesFault, Notation, PackFault, RecordForm, keys_of_lines, pack_lines,
     pack_lines_in,

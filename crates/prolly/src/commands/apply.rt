@@ -1,28 +1,24 @@
 //! The command `apply`.
 ghost use Rattle.std.specs.Prelude.{IfOk};
-ghost use Rattle.prolly_answer.specs.Apply.{AgreesWith};
+ghost use Rattle.prolly_runs.specs.Apply.{AgreesWith};
 ghost use Rattle.prolly_io.specs.declared.format.header.Header.{Header as HeaderValue};
 ghost use Rattle.prolly_line.specs.GivenCommand.{IsWithinLimits};
 ghost use Rattle.prolly.specs.Kinds.{IsApply};
 ghost use Rattle.prolly.specs.Requests.{IsSetBy};
 
-use crate::commands::record_files::{RecordFiles, target_of};
+use crate::commands::record_files::{RecordFiles, held_back_by, target_of};
 use crate::commands::version_of;
 use crate::commands::watch::Watch;
 use crate::host::Host;
-use crate::inputs::{Chunks, Input};
-use crate::output::Output;
-use crate::refusal::Refusal;
-use crate::sinks::buffered;
-use crate::target::Target;
-use prolly_answer::{Answer, Fault, agreed_header};
 use prolly_build::{CHANGES_LIMIT, Config, ConfigFault};
 use prolly_entry::{Ref, Version};
+use prolly_fault::{Answer, Fault};
+use prolly_files::{Chunks, Input, Output, Refusal, Target, buffered};
 use prolly_io::{Blocks, FromFile, FromRead, Header, ToWrite};
 use prolly_line::Command;
 use prolly_progress::{CountedSink, CountedSource, CountingGate, Counts};
 use prolly_root::{FileChunks, RootFault, named_header};
-use prolly_runs::answer_apply_into;
+use prolly_runs::{agreed_header, answer_apply_into};
 use std::alloc::AllocError;
 use std::fs::File;
 use std::sync::Wait;
@@ -164,7 +160,7 @@ fn apply_into<T: Wait + Threads + Clock + Sync>(
         old,
         mut changes,
     } = inputs;
-    let held_back = output.held_back();
+    let held_back = held_back_by(output);
     let output = CountedSink::new(ToWrite::new(output), watch.counts);
     let mut sink = buffered(host.rt, output)?;
     let (threads, alloc) = (host.threads, host.rt.alloc());

@@ -1,10 +1,10 @@
 //! What a proof is asked to show.
-use crate::found::Found;
 use crate::listed_keys::ListedKeys;
-use crate::refusal::Refusal;
-use prolly_answer::{Fault, Notation};
+use prolly_fault::Fault;
+use prolly_files::{Found, Refusal};
 use prolly_line::Sought;
 use prolly_range::{KeySet, SortedKeys};
+use prolly_text::Notation;
 
 /// What a proof is asked to show.
 #[derive(Clone, Copy)]

@@ -2,8 +2,8 @@
 ghost use Rattle.std.specs.Prelude.{◌≤◌, IfOk};
 ghost use Rattle.prolly.specs.Requests.{AreChosen};
 
-use crate::patient::Patient;
 use prolly_answer::{Sample, bits_note};
+use prolly_files::Patient;
 use std::alloc::AllocError;
 use std::io::Write;
 

@@ -7,15 +7,13 @@ ghost use Rattle.prolly.specs.Kinds.{IsBuild};
 ghost use Rattle.prolly.specs.Requests.{AreInRange};
 
 use crate::commands::bits::chosen_bits;
-use crate::commands::record_files::{RecordFiles, target_of};
+use crate::commands::record_files::{RecordFiles, held_back_by, target_of};
 use crate::commands::watch::Watch;
 use crate::host::Host;
-use crate::output::Output;
-use crate::refusal::Refusal;
-use crate::sinks::buffered;
-use crate::target::Target;
-use prolly_answer::{Answer, Fault, Sample};
+use prolly_answer::Sample;
 use prolly_build::{Config, FILES_LIMIT};
+use prolly_fault::{Answer, Fault};
+use prolly_files::{Output, Refusal, Target, buffered};
 use prolly_io::{FromRead, Rejoined, Source, SourceFault, ToWrite};
 use prolly_line::Command;
 use prolly_link::RunFault;
@@ -171,7 +169,7 @@ fn build_into<T: Wait + Threads + Clock + Sync, S: Source + Send + Drop>(
     sources: &mut Vec<S>,
     output: &mut Output<'_>,
 ) -> Result<Answer, AllocError> {
-    let held_back = output.held_back();
+    let held_back = held_back_by(output);
     let output = CountedSink::new(ToWrite::new(output), watch.counts);
     let mut sink = buffered(host.rt, output)?;
     let (threads, alloc) = (host.threads, host.rt.alloc());

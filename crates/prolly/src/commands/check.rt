@@ -4,12 +4,10 @@ ghost use Rattle.prolly.specs.Kinds.{IsCheck};
 
 use crate::commands::version_of;
 use crate::host::Host;
-use crate::inputs::Input;
 use crate::known_root::KnownRoot;
-use crate::refusal::{Refusal, told};
-use crate::sinks::print;
-use crate::streams::Stream;
-use prolly_answer::{Answer, Fault, answer_check_by, answer_check_by_root, status_behind};
+use prolly_answer::{answer_check_by, answer_check_by_root, status_behind};
+use prolly_fault::{Answer, Fault};
+use prolly_files::{Input, Refusal, Stream, print, told};
 use prolly_line::Command;
 use std::thread::Threads;
 

@@ -4,23 +4,18 @@ ghost use Rattle.prolly_line.specs.GivenCommand.{IsWithinLimits};
 ghost use Rattle.prolly.specs.Kinds.{IsDiff};
 
 use crate::commands::version_of;
-use crate::found::Found;
 use crate::host::Host;
-use crate::inputs::{Chunks, Input, refuse_read_twice};
-use crate::output::Output;
-use crate::output_kind::OutputKind;
-use crate::patient::Patient;
-use crate::refusal::Refusal;
-use crate::sinks::buffered;
-use crate::streams::Stream;
-use crate::target::Target;
-use prolly_answer::{
-    Answer, Fault, Notation, RecordForm, RootDiff, answer_diff, answer_diff_by_root,
-};
+use prolly_answer::{RootDiff, answer_diff, answer_diff_by_root};
 use prolly_check::CheckFault;
 use prolly_entry::Version;
+use prolly_fault::{Answer, Fault};
+use prolly_files::{
+    Chunks, Found, Input, Output, OutputKind, Patient, Refusal, Stream, Target, buffered,
+    refuse_read_twice,
+};
 use prolly_io::{FromRead, ToWrite};
 use prolly_line::{Command, RootPair};
+use prolly_text::{Notation, RecordForm};
 use std::alloc::AllocError;
 use std::fs::File;
 use std::io::Write;

@@ -1,11 +1,11 @@
 //! The command `explain`, of a record file and of lines.
 ghost use Rattle.prolly.specs.Kinds.{IsExplain};
 
-use crate::inputs::{Input, refuse_printed_input};
-use crate::patient::{stdin_source, tell_of_terminal};
-use crate::refusal::Refusal;
-use prolly_answer::{Answer, LineForm, Notation, answer_explain, answer_explain_lines};
+use prolly_answer::{answer_explain, answer_explain_lines};
+use prolly_fault::Answer;
+use prolly_files::{Input, Refusal, refuse_printed_input, stdin_source, tell_of_terminal};
 use prolly_line::Command;
+use prolly_text::{LineForm, Notation};
 
 /// The answer of an `explain`.
 pub fn answer(rt: &HostRuntime, command: Command) -> Result<Answer, Refusal>

@@ -3,19 +3,18 @@ ghost use Rattle.prolly_line.specs.GivenCommand.{IsWithinLimits};
 ghost use Rattle.prolly.specs.Kinds.{IsGet};
 
 use crate::commands::version_of;
-use crate::found::Found;
 use crate::host::Host;
 use crate::known_root::KnownRoot;
 use crate::listed_keys::ListedKeys;
 use crate::named_tree::{NamedTree, OpenTree};
-use crate::refusal::Refusal;
-use crate::sinks::stdout_sink;
-use crate::streams::Stream;
 use prolly_answer::{
-    Answer, Notation, answer_get_by_root, answer_get_in, answer_get_keys, answer_get_keys_by_root,
-    answer_get_raw, answer_get_raw_by_root,
+    answer_get_by_root, answer_get_in, answer_get_keys, answer_get_keys_by_root, answer_get_raw,
+    answer_get_raw_by_root,
 };
+use prolly_fault::Answer;
+use prolly_files::{Found, Refusal, Stream, stdout_sink};
 use prolly_line::Command;
+use prolly_text::Notation;
 use std::thread::Threads;
 
 /// The answer of a `get`.

@@ -3,13 +3,13 @@ ghost use Rattle.prolly_line.specs.GivenCommand.{IsWithinLimits};
 ghost use Rattle.prolly.specs.Kinds.{IsNth};
 
 use crate::commands::version_of;
-use crate::found::Found;
 use crate::host::Host;
 use crate::known_root::KnownRoot;
 use crate::named_tree::{NamedTree, OpenTree};
-use crate::refusal::Refusal;
-use prolly_answer::{Answer, Fault, answer_nth_by_root, answer_nth_in};
+use prolly_answer::{answer_nth_by_root, answer_nth_in};
 use prolly_entry::Version;
+use prolly_fault::{Answer, Fault};
+use prolly_files::{Found, Refusal};
 use prolly_line::Command;
 use std::thread::Threads;
 

@@ -1,18 +1,16 @@
 //! The command `pack`.
-ghost use Rattle.prolly_line.specs.GivenCommand.{IsWithinLimits};
 ghost use Rattle.prolly.specs.Kinds.{IsPack};
 
 use crate::host::Host;
-use crate::inputs::refuse_printed_input;
-use crate::output::Output;
-use crate::output_kind::OutputKind;
-use crate::patient::{stdin_source, tell_of_terminal};
-use crate::refusal::Refusal;
-use crate::run_files::{RunFile, RunFiles};
-use crate::target::Target;
-use prolly_answer::{Answer, LineForm, SortedPack, answer_pack_in, answer_pack_sorted};
+use prolly_answer::{SortedPack, answer_pack_in, answer_pack_sorted};
+use prolly_fault::Answer;
+use prolly_files::{
+    Output, OutputKind, Refusal, RunFile, RunFiles, Target, refuse_printed_input, stdin_source,
+    tell_of_terminal,
+};
 use prolly_io::ToWrite;
 use prolly_line::{Command, WriteMode};
+use prolly_text::LineForm;
 use std::sync::Wait;
 
 /// What memory a run is not given, in bytes: for the text that is read, and for readers of runs.

@@ -7,14 +7,11 @@ use crate::commands::version_of;
 use crate::host::Host;
 use crate::known_root::KnownRoot;
 use crate::named_tree::{NamedTree, OpenTree};
-use crate::output::Output;
-use crate::output_kind::OutputKind;
-use crate::refusal::Refusal;
-use crate::sinks::buffered;
-use crate::target::Target;
 use prolly_answer::{
-    Answer, answer_prove, answer_prove_by_root, answer_prove_set, answer_prove_set_by_root,
+    answer_prove, answer_prove_by_root, answer_prove_set, answer_prove_set_by_root,
 };
+use prolly_fault::Answer;
+use prolly_files::{Output, OutputKind, Refusal, Target, buffered};
 use prolly_io::ToWrite;
 use prolly_line::Command;
 use prolly_range::KeySet;

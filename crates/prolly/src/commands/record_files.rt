@@ -1,14 +1,11 @@
 //! The record files that become a tree.
-use crate::found::Found;
-use crate::inputs::{Input, refuse_read_twice};
-use crate::output_kind::OutputKind;
-use crate::refusal::Refusal;
-use crate::target::Target;
-use prolly_answer::Fault;
+use prolly_fault::Fault;
+use prolly_files::{Found, Input, Output, OutputKind, Refusal, Target, refuse_read_twice};
 use prolly_io::FromRead;
 use prolly_line::WriteMode;
 use prolly_link::RunFault;
 use prolly_progress::{CountedSource, Counts};
+use prolly_runs::HeldBack;
 use std::fs::File;
 
 /// Record files that are open, whose bytes are counted as they are read.
@@ -63,4 +60,14 @@ pub fn target_of<'a>(
         target.refuse_full(rt)?;
     }
     Ok(target)
+}
+
+/// What becomes of what is not written yet where a run into the output ends with a fault. It is lost
+/// where the output held bytes: these may be there still.
+pub fn held_back_by(output: &Output<'_>) -> HeldBack {
+    if output.held_bytes() {
+        HeldBack::Lost
+    } else {
+        HeldBack::Written
+    }
 }

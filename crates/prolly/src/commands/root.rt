@@ -1,7 +1,7 @@
 //! The command `root`.
-use crate::inputs::Input;
-use crate::refusal::Refusal;
-use prolly_answer::{Answer, answer_root};
+use prolly_answer::answer_root;
+use prolly_fault::Answer;
+use prolly_files::{Input, Refusal};
 
 /// `root FILE`. The file may be of any size.
 pub fn answer(rt: &HostRuntime, file: &str) -> Result<Answer, Refusal> {

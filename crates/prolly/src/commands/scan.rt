@@ -3,13 +3,11 @@ ghost use Rattle.prolly_line.specs.GivenCommand.{IsWithinLimits};
 ghost use Rattle.prolly.specs.Kinds.{IsScan};
 
 use crate::commands::version_of;
-use crate::found::Found;
 use crate::host::Host;
 use crate::named_tree::{NamedTree, OpenTree};
-use crate::refusal::Refusal;
-use crate::sinks::stdout_sink;
-use crate::streams::Stream;
-use prolly_answer::{Answer, RootScan, answer_scan_by_root, answer_scan_in};
+use prolly_answer::{RootScan, answer_scan_by_root, answer_scan_in};
+use prolly_fault::Answer;
+use prolly_files::{Found, Refusal, Stream, stdout_sink};
 use prolly_line::Command;
 use std::thread::Threads;
 

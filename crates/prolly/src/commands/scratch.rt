@@ -5,14 +5,10 @@ ghost use Rattle.prolly.specs.Kinds.{IsScratch};
 
 use crate::commands::bits::chosen_bits;
 use crate::commands::version_of;
-use crate::inputs::refuse_printed_input;
-use crate::output::Output;
-use crate::output_kind::OutputKind;
-use crate::patient::stdin_source;
-use crate::refusal::Refusal;
-use crate::target::Target;
-use prolly_answer::{Answer, Fault, Sample, answer_scratch};
+use prolly_answer::{Sample, answer_scratch};
 use prolly_entry::Version;
+use prolly_fault::{Answer, Fault};
+use prolly_files::{Output, OutputKind, Refusal, Target, refuse_printed_input, stdin_source};
 use prolly_io::{Rejoined, Sink, ToWrite};
 use prolly_line::Command;
 use std::alloc::AllocError;

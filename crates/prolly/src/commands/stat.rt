@@ -2,10 +2,9 @@
 ghost use Rattle.prolly.specs.Kinds.{IsStat};
 
 use crate::host::Host;
-use crate::inputs::Input;
-use crate::output_kind::CHUNK_FILE_LETTERS;
-use crate::refusal::Refusal;
-use prolly_answer::{Answer, StatForm, answer_stat};
+use prolly_answer::{StatForm, answer_stat};
+use prolly_fault::Answer;
+use prolly_files::{CHUNK_FILE_LETTERS, Input, Refusal};
 use prolly_line::Command;
 use std::thread::Threads;
 

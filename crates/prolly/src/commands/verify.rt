@@ -4,17 +4,17 @@ ghost use Rattle.prolly.specs.Kinds.{IsVerify};
 
 use crate::commands::asked::{Asked, keys_sought};
 use crate::commands::version_of;
-use crate::found::Found;
-use crate::inputs::{Input, refuse_printed_input, refuse_read_twice};
 use crate::known_root::KnownRoot;
-use crate::patient::{Patient, stdin_source};
-use crate::refusal::Refusal;
-use crate::sinks::stdout_sink;
-use crate::streams::Stream;
-use prolly_answer::{Answer, Fault, NameFault, Notation, answer_verify, answer_verify_set};
+use prolly_answer::{answer_verify, answer_verify_set};
+use prolly_fault::{Answer, Fault, NameFault};
+use prolly_files::{
+    Found, Input, Patient, Refusal, Stream, refuse_printed_input, refuse_read_twice, stdin_source,
+    stdout_sink,
+};
 use prolly_io::FromRead;
 use prolly_line::{Command, Sought};
 use prolly_range::KeySet;
+use prolly_text::Notation;
 use std::alloc::AllocError;
 use std::io::{BufReader, Read};
 

@@ -1,18 +1,15 @@
 //! The command `check`: whether a file is a lawful chunk file.
 ghost use Rattle.std.specs.Prelude.{◌≡◌, ◌≢◌, ◌∷◌, ◌++◌, [], ℕ, List, true, IfOk};
 ghost use Rattle.prolly_look_up.specs.Content.{Content, IsFileOf};
-ghost use Rattle.prolly_answer.specs.Answers.{ShowsFault, first_refusal};
+ghost use Rattle.prolly_fault.specs.Answers.{ShowsFault, first_refusal};
 ghost use Rattle.prolly_answer.specs.LookUps.{AnswersFailedRead, AnswersLookUp, IsCheckByRoot};
 ghost use Rattle.prolly_answer.specs.LookUps.{ShowsCheck, check_text, ok_text};
 
-use crate::answers::answer::Answer;
-use crate::faults::Fault;
-use crate::input::INPUT_LIMIT;
-use crate::lines::append_number;
 use prolly_check::{
     CheckFault, ChunkHasher, OneThread, StreamFault, Tree, check_by, check_by_root,
 };
 use prolly_entry::{Ref, Version};
+use prolly_fault::{Answer, Fault, INPUT_LIMIT, append_number};
 use prolly_io::Source;
 use std::alloc::{AllocError, Global};
 

@@ -8,7 +8,7 @@ ghost use Rattle.prolly_check.specs.declared.verdict.fault.CheckFault.TheVariant
 ghost use Rattle.prolly_tree.specs.Walks.{AreMaps};
 ghost use Rattle.prolly_entry.specs.Pair.{IsPair, Pair};
 ghost use Rattle.prolly_entry.specs.Record.{Record as RecordValue, Record};
-ghost use Rattle.prolly_answer.specs.Answers.{ShowsFault};
+ghost use Rattle.prolly_fault.specs.Answers.{ShowsFault};
 ghost use Rattle.prolly_answer.specs.Counts.{AreCounts, stat_text, are_some};
 ghost use Rattle.prolly_answer.specs.Diff.{AreStopped, AreWritten, HasDifference, HaveChanges};
 ghost use Rattle.prolly_answer.specs.Diff.{IsDiff, ShowsDiff, stat_shown, status_of};
@@ -16,12 +16,9 @@ ghost use Rattle.prolly_answer.specs.Outputs.{IsPart, TookAll, TookUntil};
 ghost use Rattle.std.specs.Option.{option_copied};
 ghost use Rattle.prolly_tree.specs.LookUp.{find};
 
-use crate::answers::answer::Answer;
-use crate::faults::{Fault, OutputFault};
-use crate::input::INPUT_LIMIT;
-use crate::lines::append_number;
 use prolly_check::{ChunkHasher, Missing, Tree, check_by};
 use prolly_diff::Differences;
+use prolly_fault::{Answer, Fault, INPUT_LIMIT, OutputFault, append_number};
 use prolly_io::{Sink, Source, write_all};
 use prolly_text::{RecordForm, append_change};
 use std::alloc::{AllocError, Global};

@@ -7,11 +7,9 @@ ghost use Rattle.prolly_answer.specs.LookUps.{ShowsFailedRead};
 ghost use Rattle.prolly_answer.specs.Outputs.{IsPart, TookAll, TookUntil};
 ghost use Rattle.prolly_text.specs.RecordForms.{written_records};
 
-use crate::answers::answer::Answer;
-use crate::faults::{Fault, OutputFault};
-use crate::input::INPUT_LIMIT;
 use crate::lines::write_lines;
 use prolly_check::{ChunkHasher, Tree, check_by};
+use prolly_fault::{Answer, Fault, INPUT_LIMIT, OutputFault};
 use prolly_io::{Sink, Source, WriteFault};
 use prolly_text::RecordForm;
 use std::alloc::{AllocError, Global};

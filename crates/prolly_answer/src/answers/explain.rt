@@ -3,11 +3,9 @@ ghost use Rattle.std.specs.Prelude.{◌≡◌, IfOk};
 ghost use Rattle.prolly_answer.specs.Surveys.{AnswersSurvey, AnswersUnread, ShowsExplanation};
 ghost use Rattle.prolly_answer.specs.Surveys.{ShowsFlaw, good_text};
 
-use crate::answers::answer::Answer;
 use crate::answers::stat::numbers_of;
-use crate::faults::Fault;
 use crate::input::RECORD_LIMIT;
-use crate::lines::append_number;
+use prolly_fault::{Answer, Fault, append_number};
 use prolly_io::{Source, SourceFault};
 use prolly_load::{FlawedRecord, Survey, survey};
 use prolly_text::{Notation, append_flaw};

@@ -3,9 +3,7 @@ ghost use Rattle.prolly_answer.specs.ExplainedLines.{AnswersLines, ShowsCounts, 
 ghost use Rattle.prolly_answer.specs.Surveys.{AnswersUnread};
 ghost use Rattle.std.specs.Prelude.{◌≡◌, IfOk};
 
-use crate::answers::answer::Answer;
-use crate::faults::Fault;
-use crate::lines::append_number;
+use prolly_fault::{Answer, Fault, append_number};
 use prolly_io::{Source, WholeFault};
 use prolly_text::{LineCounts, LineForm, append_faulty_lines};
 use std::alloc::{AllocError, Global};

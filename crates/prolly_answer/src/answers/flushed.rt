@@ -2,7 +2,7 @@
 ghost use Rattle.std.specs.Prelude.{◌≡◌, ◌↔◌, IsTrue};
 ghost use Rattle.prolly_answer.specs.Outputs.{IsSettledAs};
 
-use crate::faults::{Fault, OutputFault, RootOutputFault};
+use prolly_fault::{Fault, OutputFault, RootOutputFault};
 use prolly_io::{Sink, SinkFault};
 
 /// Flushes the sink, and answers the outcome, or else that this failed. A sink of which a write
@@ -35,7 +35,7 @@ pub(crate) trait Stop: Copy + From<SinkFault> {
 }
 
 impl Stop for Fault {
-    ghost use Rattle.prolly_answer.specs.declared.faults.fault.Fault.TheVariants.{Write};
+    ghost use Rattle.prolly_fault.specs.declared.fault.Fault.TheVariants.{Write};
 
     ghost failed_write = { Write };
 
@@ -47,8 +47,8 @@ impl Stop for Fault {
 }
 
 impl Stop for RootOutputFault {
-    ghost use Rattle.prolly_answer.specs.declared.faults.output_fault.OutputFault.TheVariants.{Write};
-    ghost use Rattle.prolly_answer.specs.declared.faults.root_output_fault.RootOutputFault.TheVariants.{Output};
+    ghost use Rattle.prolly_fault.specs.declared.output_fault.OutputFault.TheVariants.{Write};
+    ghost use Rattle.prolly_fault.specs.declared.root_output_fault.RootOutputFault.TheVariants.{Output};
 
     ghost failed_write = { Output Write };
 

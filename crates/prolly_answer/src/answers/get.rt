@@ -1,4 +1,5 @@
 //! What `get` answers, of a checked file and by the root.
+ghost use Rattle.std.specs.Option.{option_copied};
 ghost use Rattle.std.specs.Prelude.{option_map, IfErr, IfOk};
 ghost use Rattle.prolly_look_up.specs.Way.{IsWay};
 ghost use Rattle.prolly_root.specs.RootFault.{TellsReads};
@@ -8,11 +9,9 @@ ghost use Rattle.prolly_answer.specs.LookUps.{ShowsGet, ShowsValue};
 ghost use Rattle.prolly_answer.specs.RootLookUps.{IsFoundByRoot, IsLookUpByRoot};
 ghost use Rattle.prolly_answer.specs.RootOutcomes.{RefusesNone};
 
-use crate::answers::answer::Answer;
-use crate::faults::Fault;
-use crate::input::INPUT_LIMIT;
 use prolly_check::{ChunkHasher, OneThread, check_by};
 use prolly_entry::{Ref, Version};
+use prolly_fault::{Answer, Fault, INPUT_LIMIT};
 use prolly_io::Source;
 use prolly_root::{ChunkSource, Reader, RootFault};
 use prolly_text::Notation;
@@ -38,7 +37,7 @@ pub fn answer_get_in<H: ChunkHasher, S: Source>(
         Ok(tree) => tree,
         Err(fault) => return Answer::of_fault(alloc, Fault::Check(fault)),
     };
-    Answer::of_value(alloc, notation, tree.get(key))
+    value_shown(alloc, notation, tree.get(key))
 }
 
 /// What `get` answers in hexadecimal: see [`answer_get_in`].
@@ -106,7 +105,23 @@ pub fn answer_found(
     ensures { IfOk result (λ answer. ShowsFound notation answer found.now) }
 {
     match found {
-        Ok(value) => Answer::of_value(alloc, notation, value.as_deref()),
+        Ok(value) => value_shown(alloc, notation, value.as_deref()),
         Err(fault) => Answer::of_fault(alloc, Fault::Root(*fault)),
     }
+}
+
+/// The answer of a look-up of a key: its value in this notation, or that there is none.
+pub(crate) fn value_shown(
+    alloc: Global,
+    notation: Notation,
+    value: Option<&[u8]>,
+) -> Result<Answer, AllocError>
+    ensures { IfOk result (λ answer. ShowsValue notation answer (option_copied value.entry)) }
+{
+    let Some(value) = value else {
+        return Ok(Answer::of_nothing(alloc));
+    };
+    let mut line = Vec::new(alloc);
+    notation.append(&mut line, value)?;
+    Answer::of_line(alloc, &line)
 }

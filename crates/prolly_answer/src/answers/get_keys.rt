@@ -7,11 +7,9 @@ ghost use Rattle.prolly_answer.specs.KeyLookUps.{found_lines};
 ghost use Rattle.prolly_answer.specs.LookUps.{ShowsFailedRead};
 ghost use Rattle.prolly_answer.specs.Outputs.{IsPart, TookAll, TookBytes, TookUntil};
 
-use crate::answers::answer::Answer;
-use crate::faults::{Fault, OutputFault};
-use crate::input::INPUT_LIMIT;
 use crate::lines::append_pair_text;
 use prolly_check::{ChunkHasher, Tree, check_by};
+use prolly_fault::{Answer, Fault, INPUT_LIMIT, OutputFault};
 use prolly_io::{Sink, Source, write_all};
 use prolly_text::Notation;
 use std::alloc::{AllocError, Global};

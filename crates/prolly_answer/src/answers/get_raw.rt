@@ -1,4 +1,5 @@
 //! What `get --raw` answers, of a checked file and by the root.
+ghost use Rattle.std.specs.Option.{option_copied};
 ghost use Rattle.std.specs.Prelude.{IfOk};
 ghost use Rattle.prolly_look_up.specs.Way.{IsWay};
 ghost use Rattle.prolly_root.specs.RootFault.{TellsReads};
@@ -7,12 +8,10 @@ ghost use Rattle.prolly_answer.specs.LookUps.{ShowsGetRaw, ShowsRaw};
 ghost use Rattle.prolly_answer.specs.RootLookUps.{IsLookUpByRoot};
 ghost use Rattle.prolly_answer.specs.RootOutcomes.{RefusesNone};
 
-use crate::answers::answer::Answer;
 use crate::answers::get::value_in;
-use crate::faults::Fault;
-use crate::input::INPUT_LIMIT;
 use prolly_check::{ChunkHasher, check_by};
 use prolly_entry::{Ref, Version};
+use prolly_fault::{Answer, Fault, INPUT_LIMIT};
 use prolly_io::Source;
 use prolly_root::{ChunkSource, RootFault};
 use std::alloc::{AllocError, Global};
@@ -32,7 +31,7 @@ pub fn answer_get_raw<H: ChunkHasher, S: Source>(
         Ok(tree) => tree,
         Err(fault) => return Answer::of_fault(alloc, Fault::Check(fault)),
     };
-    Answer::of_raw(alloc, tree.get(key))
+    raw_shown(alloc, tree.get(key))
 }
 
 /// What `get --raw` answers to who names the root: the value's bytes and nothing else. All else is
@@ -61,7 +60,18 @@ pub fn answer_found_raw(
     ensures { IfOk result (λ answer. ShowsFoundRaw answer found.now) }
 {
     match found {
-        Ok(value) => Answer::of_raw(alloc, value.as_deref()),
+        Ok(value) => raw_shown(alloc, value.as_deref()),
         Err(fault) => Answer::of_fault(alloc, Fault::Root(*fault)),
+    }
+}
+
+/// The answer of a look-up of a key whose value is wanted as it is: its bytes, or that there is
+/// none.
+fn raw_shown(alloc: Global, value: Option<&[u8]>) -> Result<Answer, AllocError>
+    ensures { IfOk result (λ answer. ShowsRaw answer (option_copied value.entry)) }
+{
+    match value {
+        None => Ok(Answer::of_nothing(alloc)),
+        Some(value) => Ok(Answer::of_lines(alloc, Vec::from_slice(alloc, value)?)),
     }
 }

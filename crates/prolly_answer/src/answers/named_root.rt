@@ -5,9 +5,8 @@ ghost use Rattle.prolly_root.specs.Walk.{HoldsFile};
 ghost use Rattle.prolly_answer.specs.NamedRoots.{IsNamedRoot, ShowsRootOf};
 ghost use Rattle.prolly_answer.specs.NamedRoots.{TellsNamedRead, check_fault};
 
-use crate::answers::answer::Answer;
-use crate::faults::Fault;
 use prolly_check::CheckFault;
+use prolly_fault::{Answer, Fault};
 use prolly_io::Device;
 use prolly_root::{NamedRootFault, named_root};
 use std::alloc::{AllocError, Global};

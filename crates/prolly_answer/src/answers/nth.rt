@@ -1,5 +1,5 @@
 //! What `nth` answers, of a checked file and by the root.
-ghost use Rattle.std.specs.Prelude.{◌≡◌, ◌↔◌, ℕ, List, IfErr, IfOk, IsErr};
+ghost use Rattle.std.specs.Prelude.{◌≡◌, ◌↔◌, ℕ, List, IfErr, IfOk, IsErr, Some};
 ghost use Rattle.prolly_look_up.specs.Content.{Content, IsFileOf};
 ghost use Rattle.prolly_look_up.specs.FoundPairs.{pair_found};
 ghost use Rattle.prolly_look_up.specs.Way.{IsCountWay};
@@ -12,11 +12,10 @@ ghost use Rattle.prolly_answer.specs.LookUps.{ShowsFoundPair, ShowsPair};
 ghost use Rattle.prolly_answer.specs.RootLookUps.{IsFoundByRoot, IsNthByRoot};
 ghost use Rattle.prolly_answer.specs.RootOutcomes.{RefusesNone};
 
-use crate::answers::answer::Answer;
-use crate::faults::Fault;
-use crate::input::INPUT_LIMIT;
+use crate::lines::append_pair_text;
 use prolly_check::{ChunkHasher, NoCounts, OneThread, check_by};
 use prolly_entry::{Pair, Ref, Version};
+use prolly_fault::{Answer, Fault, INPUT_LIMIT};
 use prolly_io::Source;
 use prolly_root::{ChunkSource, Reader, RootFault};
 use prolly_text::Notation;
@@ -63,7 +62,7 @@ fn nth_shown(
         ShowsPlace notation n answer content) }
 {
     match found {
-        Ok(Some((key, value))) => Answer::of_pair(alloc, notation, key, value),
+        Ok(Some((key, value))) => line_shown(alloc, notation, key, value),
         Ok(None) => Ok(Answer::of_nothing(alloc)),
         Err(NoCounts) => Answer::of_fault(alloc, Fault::NoCounts),
     }
@@ -146,7 +145,22 @@ fn pair_shown(alloc: Global, notation: Notation, pair: &Option<Pair>) -> Result<
     ensures { IfOk result (λ answer. ShowsPair notation answer pair.now) }
 {
     match pair {
-        Some(pair) => Answer::of_pair(alloc, notation, pair.key(), pair.value()),
+        Some(pair) => line_shown(alloc, notation, pair.key(), pair.value()),
         None => Ok(Answer::of_nothing(alloc)),
     }
+}
+
+/// The answer of a look-up of a pair: its key and value in this notation.
+fn line_shown(
+    alloc: Global,
+    notation: Notation,
+    key: &[u8],
+    value: &[u8],
+) -> Result<Answer, AllocError>
+    ensures { IfOk result (λ answer. ShowsPair notation answer
+        (Some (record { key = key.now; value = value.now }))) }
+{
+    let mut line = Vec::new(alloc);
+    append_pair_text(&mut line, notation, key, value)?;
+    Answer::of_line(alloc, &line)
 }

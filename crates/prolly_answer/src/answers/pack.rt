@@ -6,9 +6,8 @@ ghost use Rattle.prolly_text.specs.PackedLines.{Packs};
 ghost use Rattle.prolly_answer.specs.Pack.{AnswersPack, IsPackingFault, LeavesPack};
 ghost use Rattle.prolly_answer.specs.Pack.{TellsPackRead};
 
-use crate::answers::answer::Answer;
-use crate::faults::Fault;
 use crate::input::input_of;
+use prolly_fault::{Answer, Fault};
 use prolly_io::{Sink, Source, WriteFault, write_whole};
 use prolly_text::{LineForm, pack_lines_in};
 use std::alloc::{AllocError, Global};

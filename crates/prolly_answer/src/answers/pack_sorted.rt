@@ -2,12 +2,11 @@
 ghost use Rattle.std.specs.Prelude.{◌≡◌, ◌≢◌, ◌++◌, ◌<◌, ◌^◌, ℕ, Bool, List, [], true, None, IfOk, IfErr};
 ghost use Rattle.std.specs.Prelude.{IsErrOf, OnOk};
 ghost use Rattle.prolly_sort.specs.Shelf.{CameTo, is_unique};
-ghost use Rattle.prolly_answer.specs.Answers.{ShowsFault};
+ghost use Rattle.prolly_fault.specs.Answers.{ShowsFault};
 ghost use Rattle.prolly_answer.specs.SortedPack.{AreSortedSoFar, IsSortingFault, OnFalse, OnTrue};
 ghost use Rattle.prolly_answer.specs.SortedPack.{ShowsSorted, SortsTo};
 
-use crate::answers::answer::Answer;
-use crate::faults::Fault;
+use prolly_fault::{Answer, Fault};
 use prolly_io::{Sink, Source};
 use prolly_sort::{RunStore, SortedFile, Sorter};
 use prolly_text::{LineForm, RecordLines};

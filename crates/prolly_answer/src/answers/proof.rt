@@ -8,13 +8,13 @@ ghost use Rattle.prolly_answer.specs.Outputs.{TookAll, TookPart};
 ghost use Rattle.prolly_answer.specs.Proofs.{IsProve, IsProveByRoot, IsProvedOf, IsUnproved};
 ghost use Rattle.prolly_answer.specs.Proofs.{IsVerify, ProofByRoot};
 ghost use Rattle.prolly_answer.specs.RootOutcomes.{RefusesNone};
-ghost use Rattle.prolly_answer.specs.Answers.{ShowsFault};
+ghost use Rattle.prolly_fault.specs.Answers.{ShowsFault};
 
-use crate::answers::answer::Answer;
-use crate::faults::Fault;
-use crate::input::{INPUT_LIMIT, input_of};
+use crate::answers::get::value_shown;
+use crate::input::input_of;
 use prolly_check::{ChunkHasher, check_by};
 use prolly_entry::{Ref, Version};
+use prolly_fault::{Answer, Fault, INPUT_LIMIT};
 use prolly_io::{Sink, Source, WriteFault, write_whole};
 use prolly_range::prove_checked_key;
 use prolly_root::{ChunkSource, Reader, RootFault, verify};
@@ -141,7 +141,7 @@ pub fn answer_verify<S: Source>(
         Err(fault) => return Answer::of_fault(alloc, fault),
     };
     match verify(version, root, key, &proof) {
-        Ok(value) => Answer::of_value(alloc, notation, value),
+        Ok(value) => value_shown(alloc, notation, value),
         Err(fault) => Answer::of_fault(alloc, Fault::Proof(fault)),
     }
 }

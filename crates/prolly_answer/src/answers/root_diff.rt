@@ -9,15 +9,14 @@ ghost use Rattle.prolly_answer.specs.RootDiffs.{Counts, IsEndedDiff, IsRootDiff,
 ghost use Rattle.prolly_answer.specs.RootDiffs.{TellsDiffReads, TellsNumbers, WroteIn};
 ghost use Rattle.prolly_answer.specs.RootDiffs.{fault_of, record_of};
 ghost use Rattle.prolly_answer.specs.RootOutcomes.{RefusesNone};
-ghost use Rattle.prolly_answer.specs.declared.faults.fault.Fault.{Fault as FaultValue};
-ghost use Rattle.prolly_answer.specs.declared.faults.fault.Fault.TheVariants.{Memory, RootNew, RootOld};
-ghost use Rattle.prolly_answer.specs.declared.faults.output_fault.OutputFault.TheVariants.{Write};
+ghost use Rattle.prolly_fault.specs.declared.fault.Fault.{Fault as FaultValue};
+ghost use Rattle.prolly_fault.specs.declared.fault.Fault.TheVariants.{Memory, RootNew, RootOld};
+ghost use Rattle.prolly_fault.specs.declared.output_fault.OutputFault.TheVariants.{Write};
 
-use crate::answers::answer::Answer;
 use crate::answers::diff::{ChangeCounts, stat_line, status_of};
 use crate::answers::flushed::settled;
-use crate::faults::{Fault, OutputFault};
 use prolly_entry::{Ref, Version};
+use prolly_fault::{Answer, Fault, OutputFault};
 use prolly_io::{Sink, write_all};
 use prolly_root::ChunkSource;
 use prolly_root_diff::laws::walks_are_right;

@@ -6,14 +6,13 @@ ghost use Rattle.prolly_answer.specs.Outputs.{TookBytes, TookUntil};
 ghost use Rattle.prolly_answer.specs.RootDumps.{IsDumpedByRoot};
 ghost use Rattle.prolly_answer.specs.RootOutcomes.{AnswersOutcome, RefusesNone, RefusesNoneOf};
 ghost use Rattle.prolly_answer.specs.RootOutcomes.{TakesAllFor, TakesFor, TellsReadsOf};
-ghost use Rattle.prolly_answer.specs.declared.faults.root_output_fault.RootOutputFault.{RootOutputFault as StopValue};
+ghost use Rattle.prolly_fault.specs.declared.root_output_fault.RootOutputFault.{RootOutputFault as StopValue};
 
-use crate::answers::answer::Answer;
 use crate::answers::flushed::settled;
 use crate::answers::root_scan::key_behind;
-use crate::faults::{Fault, OutputFault, RootOutputFault};
 use crate::lines::append_lines;
 use prolly_entry::{Ref, Version};
+use prolly_fault::{Answer, Fault, OutputFault, RootOutputFault};
 use prolly_io::{Sink, write_all};
 use prolly_look_up::{ManyThreads, Pairs};
 use prolly_root::{ReadAhead, Reader};

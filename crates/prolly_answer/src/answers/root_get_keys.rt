@@ -3,13 +3,12 @@ ghost use Rattle.std.specs.Prelude.{◌≡◌, true, map, Err, IfOk, OnErr};
 ghost use Rattle.prolly_answer.specs.KeyLookUps.{AreFoundByRoot};
 ghost use Rattle.prolly_answer.specs.RootOutcomes.{AnswersOutcome, TakesAllFor, TakesFor, TellsReadsOf};
 ghost use Rattle.prolly_answer.specs.RootOutcomes.{RefusesNone, RefusesNoneOf};
-ghost use Rattle.prolly_answer.specs.declared.faults.root_output_fault.RootOutputFault.{RootOutputFault as StopValue};
+ghost use Rattle.prolly_fault.specs.declared.root_output_fault.RootOutputFault.{RootOutputFault as StopValue};
 
-use crate::answers::answer::Answer;
 use crate::answers::flushed::settled;
 use crate::answers::get_keys::write_found;
-use crate::faults::{Fault, RootOutputFault};
 use prolly_entry::{Ref, Version};
+use prolly_fault::{Answer, Fault, RootOutputFault};
 use prolly_io::Sink;
 use prolly_root::{ChunkSource, Reader};
 use prolly_text::Notation;

@@ -8,13 +8,12 @@ ghost use Rattle.prolly_answer.specs.Outputs.{TookBytes, TookUntil};
 ghost use Rattle.prolly_answer.specs.RootOutcomes.{AnswersOutcome, RefusesNone, RefusesNoneOf};
 ghost use Rattle.prolly_answer.specs.RootOutcomes.{TakesAllFor, TakesFor, TellsReadsOf};
 ghost use Rattle.prolly_answer.specs.RootScans.{IsScannedByRoot};
-ghost use Rattle.prolly_answer.specs.declared.faults.root_output_fault.RootOutputFault.{RootOutputFault as StopValue};
+ghost use Rattle.prolly_fault.specs.declared.root_output_fault.RootOutputFault.{RootOutputFault as StopValue};
 
-use crate::answers::answer::Answer;
 use crate::answers::flushed::settled;
 use crate::answers::scan::append_first;
-use crate::faults::{Fault, OutputFault, RootOutputFault};
 use prolly_entry::{Ref, Version};
+use prolly_fault::{Answer, Fault, OutputFault, RootOutputFault};
 use prolly_io::{Sink, write_all};
 use prolly_look_up::{ManyThreads, Pairs};
 use prolly_root::{ReadAhead, Reader};

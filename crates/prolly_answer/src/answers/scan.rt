@@ -4,11 +4,9 @@ ghost use Rattle.prolly_text.specs.declared.notation.Notation.TheVariants.{Hex};
 ghost use Rattle.prolly_answer.specs.LookUps.{AnswersFailedRead, AnswersLookUp, ShowsScan};
 ghost use Rattle.prolly_answer.specs.LookUps.{pair_lines};
 
-use crate::answers::answer::Answer;
-use crate::faults::Fault;
-use crate::input::INPUT_LIMIT;
 use crate::lines::append_pair_text;
 use prolly_check::{ChunkHasher, Leaves, OneThread, check_by};
+use prolly_fault::{Answer, Fault, INPUT_LIMIT};
 use prolly_io::Source;
 use prolly_look_up::Pairs;
 use prolly_text::Notation;

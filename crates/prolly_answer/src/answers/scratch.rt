@@ -2,16 +2,15 @@
 ghost use Rattle.std.specs.Prelude.{◌≡◌, ◌≢◌, ◌≤◌, ◌⊎◌, true, IfOk, IfErr, OnErr, OnOk, IsErrOf};
 ghost use Rattle.prolly_file.specs.Scratch.{keys_in};
 ghost use Rattle.prolly_entry.specs.Keys.{Rising};
-ghost use Rattle.prolly_answer.specs.Answers.{ShowsFault};
+ghost use Rattle.prolly_fault.specs.Answers.{ShowsFault};
 ghost use Rattle.prolly_answer.specs.Outputs.{TookAll, TookPart, IfSink, OfSink, IsAnswer};
 ghost use Rattle.prolly_answer.specs.Outputs.{IsCutShort};
 ghost use Rattle.prolly_answer.specs.Scratch.{HoldsPairs, MakesFile, Scratches, IsRecordsFault};
 ghost use Rattle.prolly_answer.specs.Scratch.{IsScratchRefusal, run_fault};
 
-use crate::answers::answer::Answer;
-use crate::faults::Fault;
 use crate::input::{RECORD_LIMIT, input_of};
 use prolly_entry::{Pair, RecordFault, Ref, Sha512Cut, Version, records};
+use prolly_fault::{Answer, Fault};
 use prolly_file::{ScratchFault, scratch_as};
 use prolly_io::{Sink, Source, WriteFault, write_whole};
 use prolly_link::RunFault;

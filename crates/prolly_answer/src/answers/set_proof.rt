@@ -6,11 +6,9 @@ ghost use Rattle.prolly_answer.specs.LookUps.{ShowsFailedRead};
 ghost use Rattle.prolly_answer.specs.SetProofs.{IsProveSet, IsProveSetByRoot, IsStoppedByRoot};
 ghost use Rattle.prolly_answer.specs.SetProofs.{IsStoppedProof, RefusesNoProof};
 
-use crate::answers::answer::Answer;
-use crate::faults::Fault;
-use crate::input::INPUT_LIMIT;
 use prolly_check::{ChunkHasher, check_by};
 use prolly_entry::{Ref, Version};
+use prolly_fault::{Answer, Fault, INPUT_LIMIT};
 use prolly_io::{Sink, Source};
 use prolly_range::{KeySet, prove_checked_set, prove_set};
 use prolly_root::ChunkSource;

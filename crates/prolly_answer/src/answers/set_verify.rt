@@ -5,13 +5,12 @@ ghost use Rattle.prolly_answer.specs.Outputs.{TookAll, TookPart, TookSoFar, Wrot
 ghost use Rattle.prolly_answer.specs.SetLines.{FitsLeft, RisesIn, alone_lines, left_at_first};
 ghost use Rattle.prolly_answer.specs.SetLines.{left_behind, more_lines};
 ghost use Rattle.prolly_answer.specs.SetProofs.{IsEndedSet, IsVerifySet, TellsProofReads};
-ghost use Rattle.prolly_answer.specs.declared.faults.fault.Fault.{Fault as FaultValue};
+ghost use Rattle.prolly_fault.specs.declared.fault.Fault.{Fault as FaultValue};
 
-use crate::answers::answer::Answer;
 use crate::answers::flushed::settled;
 use crate::answers::shown_lines::{append_alone, append_shown};
-use crate::faults::{Fault, OutputFault};
 use prolly_entry::{Ref, Version};
+use prolly_fault::{Answer, Fault, OutputFault};
 use prolly_io::{Sink, Source, write_all};
 use prolly_range::laws::shown_in_order;
 use prolly_range::{KeySet, ProvedChunk, SetVerifier};

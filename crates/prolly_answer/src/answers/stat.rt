@@ -7,10 +7,9 @@ ghost use Rattle.std.specs.Option.{option_copied};
 ghost use Rattle.prolly_load.specs.Survey.{key_bytes};
 ghost use Rattle.prolly_answer.specs.Surveys.{AreOfSurvey};
 
-use crate::answers::answer::Answer;
-use crate::faults::Fault;
-use crate::input::{INPUT_LIMIT, RECORD_LIMIT};
+use crate::input::RECORD_LIMIT;
 use prolly_check::{ChunkHasher, Tree, check_by};
+use prolly_fault::{Answer, Fault, INPUT_LIMIT};
 use prolly_io::{Rejoined, Source, SourceFault, take_front};
 use prolly_load::{Survey, fault_of, survey};
 use prolly_text::{

@@ -1,10 +1,11 @@
 //! What `diff` leaves where it is refused memory.
 use super::{FILE_OF_ONE, expect_begun};
 use crate::tools::look_up_answers::file_of_three;
-use prolly_answer::{Notation, RecordForm, answer_diff};
+use prolly_answer::answer_diff;
 use prolly_check::OneThread;
 use prolly_entry::Version;
 use prolly_io::{FromRead, ScriptSink};
+use prolly_text::{Notation, RecordForm};
 use std::test::Fail;
 
 /// The record file of b=1 and c=1.

@@ -3,13 +3,15 @@ use super::rooted::{chunks_of_one, root_of_one};
 use super::{FILE_OF_ONE, expect_begun};
 use crate::expect::{expect_bytes, expect_eq};
 use prolly_answer::{
-    Fault, KeysFault, Notation, answer_get_keys, answer_get_keys_by_root, answer_prove_set,
-    answer_prove_set_by_root, answer_verify_set, keys_of_lines, read_keys,
+    answer_get_keys, answer_get_keys_by_root, answer_prove_set, answer_prove_set_by_root,
+    answer_verify_set, read_keys,
 };
 use prolly_check::OneThread;
 use prolly_entry::Version;
+use prolly_fault::Fault;
 use prolly_io::{FromRead, ScriptSink};
 use prolly_range::{KeySet, SortedKeys};
+use prolly_text::{KeysFault, Notation, keys_of_lines};
 use std::alloc::Global;
 use std::process::Abort;
 use std::test::Fail;

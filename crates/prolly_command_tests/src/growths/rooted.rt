@@ -4,16 +4,16 @@ use super::{FILE_OF_ONE, PROOF, RECORD, expect_begun, expect_shown, expect_writt
 use crate::expect::expect_bytes;
 use crate::tools::look_up_answers::file_of_three;
 use prolly_answer::{
-    Notation, RecordForm, RootDiff, RootScan, answer_check_by_root, answer_diff_by_root,
-    answer_dump_by_root, answer_found, answer_found_pair, answer_found_raw, answer_get_by_root,
-    answer_get_raw_by_root, answer_nth_by_root, answer_prove_by_root, answer_root,
-    answer_scan_by_root,
+    RootDiff, RootScan, answer_check_by_root, answer_diff_by_root, answer_dump_by_root,
+    answer_found, answer_found_pair, answer_found_raw, answer_get_by_root, answer_get_raw_by_root,
+    answer_nth_by_root, answer_prove_by_root, answer_root, answer_scan_by_root,
 };
 use prolly_check::OneThread;
 use prolly_entry::{Pair, Ref, Version};
 use prolly_io::{FromRead, ScriptDevice, ScriptSink};
 use prolly_look_up::ManyThreads;
 use prolly_root::{FileChunks, Reader, RootFault};
+use prolly_text::{Notation, RecordForm};
 use std::alloc::{AllocError, Global};
 use std::num::NonZeroUsize;
 use std::test::Fail;

@@ -1,10 +1,9 @@
 //! What `explain` and `stat` show where they are refused memory.
 use super::{FILE_OF_ONE, RECORD, expect_shown};
-use prolly_answer::{
-    LineForm, Notation, StatForm, answer_explain, answer_explain_lines, answer_stat,
-};
+use prolly_answer::{StatForm, answer_explain, answer_explain_lines, answer_stat};
 use prolly_check::OneThread;
 use prolly_io::FromRead;
+use prolly_text::{LineForm, Notation};
 
 #[test]
 fn a_record_file_is_explained_or_wants_memory(rt: HostRuntime) {

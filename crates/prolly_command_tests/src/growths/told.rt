@@ -2,14 +2,13 @@
 use super::{FILE_OF_ONE, RECORD, expect_shown};
 use crate::expect::expect_bytes;
 use crate::tools::expect_answer;
-use prolly_answer::{
-    Answer, ChosenBits, Fault, NameFault, Sample, answer_apply, answer_build, answer_get_raw,
-    bits_note,
-};
+use prolly_answer::{ChosenBits, Sample, answer_get_raw, bits_note};
 use prolly_check::OneThread;
 use prolly_entry::Ref;
+use prolly_fault::{Answer, Fault, NameFault};
 use prolly_io::FromRead;
 use prolly_report::Report;
+use prolly_runs::{answer_apply, answer_build};
 use std::test::Fail;
 
 #[test]

@@ -1,9 +1,9 @@
 //! What `build` answers.
 use super::expect_answer;
-use prolly_answer::answer_build;
 use prolly_entry::Ref;
 use prolly_link::RunFault;
 use prolly_report::Report;
+use prolly_runs::answer_build;
 use std::test::Fail;
 
 /// The root of the chunk file of a=1, b=1 and c=1, of 0 bits.

@@ -2,12 +2,14 @@
 use super::expect_answer;
 use super::look_up_answers::file_of_three;
 use crate::expect::{expect_bytes, expect_eq};
-use prolly_answer::{Answer, Notation, RecordForm, RootDiff, answer_diff, answer_diff_by_root};
+use prolly_answer::{RootDiff, answer_diff, answer_diff_by_root};
 use prolly_check::OneThread;
 use prolly_entry::{Pair, Ref, Sha512Cut, Version};
+use prolly_fault::Answer;
 use prolly_file::scratch_as;
 use prolly_io::{FromRead, ScriptDevice, ScriptSink};
 use prolly_root::FileChunks;
+use prolly_text::{Notation, RecordForm};
 use std::alloc::Global;
 use std::process::Abort;
 use std::test::Fail;

@@ -1,10 +1,11 @@
 //! What `dump` answers.
 use super::expect_answer;
 use crate::expect::expect_bytes;
-use prolly_answer::{Notation, RecordForm, answer_dump};
+use prolly_answer::answer_dump;
 use prolly_check::OneThread;
 use prolly_io::{FromRead, ScriptSink, ScriptSource};
 use prolly_test_parts::chunk_file;
+use prolly_text::{Notation, RecordForm};
 use std::alloc::Global;
 use std::process::Abort;
 use std::test::Fail;

@@ -1,7 +1,8 @@
 //! What `explain --lines` answers.
 use super::expect_answer;
-use prolly_answer::{LineForm, Notation, answer_explain_lines};
+use prolly_answer::answer_explain_lines;
 use prolly_io::{FromRead, ScriptSource};
+use prolly_text::{LineForm, Notation};
 use std::test::Fail;
 
 /// Lines of text, whether all faulty ones are asked for, the status, and what is shown.

@@ -3,14 +3,16 @@ use super::expect_answer;
 use super::look_up_answers::{file_of_three, root_of_three};
 use crate::expect::{expect_bytes, expect_eq};
 use prolly_answer::{
-    Answer, Fault, KeysFault, Notation, answer_get_keys, answer_get_keys_by_root,
-    answer_prove_set_by_root, answer_verify_set, keys_of_lines, read_keys,
+    answer_get_keys, answer_get_keys_by_root, answer_prove_set_by_root, answer_verify_set,
+    read_keys,
 };
 use prolly_check::OneThread;
 use prolly_entry::Version;
+use prolly_fault::{Answer, Fault};
 use prolly_io::{FromRead, ScriptDevice, ScriptSink, ScriptSource};
 use prolly_range::{KeySet, SortedKeys};
 use prolly_root::FileChunks;
+use prolly_text::{KeysFault, Notation, keys_of_lines};
 use std::alloc::{AllocError, Global};
 use std::process::Abort;
 use std::test::Fail;

@@ -1,10 +1,11 @@
 //! The records of lines, as a reader gives them one after another.
 use super::packing::{FAULTY_TEXT_LINES, HEX_LINES, TEXT_LINES};
 use crate::expect::{expect_bytes, expect_eq};
-use prolly_answer::{LineForm, LinesFault, Notation, PackFault};
 use prolly_entry::append_record;
 use prolly_io::ScriptSource;
-use prolly_text::{LINE_LIMIT, ReadLinesFault, RecordLines};
+use prolly_text::{
+    LINE_LIMIT, LineForm, LinesFault, Notation, PackFault, ReadLinesFault, RecordLines,
+};
 use std::alloc::Global;
 use std::process::Abort;
 use std::test::Fail;

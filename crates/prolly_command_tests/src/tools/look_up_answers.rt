@@ -1,8 +1,8 @@
 //! What `get`, `scan`, `nth` and `check` answer.
 use super::expect_answer;
 use prolly_answer::{
-    Notation, answer_check, answer_get, answer_get_by_root, answer_get_in, answer_nth,
-    answer_nth_by_root, answer_nth_in, answer_scan, answer_scan_in,
+    answer_check, answer_get, answer_get_by_root, answer_get_in, answer_nth, answer_nth_by_root,
+    answer_nth_in, answer_scan, answer_scan_in,
 };
 use prolly_check::OneThread;
 use prolly_entry::{Ref, Sha512Cut, Version};
@@ -10,6 +10,7 @@ use prolly_file::scratch_as;
 use prolly_io::{FromRead, ScriptDevice};
 use prolly_root::FileChunks;
 use prolly_test_parts::pairs_of;
+use prolly_text::Notation;
 use std::alloc::Global;
 use std::process::Abort;
 use std::test::Fail;

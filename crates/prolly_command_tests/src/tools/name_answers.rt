@@ -1,6 +1,6 @@
 //! What is told of an output that is an input, or holds something else.
 use super::expect_answer;
-use prolly_answer::{Answer, NameFault};
+use prolly_fault::{Answer, NameFault};
 use std::test::Fail;
 
 /// What is wrong with the output, and the line that tells it.

@@ -1,7 +1,7 @@
 //! Lines of text, as they are packed.
 use crate::expect::{expect_bytes, expect_eq};
-use prolly_answer::{LineForm, LinesFault, Notation, PackFault, pack_lines, pack_lines_in};
 use prolly_test_parts::joined;
+use prolly_text::{LineForm, LinesFault, Notation, PackFault, pack_lines, pack_lines_in};
 use std::alloc::Global;
 use std::process::Abort;
 use std::test::Fail;

@@ -1,11 +1,12 @@
 //! What `prove` and `verify` answer.
 use super::expect_answer;
 use crate::expect::expect_bytes;
-use prolly_answer::{Notation, answer_prove, answer_verify};
+use prolly_answer::{answer_prove, answer_verify};
 use prolly_check::OneThread;
 use prolly_entry::{Ref, Version};
 use prolly_io::{FromRead, ScriptSink};
 use prolly_test_parts::{chunk_file, joined};
+use prolly_text::Notation;
 use std::alloc::Global;
 use std::process::Abort;
 use std::test::Fail;

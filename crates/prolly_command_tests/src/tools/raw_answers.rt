@@ -3,11 +3,12 @@ use super::expect_answer;
 use super::look_up_answers::{chunks_of, file_of_three, root_of_three};
 use crate::expect::{expect_bytes, expect_eq};
 use prolly_answer::{
-    Answer, Fault, Sample, answer_check, answer_found_raw, answer_get_raw, answer_get_raw_by_root,
-    bits_note, status_behind,
+    Sample, answer_check, answer_found_raw, answer_get_raw, answer_get_raw_by_root, bits_note,
+    status_behind,
 };
 use prolly_check::OneThread;
 use prolly_entry::Version;
+use prolly_fault::{Answer, Fault};
 use prolly_io::FromRead;
 use std::test::Fail;
 

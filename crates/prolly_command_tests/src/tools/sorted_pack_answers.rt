@@ -2,8 +2,9 @@
 use super::expect_answer;
 use crate::expect::{expect_bytes, expect_eq};
 use crate::tools::run_files::RunFiles;
-use prolly_answer::{LineForm, answer_pack_sorted};
+use prolly_answer::answer_pack_sorted;
 use prolly_io::{FromRead, ScriptSource};
+use prolly_text::LineForm;
 use std::test::Fail;
 
 /// How many bytes a run takes.

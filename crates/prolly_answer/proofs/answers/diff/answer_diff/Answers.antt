@@ -2,7 +2,7 @@ use Rattle.std.proofs.Common.{◌≡◌, inl, inr, refl}
 use Rattle.std.proofs.lemmas.Result.{IfOk-weaker}
 use Rattle.prolly_answer.specs.Diff.{AreStopped, AreWritten}
 use Rattle.prolly_answer.specs.Outputs.{TookAll, TookUntil}
-use Rattle.prolly_answer.specs.declared.faults.fault.Fault.TheVariants.{CheckOld, CheckNew}
+use Rattle.prolly_fault.specs.declared.fault.Fault.TheVariants.{CheckOld, CheckNew}
 use Rattle.prolly_answer.proofs.Answering.{cut_off, failed_read, looked_up, no_file, stopped}
 use Rattle.prolly_answer.proofs.DiffSteps.{all_shown, changes_so, few_changes, unshown}
 use Rattle.prolly_answer.proofs.answers.diff.answer_diff.Goals as goal

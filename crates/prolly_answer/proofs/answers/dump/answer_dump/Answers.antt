@@ -2,7 +2,7 @@ use Rattle.std.proofs.Common.{inl, inr, refl}
 use Rattle.std.proofs.lemmas.Result.{IfOk-weaker}
 use Rattle.prolly_answer.specs.Dump.{IsDumped, IsStoppedDump}
 use Rattle.prolly_answer.specs.Outputs.{TookUntil}
-use Rattle.prolly_answer.specs.declared.faults.fault.Fault.TheVariants.{Check}
+use Rattle.prolly_fault.specs.declared.fault.Fault.TheVariants.{Check}
 use Rattle.prolly_answer.proofs.Answering.{cut_off, failed_read, looked_up, no_file, stopped}
 use Rattle.prolly_answer.proofs.answers.dump.answer_dump.Goals as goal
 

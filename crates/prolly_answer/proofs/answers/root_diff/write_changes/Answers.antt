@@ -2,7 +2,7 @@ use Rattle.std.proofs.Common.{None, Some, ◌∙◌, subst, sym}
 use Rattle.prolly_root_diff.specs.Notes.{AreNoted}
 use Rattle.prolly_root_diff.specs.Walks.{Gives, at_roots, lefts_of}
 use Rattle.prolly_answer.specs.RootOutcomes.{RefusesNone}
-use Rattle.prolly_answer.specs.declared.faults.fault.Fault.TheVariants.{RootNew, RootOld}
+use Rattle.prolly_fault.specs.declared.fault.Fault.TheVariants.{RootNew, RootOld}
 use Rattle.prolly_answer.proofs.RootDiffSteps.{WrotePart, WroteSoFar, all_told, begins, gave_so_far}
 use Rattle.prolly_answer.proofs.RootDiffSteps.{goes_on, keeps_first, keeps_on, may_new, may_old}
 use Rattle.prolly_answer.proofs.RootDiffSteps.{memory_stopped, memory_tells, new_memory, new_write}

@@ -1,5 +1,0 @@
-use Rattle.std.proofs.Common.{rules}
-use Rattle.prolly_answer.proofs.answers.answer.Answer.of_fault.Goals as goal
-
-pub returns : goal.returns
-returns c = search rules

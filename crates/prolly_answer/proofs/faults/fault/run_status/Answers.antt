@@ -1,5 +1,0 @@
-use Rattle.std.proofs.Common.{rules}
-use Rattle.prolly_answer.proofs.faults.fault.run_status.Goals as goal
-
-pub returns-in-TooTall : goal.returns-in-TooTall
-returns-in-TooTall c = search rules
