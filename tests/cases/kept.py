@@ -284,6 +284,25 @@ def is_lost(place, flags):
     place.holds(a_rec=records(ABC), wait=None, out=PICTURE, new=PICTURE)
 
 
+def is_written_meanwhile(place):
+    """Another program writes to OUT before a build in place does: OUT keeps that, also where the build has made OUT, or fails."""
+    os.mkfifo(place.path("wait"))
+    cut = records(ABC[:1])[:-1]
+    for before in (OLD_FILES["chunk file"], b"", None):
+        for given, answer in ((records(ABC[:1]), refusal(b"write failed")), (cut, (3, b"", b"prolly: file 1: record 0 is cut\n"))):
+            place.lay(a_rec=records(ABC), **({} if before is None else {"out": before}))
+            process = place.start(["build", "--bits", "0", "out", "a.rec", "wait"])
+            with opened_for_writing(place.path("wait"), process) as pipe:
+                pipe.write(given)
+                # A build has OUT before it reads.
+                wait_until_read(pipe, process)
+                with open(place.path("out"), "ab") as out:
+                    out.write(PICTURE)
+            place.answers(place.finish(process), answer)
+            place.holds(a_rec=records(ABC), wait=None, out=(before or b"") + PICTURE)
+            place.path("out").unlink()
+
+
 def is_swapped(place, command, call, is_device):
     """Another file comes in OUT's place before a call, each call in turn, from the first look at OUT to the end of the run: it is
     never written, and where OUT was a file, the run is refused."""
@@ -595,7 +614,7 @@ def tests():
         yield f"the rights of now, {'new' if before is None else 'old'}, {mode}", partial(has_the_rights_of_now, before=before, mode=mode)
     for flags in ([], ["--sync"]):
         yield f"is lost {' '.join(flags)}", partial(is_lost, flags=flags)
-    for test in (is_not_readable, is_a_block_device, has_no_files, names_all_files, stays_before_the_header, is_made_early, is_busy, is_not_its_own, is_behind_a_link, is_a_new_folder, keeps_its_group, has_its_rights_already, keeps_its_attributes):
+    for test in (is_not_readable, is_a_block_device, has_no_files, names_all_files, stays_before_the_header, is_made_early, is_busy, is_written_meanwhile, is_not_its_own, is_behind_a_link, is_a_new_folder, keeps_its_group, has_its_rights_already, keeps_its_attributes):
         yield test.__name__.replace("_", " "), test
     yield from failing()
 

@@ -215,14 +215,15 @@ impl<'a> Output<'a> {
         told(rt, open_folder(rt, name))
     }
 
-    /// Removes the file where it stands beside its name, or is new and has no byte, and the name is
-    /// its own still. Where that fails, it stays: the fault that led here is the one to tell.
+    /// Removes the file where it stands beside its name, or is new and has no byte, not even another
+    /// program's, and the name is its own still. Where that fails, it stays: the fault that led here is
+    /// the one to tell.
     pub(crate) fn remove(&self, rt: &HostRuntime) {
         match &self.place {
             Place::Beside(replacement) if self.is_own(rt, replacement.beside.as_str()) => {
                 let _ = fs::remove_file(rt, &replacement.beside);
             }
-            Place::New(path) if !self.has_begun && self.is_own(rt, path.as_str()) => {
+            Place::New(path) if self.is_empty() && self.is_own(rt, path.as_str()) => {
                 let _ = fs::remove_file(rt, path);
             }
             _ => {}
@@ -237,6 +238,28 @@ impl<'a> Output<'a> {
         }
     }
 
+    /// Empties the file before its first byte, where it stands in the output's place. One that has not
+    /// the size with which it was found is left as it is: another program has written to it.
+    fn empty(&self) -> io::Result<()> {
+        let size = match self.place {
+            Place::New(_) => Some(0),
+            Place::Old => self.target.found().size(),
+            Place::Stream | Place::Beside(_) => return Ok(()),
+        };
+        if self.look()?.size() != size {
+            return Err(io::Error::from(ErrorKind::ResourceBusy));
+        }
+        self.file.set_len(0)
+    }
+
+    /// Whether the file has no byte.
+    fn is_empty(&self) -> bool {
+        match self.look() {
+            Ok(found) => found.size() == Some(0),
+            Err(_) => false,
+        }
+    }
+
     /// Looks at what the file is.
     fn look(&self) -> io::Result<Found> {
         Ok(Found::of(&self.file.metadata()?))
@@ -247,9 +270,7 @@ impl Write for Output<'_> {
     /// Writes to the file, which is emptied before its first byte.
     fn write(&mut self, buf: &[u8]) -> io::Result<usize> {
         if !self.has_begun && !buf.is_empty() {
-            if let Place::Old = self.place {
-                self.file.set_len(0)?;
-            }
+            self.empty()?;
         }
         let count = self.file.write(buf)?;
         self.has_begun = self.has_begun || count > 0;
