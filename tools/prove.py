@@ -35,7 +35,7 @@ JOB_BYTES = 2_500_000_000
 MOST_JOBS = 4
 """By how many jobs a crate is proved at most."""
 
-LINES_A_JOB = 1_000
+LINES_A_JOB = 500
 """How many lines of code a crate has for each job beyond the first: a small one is proved before a second job has loaded."""
 
 
