@@ -222,7 +222,7 @@ def lines_of(asked, file):
     try:
         for key, others in json_rows(asked, table) if asked.form == "json" else rows(asked, table):
             yield line_of(key, others)
-    except (csv.Error, ValueError) as error:
+    except ValueError as error:
         raise Fault(f"{asked.table}: line {table.count}: {error}") from error
 
 
@@ -241,9 +241,8 @@ class Numbered:
 
 
 def rows(asked, table):
-    """The key and the other columns of each row of separated values. An empty line is no row."""
-    form = TAB_SEPARATED if asked.form == "tsv" else {"strict": True}
-    found = (row for row in csv.reader(table, **form) if row)
+    """The key and the other columns of each row of separated values."""
+    found = columns(table, TAB_SEPARATED if asked.form == "tsv" else {"strict": True})
     names = next(found, [asked.key]) if asked.header else None
     if names and len(set(names)) < len(names):
         raise ValueError("two columns have one name")
@@ -255,6 +254,20 @@ def rows(asked, table):
             raise ValueError(f"it has {len(row)} columns, and the header names {len(names)}")
         key = row.pop(place)
         yield key, dict(zip(names[:place] + names[place + 1 :], row)) if names else row
+
+
+def columns(table, form):
+    """The columns of each row of separated values. An empty line is no row."""
+    begin = 1
+    try:
+        for row in csv.reader(table, **form):
+            begin = table.count + 1
+            if row:
+                yield row
+    except csv.Error as error:
+        # A quote that does not end may stand many lines above the one in which that shows.
+        where = f", in the row that begins in line {begin}" if begin < table.count else ""
+        raise ValueError(f"{error}{where}") from error
 
 
 def place_of(column, names):
