@@ -399,14 +399,18 @@ def no_write_after_a_failed_one(place, words, begun, whole):
 
 
 def is_interrupted(place, command, how):
-    """Calls that are interrupted are made again, and what a call did not move is moved by others."""
+    """Calls that are interrupted are made again, and what a call did not move is moved by others: into a new OUT, and over one that
+    held bytes."""
     words, given, made, wanted = WRITERS[command]
     files = laid(place)
     place.lay(given=given or b"")
-    with open(place.path("given"), "rb") as stdin:
-        answer, _ = place.meddled(*words, stdin=stdin, meddle=how)
-    place.answers(answer, wanted)
-    place.holds(out=made, given=None, **files)
+    for before in (None, BEFORES[command]):
+        if before is not None:
+            place.lay(out=before)
+        with open(place.path("given"), "rb") as stdin:
+            answer, _ = place.meddled(*words, stdin=stdin, meddle=how)
+        place.answers(answer, wanted)
+        place.holds(out=made, given=None, **files)
 
 
 def look_up_is_interrupted(place, words, how, wanted):

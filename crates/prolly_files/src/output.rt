@@ -271,10 +271,9 @@ impl Write for Output<'_> {
     fn write(&mut self, buf: &[u8]) -> io::Result<usize> {
         if !self.has_begun && !buf.is_empty() {
             self.empty()?;
+            self.has_begun = true;
         }
-        let count = self.file.write(buf)?;
-        self.has_begun = self.has_begun || count > 0;
-        Ok(count)
+        self.file.write(buf)
     }
 
     fn flush(&mut self) -> io::Result<()> {
