@@ -1,5 +1,6 @@
 //! The program `prolly`: it reads its words, opens and makes the files that they name, and prints
-//! the answer. What it says, and the status with which it ends, are those of `prolly_answer`.
+//! the answer. The answers are those of `prolly_answer` and `prolly_runs`, and the line and status of
+//! each fault those of `prolly_fault`. What keeps files from being lost stands in `prolly_files`.
 #![tactic(auto)]
 
 mod commands;
