@@ -4,7 +4,7 @@ use Rattle.prolly_entry.specs.Version.{version_byte}
 use Rattle.prolly_io.specs.declared.format.header.Header.{Header}
 use Rattle.prolly_build.specs.Config.{Settings, settings_of}
 use Rattle.prolly_answer.specs.ChunkBytes.{IsChoice, Sampled}
-use Rattle.prolly_answer.specs.declared.chunk_bytes.ChosenBits.{ChosenBits}
+use Rattle.prolly_answer.specs.declared.chunk_bytes.chosen_bits.ChosenBits.{ChosenBits}
 use Rattle.prolly.specs.declared.commands.build.BuildRequest.{BuildRequest}
 
 -- Each number of a build is within its range.

@@ -8,7 +8,7 @@ use Rattle.prolly_entry.specs.Overlay.{pairs_put}
 use Rattle.prolly_entry.specs.Reading.{IsReading}
 use Rattle.prolly_entry.specs.Record.{Record}
 use Rattle.prolly_entry.specs.Spelling.{pair_spelling}
-use Rattle.prolly_answer.specs.declared.chunk_bytes.ChosenBits.{ChosenBits}
+use Rattle.prolly_answer.specs.declared.chunk_bytes.chosen_bits.ChosenBits.{ChosenBits}
 
 -- What was seen of the first 1,000,000 bytes of record files: how many of these are still to be read,
 -- how many entries of leaves their records put, and how many bytes these entries have.

@@ -1,6 +1,6 @@
 use Rattle.std.proofs.Common.{◌≡◌, arith, false, true, sym, ◌∙◌}
 use Rattle.prolly_answer.proofs.ChunkSizes.{one_doubled}
-use Rattle.prolly_answer.proofs.chunk_bytes.least_bits.Goals as goal
+use Rattle.prolly_answer.proofs.chunk_bytes.chosen_bits.least_bits.Goals as goal
 
 pub loop-bits-preserved : goal.loop-bits-preserved
 loop-bits-preserved c =

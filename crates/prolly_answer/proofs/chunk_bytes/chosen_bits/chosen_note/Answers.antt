@@ -1,6 +1,6 @@
 use Rattle.std.proofs.Common.{◌∷◌, ◌++◌, ◌∙◌, [], List, ℕ, ap, codes}
 use Rattle.std.specs.Fmt.{decimal}
-use Rattle.prolly_answer.proofs.chunk_bytes.chosen_note.Goals as goal
+use Rattle.prolly_answer.proofs.chunk_bytes.chosen_bits.chosen_note.Goals as goal
 
 -- Part by part.
 pub returns : goal.returns

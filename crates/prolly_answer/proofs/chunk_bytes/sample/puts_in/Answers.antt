@@ -2,9 +2,9 @@ use Rattle.std.proofs.Common.{Some, ap, sym, ◌∙◌}
 use Rattle.std.specs.Option.{option_copied}
 use Rattle.prolly_entry.specs.lemmas.Lists.{rest_is}
 use Rattle.prolly_answer.proofs.Sampling.{put_counted, removal_counted, stopped}
-use Rattle.prolly_answer.specs.declared.chunk_bytes.Puts.{Puts}
-use Rattle.prolly_answer.proofs.chunk_bytes.puts_in.Goals.{else-is_some, then-is_some}
-use Rattle.prolly_answer.proofs.chunk_bytes.puts_in.Goals as goal
+use Rattle.prolly_answer.specs.declared.chunk_bytes.sample.Puts.{Puts}
+use Rattle.prolly_answer.proofs.chunk_bytes.sample.puts_in.Goals.{else-is_some, then-is_some}
+use Rattle.prolly_answer.proofs.chunk_bytes.sample.puts_in.Goals as goal
 
 pub loop-at-preserved : goal.loop-at-preserved
 loop-at-preserved c =

@@ -1,7 +1,7 @@
 use Rattle.std.proofs.Common.{length}
 use Rattle.std.specs.Option.{option_copied}
 use Rattle.prolly_answer.proofs.Sampling.{IsCounting}
-use Rattle.prolly_answer.proofs.chunk_bytes.puts_in.Given as goal
+use Rattle.prolly_answer.proofs.chunk_bytes.sample.puts_in.Given as goal
 
 -- Some records were counted.
 abbrev pub invariant-loop-at : goal.invariant-loop-at
