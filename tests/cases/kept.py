@@ -285,21 +285,26 @@ def is_lost(place, flags):
 
 
 def is_written_meanwhile(place):
-    """Another program writes to OUT before a build in place does: OUT keeps that, also where the build has made OUT, or fails."""
+    """Another program writes to OUT before a build in place does: OUT keeps that, also where the build has made OUT, or fails, and
+    where OUT has the size that it had."""
     os.mkfifo(place.path("wait"))
     cut = records(ABC[:1])[:-1]
-    for before in (OLD_FILES["chunk file"], b"", None):
+    old = OLD_FILES["chunk file"]
+    for before, after in ((old, old + PICTURE), (old, old[::-1]), (b"", PICTURE), (None, PICTURE)):
         for given, answer in ((records(ABC[:1]), refusal(b"write failed")), (cut, (3, b"", b"prolly: file 1: record 0 is cut\n"))):
             place.lay(a_rec=records(ABC), **({} if before is None else {"out": before}))
+            if before is not None:
+                # Else the clock of the file system may not go on before OUT is written.
+                os.utime(place.path("out"), (0, 0))
             process = place.start(["build", "--bits", "0", "out", "a.rec", "wait"])
             with opened_for_writing(place.path("wait"), process) as pipe:
                 pipe.write(given)
                 # A build has OUT before it reads.
                 wait_until_read(pipe, process)
-                with open(place.path("out"), "ab") as out:
-                    out.write(PICTURE)
+                with open(place.path("out"), "r+b") as out:
+                    out.write(after)
             place.answers(place.finish(process), answer)
-            place.holds(a_rec=records(ABC), wait=None, out=(before or b"") + PICTURE)
+            place.holds(a_rec=records(ABC), wait=None, out=after)
             place.path("out").unlink()
 
 

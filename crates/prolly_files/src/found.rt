@@ -11,13 +11,22 @@ pub struct FileId {
     inode: u64,
 }
 
+/// What the system tells of a regular file's bytes. A write changes it, unless it leaves the size as it
+/// was and comes within a tick of the file system's clock, a few milliseconds.
+#[derive(Clone, Copy, PartialEq, Eq)]
+pub struct Written {
+    size: u64,
+    /// When the file was last written to: the seconds since 1970, and the nanoseconds within a second.
+    at: (i64, i64),
+}
+
 /// What a name, or an open file, leads to.
 #[derive(Clone, Copy)]
 pub enum Found {
     /// No file.
     Nothing,
-    /// A regular file, which keeps what is written to it, of so many bytes.
-    Regular(FileId, u64),
+    /// A regular file, which keeps what is written to it.
+    Regular(FileId, Written),
     /// A block device of this number, which keeps what is written to it, too.
     Block(u64),
     /// A pipe.
@@ -34,7 +43,11 @@ impl Found {
             inode: metadata.ino(),
         };
         if metadata.is_file() {
-            Found::Regular(id, metadata.len())
+            let written = Written {
+                size: metadata.len(),
+                at: (metadata.mtime(), metadata.mtime_nsec()),
+            };
+            Found::Regular(id, written)
         } else if metadata.file_type().is_block_device() {
             Found::Block(metadata.rdev())
         } else if metadata.file_type().is_fifo() {
@@ -68,6 +81,15 @@ impl Found {
         matches!(self, Found::Regular(..) | Found::Block(_))
     }
 
+    /// Whether it holds bytes. What a block device holds can't be told, so it does.
+    pub fn holds_bytes(self) -> bool {
+        match self {
+            Found::Regular(_, written) => written.size > 0,
+            Found::Block(_) => true,
+            _ => false,
+        }
+    }
+
     /// Whether both are one regular file, or one block device.
     pub fn is_same_file(self, other: Found) -> bool {
         match (self, other) {
@@ -90,10 +112,13 @@ impl Found {
         self.is_same_file(other) || self.is_same_pipe(other)
     }
 
-    /// Whether it is what a look at its name has found before. Terminals and devices that keep nothing
-    /// are not told apart.
+    /// Whether it is what a look at its name has found before, and was not written to since. Terminals
+    /// and devices that keep nothing are not told apart.
     pub fn is_still(self, before: Found) -> bool {
         match (self, before) {
+            (Found::Regular(one, now), Found::Regular(another, then)) => {
+                one == another && now == then
+            }
             (Found::Other, Found::Other) => true,
             _ => self.is_same(before),
         }
@@ -102,7 +127,7 @@ impl Found {
     /// How many bytes it has, where it is a regular file.
     pub fn size(self) -> Option<u64> {
         match self {
-            Found::Regular(_, size) => Some(size),
+            Found::Regular(_, written) => Some(written.size),
             _ => None,
         }
     }

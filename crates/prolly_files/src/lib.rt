@@ -10,7 +10,7 @@ mod refusal;
 mod sinks;
 mod streams;
 
-pub use found::{FileId, Found};
+pub use found::{FileId, Found, Written};
 pub use inputs::{Chunks, Input, refuse_printed_input, refuse_read_twice};
 pub use output::{CHUNK_FILE_LETTERS, Output, OutputKind, RunFile, RunFiles, Target};
 pub use patient::{Patient, stdin_source, tell_of_terminal};

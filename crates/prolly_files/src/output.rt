@@ -106,10 +106,7 @@ impl<'a> Output<'a> {
     /// Whether the output held bytes when the command began. They may be there still, as long as the
     /// command has written nothing.
     pub fn held_bytes(&self) -> bool {
-        matches!(
-            self.target.found(),
-            Found::Regular(_, 1..) | Found::Block(_)
-        )
+        self.target.found().holds_bytes()
     }
 
     /// The name of the file, where that stands beside the output.
@@ -238,15 +235,15 @@ impl<'a> Output<'a> {
         }
     }
 
-    /// Empties the file before its first byte, where it stands in the output's place. One that has not
-    /// the size with which it was found is left as it is: another program has written to it.
+    /// Empties the file before its first byte, where it stands in the output's place. One that was
+    /// written to since it was found, or made, is left as it is.
     fn empty(&self) -> io::Result<()> {
-        let size = match self.place {
-            Place::New(_) => Some(0),
-            Place::Old => self.target.found().size(),
+        let is_left_alone = match self.place {
+            Place::New(_) => self.is_empty(),
+            Place::Old => self.look()?.is_still(self.target.found()),
             Place::Stream | Place::Beside(_) => return Ok(()),
         };
-        if self.look()?.size() != size {
+        if !is_left_alone {
             return Err(io::Error::from(ErrorKind::ResourceBusy));
         }
         self.file.set_len(0)

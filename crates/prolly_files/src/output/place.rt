@@ -71,7 +71,7 @@ impl Target<'_> {
             Found::Nothing if is_whole => self.make_beside_place(rt, NameFault::CannotOpen),
             Found::Nothing => self.make(rt),
             Found::Regular(..) if is_whole => self.make_beside_old(rt),
-            Found::Regular(..) => Ok((self.lock(rt, self.open_as_found(rt)?)?, Place::Old)),
+            Found::Regular(..) => Ok((self.open_old(rt)?, Place::Old)),
             _ if is_atomic => Err(self.refused(rt, NameFault::CannotReplace)),
             _ => Ok((self.open_stream(rt)?, Place::Stream)),
         }
@@ -87,12 +87,26 @@ impl Target<'_> {
         Ok(file)
     }
 
-    /// Opens the file that was found, to be written as it is. One that came in its place meanwhile may
-    /// be another run's, or an input, and is refused.
+    /// Opens the regular file that was found, to be written as it is, and locks it. Until it was locked
+    /// another run may have written to it.
+    fn open_old(self, rt: &HostRuntime) -> Result<File, Refusal> {
+        let file = self.lock(rt, self.open_as_found(rt)?)?;
+        self.refuse_changed(rt, &file)?;
+        Ok(file)
+    }
+
+    /// Opens what was found, to be written as it is.
     fn open_as_found(self, rt: &HostRuntime) -> Result<File, Refusal> {
         let file = self.open_to_write(rt)?;
+        self.refuse_changed(rt, &file)?;
+        Ok(file)
+    }
+
+    /// Refuses a file that is not as it was found. One that came in its place may be another run's, or
+    /// an input.
+    fn refuse_changed(self, rt: &HostRuntime, file: &File) -> Result<(), Refusal> {
         match file.metadata() {
-            Ok(metadata) if Found::of(&metadata).is_still(self.found()) => Ok(file),
+            Ok(metadata) if Found::of(&metadata).is_still(self.found()) => Ok(()),
             Ok(_) => Err(self.refused(rt, NameFault::IsBusy)),
             Err(_) => Err(self.refused(rt, NameFault::CannotOpen)),
         }

@@ -173,7 +173,7 @@ impl<'a> Target<'a> {
 
     /// Whether the output holds something that is to be kept.
     fn is_kept(&self) -> bool {
-        matches!(self.found, Found::Regular(_, 1..) | Found::Block(_)) && !self.mode.force
+        self.found.holds_bytes() && !self.mode.force
     }
 
     /// The fault of the output's name.
