@@ -44,3 +44,5 @@ mod Sorting
 mod ChunkSizes
 -- Counting the entries that the first records of a file put.
 mod Sampling
+-- Looking at one source after another.
+mod Peeking

@@ -10,6 +10,8 @@ pub mod Pack
 pub mod SortedPack
 -- The bits by which chunks have about so many bytes.
 pub mod ChunkBytes
+-- Record files that were looked at before they are read.
+pub mod Peeks
 -- What the commands that read a chunk file print.
 pub mod LookUps
 -- What the command `root` answers.

@@ -22,6 +22,8 @@ pub mod Writes
 pub mod ToWrite
 -- What a clause reads of a `Buffered`.
 pub mod Buffered
+-- A source of which the first bytes were taken off.
+pub mod Rejoined
 -- What a buffer of read bytes holds, and what a read adds to it.
 pub mod ReadBuffer
 -- What follows from a read into a buffer.

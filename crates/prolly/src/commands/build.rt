@@ -14,9 +14,8 @@ use prolly_answer::Sample;
 use prolly_build::{Config, FILES_LIMIT};
 use prolly_fault::{Answer, Fault};
 use prolly_files::{Output, Refusal, Target, buffered};
-use prolly_io::{FromRead, Rejoined, Source, SourceFault, ToWrite};
+use prolly_io::{FromRead, Source, ToWrite};
 use prolly_line::Command;
-use prolly_link::RunFault;
 use prolly_progress::{CountedSink, CountedSource, CountingGate, Counts};
 use prolly_runs::answer_build_into;
 use std::alloc::AllocError;
@@ -131,33 +130,13 @@ fn build_asked<T: Wait + Threads + Clock + Sync>(
         return build_into(host, &config, watch, &mut sources, output);
     };
     let mut sample = Sample::new();
-    let fronts = match fronts_of(rt, &mut sample, &mut sources)? {
-        Ok(fronts) => fronts,
+    let mut sources = match sample.peek_all(rt.alloc(), sources)? {
+        Ok(sources) => sources,
         Err(fault) => return Answer::of_fault(rt.alloc(), Fault::Run(fault)),
     };
     let bits = chosen_bits(rt, &sample, chunk_bytes, request.bits)?;
     let config = request.config(bits);
-    let mut rejoined = Vec::with_capacity(rt.alloc(), fronts.len())?;
-    for (front, source) in fronts.iter().zip(sources) {
-        rejoined.push(Rejoined::new(front, source))?;
-    }
-    build_into(host, &config, watch, &mut rejoined, output)
-}
-
-/// What a sample takes off each of the sources, in their order.
-fn fronts_of<S: Source>(
-    rt: &HostRuntime,
-    sample: &mut Sample,
-    sources: &mut [S],
-) -> Result<Result<Vec<Vec<u8>>, RunFault>, AllocError> {
-    let mut fronts = Vec::new(rt.alloc());
-    for (file, source) in (0..).zip(sources) {
-        match sample.read(rt.alloc(), source)? {
-            Ok(front) => fronts.push(front)?,
-            Err(SourceFault) => return Ok(Err(RunFault::Read { file })),
-        }
-    }
-    Ok(Ok(fronts))
+    build_into(host, &config, watch, &mut sources, output)
 }
 
 /// Builds the tree of the sources into the file, with these settings, and shows meanwhile how far that

@@ -9,7 +9,7 @@ use prolly_answer::{Sample, answer_scratch};
 use prolly_entry::Version;
 use prolly_fault::{Answer, Fault};
 use prolly_files::{Output, OutputKind, Refusal, Target, refuse_printed_input, stdin_source};
-use prolly_io::{Rejoined, Sink, ToWrite};
+use prolly_io::{Sink, ToWrite};
 use prolly_line::Command;
 use std::alloc::AllocError;
 use std::fs::File;
@@ -60,10 +60,9 @@ fn scratch_into<W: Sink>(
         return answer_scratch(alloc, &mut records, bits, version, sink);
     };
     let mut sample = Sample::new();
-    let Ok(front) = sample.read(alloc, &mut records)? else {
+    let Ok(mut records) = sample.peek(alloc, records)? else {
         return Answer::of_fault(alloc, Fault::Read);
     };
     let bits = chosen_bits(rt, &sample, chunk_bytes, bits)?;
-    let mut records = Rejoined::new(&front, records);
     answer_scratch(alloc, &mut records, bits, version, sink)
 }

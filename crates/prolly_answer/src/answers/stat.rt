@@ -53,8 +53,13 @@ pub fn answer_stat<H: ChunkHasher, S: Source>(
         return Stated { source, answer };
     };
     let front = &front[..count];
+    let is_chunk_file = front == LETTERS;
+    let Ok(front) = front.to_vec(alloc) else {
+        let answer = Err(AllocError);
+        return Stated { source, answer };
+    };
     let mut whole = Rejoined::new(front, source);
-    let answer = whole_answer(hasher, alloc, front == LETTERS, &mut whole, form);
+    let answer = whole_answer(hasher, alloc, is_chunk_file, &mut whole, form);
     Stated {
         source: whole.into_rest(),
         answer,

@@ -1,11 +1,15 @@
 //! What is seen of record files before bits are chosen by it.
-ghost use Rattle.std.specs.Prelude.{◌≡◌, ◌≢◌, ◌≤◌, ◌++◌, take, true, IfErr, IfOk, OnErr, OnOk, length};
+ghost use Rattle.std.specs.Prelude.{◌≡◌, ◌≢◌, ◌≤◌, ◌++◌, take, true, length};
+ghost use Rattle.std.specs.Prelude.{IsOk, IfErr, IfOk, OnErr, OnOk};
 ghost use Rattle.prolly_answer.specs.ChunkBytes.{ArePuts, IsChoice, Samples, nothing_sampled};
+ghost use Rattle.prolly_answer.specs.Peeks.{AreHonest, ArePutBack, IsPutBack, IsReadOf, IsUnread};
+ghost use Rattle.prolly_answer.specs.Peeks.{SamplesAll, lefts_of};
 
 use crate::chunk_bytes::chosen_bits::{ChosenBits, least_bits};
 use crate::input::RECORD_LIMIT;
 use prolly_entry::{NextRecord, next_record};
-use prolly_io::{Source, SourceFault, take_front};
+use prolly_io::{Rejoined, Source, SourceFault, take_front};
+use prolly_link::RunFault;
 use std::alloc::{AllocError, Global};
 use std::marker::Model;
 
@@ -45,7 +49,7 @@ impl Sample {
 
     /// Takes the first bytes of a record file off its source, as many as the sample still wants, and
     /// counts the entries that the records in them put. Gives these bytes, which are to be put back
-    /// before the source: see [`Rejoined`](prolly_io::Rejoined).
+    /// before the source, as [`peek`](Sample::peek) does.
     ///
     /// A record counts where it is whole and good, and so are all before it; a removal counts for
     /// nothing. At a `SourceFault` what was read before it is gone. An `AllocError` is want of memory
@@ -68,6 +72,7 @@ impl Sample {
         ensures refused { OnErr result (source.new ≡ source.old) }
         ensures honest { (S.seen source.old).is_honest ≡ true → (S.seen source.new).is_honest ≡ true }
         ensures steady { (S.seen source.old).is_steady ≡ true → (S.seen source.new).is_steady ≡ true }
+        ensures succeeds { (S.seen source.old).is_steady ≡ true → IfOk result IsOk }
     {
         let mut front = vec![in alloc; 0; self.left]?;
         match take_front(source, &mut front) {
@@ -78,6 +83,53 @@ impl Sample {
             }
             Err(fault) => Ok(Err(fault)),
         }
+    }
+
+    /// Looks at the first bytes of a record file, as [`read`](Sample::read) does, and puts them back:
+    /// gives a source of the same bytes.
+    ///
+    /// At a `SourceFault`, and where memory is refused, the source is gone.
+    pub fn peek<S: Source + Drop>(
+        &mut self,
+        alloc: Global,
+        mut source: S,
+    ) -> Result<Result<Rejoined<S>, SourceFault>, AllocError>
+        ensures sampled { (S.seen source).is_honest ≡ true → IfOk result (λ read. OnOk read
+            (Samples (take self.old.left (S.seen source).left) self.old self.new)) }
+        ensures put_back { (S.seen source).is_honest ≡ true → IfOk result (λ read. IfOk read
+            (λ whole. IsPutBack (S.seen source) (⟦<Rejoined<S> as Source>⟧.seen whole))) }
+        ensures succeeds { (S.seen source).is_steady ≡ true → IfOk result IsOk }
+    {
+        match self.read(alloc, &mut source)? {
+            Ok(front) => Ok(Ok(Rejoined::new(front, source))),
+            Err(fault) => Ok(Err(fault)),
+        }
+    }
+
+    /// Looks at the first bytes of record files, one file after another, and puts them back: gives
+    /// sources of the same bytes, in the same order.
+    ///
+    /// At the first failed read, which is the fault, and where memory is refused, the sources are
+    /// gone.
+    pub fn peek_all<S: Source + Drop>(
+        &mut self,
+        alloc: Global,
+        sources: Vec<S>,
+    ) -> Result<Result<Vec<Rejoined<S>>, RunFault>, AllocError>
+        ensures sampled { AreHonest S.seen sources.items → IfOk result (λ read. OnOk read
+            (SamplesAll (lefts_of S.seen sources.items) self.old self.new)) }
+        ensures put_back { IfOk result (λ read. IfOk read (λ wholes. ArePutBack S.seen
+            ⟦<Rejoined<S> as Source>⟧.seen sources.items wholes.items)) }
+        ensures failed { IfOk result (λ read. IfErr read (IsReadOf S.seen sources.items)) }
+    {
+        let mut wholes = Vec::with_capacity(alloc, sources.len())?;
+        for source in sources {
+            let Ok(whole) = self.peek(alloc, source)? else {
+                return Ok(Err(unread(wholes.len())));
+            };
+            wholes.push(whole)?;
+        }
+        Ok(Ok(wholes))
     }
 
     /// Counts the entries that the records in these first bytes of a record file put.
@@ -137,5 +189,15 @@ fn puts_in(front: &[u8]) -> Puts
             }
             NextRecord::More | NextRecord::Flawed(_) => return puts,
         }
+    }
+}
+
+/// The fault of the file of this number, of which a read failed.
+fn unread(number: usize) -> RunFault
+    ensures { IsUnread number result }
+{
+    match u32::try_from(number) {
+        Ok(file) => RunFault::Read { file },
+        Err(_) => RunFault::TooManyFiles,
     }
 }

@@ -1,6 +1,6 @@
 //! What is told of builds, of files and of bits where memory is refused.
 use super::{FILE_OF_ONE, RECORD, expect_shown};
-use crate::expect::expect_bytes;
+use crate::expect::{expect_bytes, expect_eq};
 use crate::tools::expect_answer;
 use prolly_answer::{ChosenBits, Sample, answer_get_raw, bits_note};
 use prolly_check::OneThread;
@@ -58,6 +58,18 @@ fn records_are_sampled_or_want_memory(rt: HostRuntime) -> Result<(), Fail> {
         Ok(Err(_)) => return Err("a read failed".into()),
         Err(_) => {}
     }
+    Ok(())
+}
+
+#[test]
+fn files_are_looked_at_or_want_memory(rt: HostRuntime) -> Result<(), Fail> {
+    let alloc = rt.alloc();
+    let mut sources = Vec::new(alloc);
+    sources.push(FromRead::new(RECORD))?;
+    let Ok(wholes) = Sample::new().peek_all(alloc, sources) else {
+        return Ok(());
+    };
+    expect_eq(&rt, &wholes.map(|wholes| wholes.len()), &Ok(1));
     Ok(())
 }
 

@@ -9,7 +9,8 @@ use prolly_answer::{
 use prolly_check::OneThread;
 use prolly_entry::Version;
 use prolly_fault::{Answer, Fault};
-use prolly_io::FromRead;
+use prolly_io::{FromRead, ScriptSource, read_whole};
+use prolly_link::RunFault;
 use std::test::Fail;
 
 /// Keys, the status, and the value.
@@ -85,5 +86,43 @@ fn bits_are_those_of_the_records_that_are_read_first(rt: HostRuntime) -> Result<
         &note,
         b"prolly: --bits 8, since a record has 8 bytes on average\n",
     );
+    Ok(())
+}
+
+/// Record files. The second one takes a key away.
+const FILES: [&[u8]; 2] = [b"\0\x01a\0\0\0\x011", b"\0\x01b\xFF\xFF\xFF\xFF"];
+
+#[test]
+fn files_that_were_looked_at_give_all_that_they_have(rt: HostRuntime) -> Result<(), Fail> {
+    let alloc = rt.alloc();
+    let mut sources = Vec::new(alloc);
+    for file in FILES {
+        sources.push(FromRead::new(file))?;
+    }
+    let mut sample = Sample::new();
+    let Ok(mut wholes) = sample.peek_all(alloc, sources)? else {
+        return Err(Fail::from("a read failed"));
+    };
+    expect_eq(&rt, &wholes.len(), &FILES.len());
+    for (whole, file) in wholes.iter_mut().zip(FILES) {
+        let bytes = read_whole(alloc, whole, 100).map_err(|_| "a read failed")?;
+        expect_bytes(&rt, &bytes, file);
+    }
+    let chosen = sample.bits_for(2_048).ok_or("no record was seen")?;
+    expect_eq(&rt, &chosen.bits, &8);
+    Ok(())
+}
+
+#[test]
+fn a_file_that_cannot_be_looked_at_is_told(rt: HostRuntime) -> Result<(), Fail> {
+    let alloc = rt.alloc();
+    let mut sources = Vec::new(alloc);
+    for (file, fail_at) in FILES.into_iter().zip([None, Some(2)]) {
+        sources.push(ScriptSource::new(file.to_vec(alloc)?, 4, fail_at))?;
+    }
+    match Sample::new().peek_all(alloc, sources)? {
+        Ok(_) => return Err(Fail::from("no read failed")),
+        Err(fault) => expect_eq(&rt, &fault, &RunFault::Read { file: 1 }),
+    }
     Ok(())
 }

@@ -52,6 +52,16 @@ fn sampled<S: Source>(
     Ok(front)
 }
 
+fn peeked<S: Source + Drop>(alloc: Global, source: S) -> Result<bool, AllocError> {
+    let mut sample = Sample::new();
+    let Ok(whole) = sample.peek(alloc, source)? else {
+        return Ok(false);
+    };
+    let mut wholes = Vec::new(alloc);
+    wholes.push(whole)?;
+    Ok(sample.peek_all(alloc, wholes)?.is_ok())
+}
+
 fn keys<S: Source>(alloc: Global, source: &mut S) -> Result<Vec<Vec<u8>>, Fault> {
     read_keys(alloc, Notation::Hex, source)
 }

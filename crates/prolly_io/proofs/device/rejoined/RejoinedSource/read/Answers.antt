@@ -1,21 +1,29 @@
-use Rattle.std.proofs.Common.{◌≡◌, ◌∙◌, ◌-◌, ◌&&◌, ℕ, Bool, true, List, length, take, drop, ap}
-use Rattle.std.proofs.lemmas.List.Elements.{All-drop}
-use Rattle.prolly_entry.specs.Byte.{IsByte}
-use Rattle.prolly_entry.specs.lemmas.Lists.{rest_is}
+use Rattle.std.proofs.lemmas.Grind.{common_steps}
+use Rattle.std.proofs.lemmas.List.{append_assoc}
+use Rattle.std.proofs.Common.{◌∙◌, ◌&&◌, ◌+◌, ◌++◌, arith, ap, drop, take}
 use Rattle.prolly_io.specs.Bytes.{are_bytes}
-use Rattle.prolly_io.specs.BytesLaws.{both_true, bytes_from_test, test_from_bytes}
+use Rattle.prolly_io.specs.BytesLaws.{both_true}
+use Rattle.prolly_io.proofs.ScriptReads.{handed_out, rest_are_bytes}
 use Rattle.prolly_io.proofs.device.rejoined.RejoinedSource.read.Goals as goal
 
--- Where bytes are bytes, beside what else is true, so are those from an offset on.
-still_bytes : (bytes : List ℕ) (at : ℕ) (other : Bool) → (are_bytes bytes && other) ≡ true →
-    (are_bytes (take (length bytes - at) (drop at bytes)) && other) ≡ true
-still_bytes bytes at other tested =
-    let both = both_true (are_bytes bytes) other tested in
-    let kept = test_from_bytes (drop at bytes) (All-drop IsByte at bytes
-    (bytes_from_test bytes both.0)) in
-    ap (λ test. test && other) (ap are_bytes (rest_is bytes at) ∙ kept) ∙ both.1
+pub returns-clause-bytes : goal.returns-clause-bytes
+returns-clause-bytes g c = λ told.
+    let front = c.args.self.now.front.items in
+    let given = c.args.self.now.given in
+    let count = c.copy_some-count.result in
+    let left = (g.S.Source.seen c.args.self.now.rest).left in (
+      ap (λ first. first ++ left) (handed_out front c.deref.result.now c.args.buf.now
+          c.copy_some-count.new.to given count _ c.deref.ensures.value c.copy_some-count.ensures.count
+          c.copy_some-count.ensures.copied)
+          ∙ append_assoc (take count c.copy_some-count.new.to) (drop (given + count) front) left,
+      grind (arith, common_steps) steps 2000000,
+    )
 
 pub returns-clause-honest : goal.returns-clause-honest
 returns-clause-honest g c told =
-    still_bytes c.args.self.now.front.now c.copy_some-count.result
-    (g.S.Source.seen c.args.self.now.rest).is_honest told
+    let front = c.args.self.now.front.items in
+    let given = c.args.self.now.given in
+    let is_honest = (g.S.Source.seen c.args.self.now.rest).is_honest in
+    let both = both_true (are_bytes (drop given front)) is_honest told in
+    ap (λ test. test && is_honest) (rest_are_bytes front given c.copy_some-count.result both.0)
+    ∙ both.1
