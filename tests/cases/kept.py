@@ -308,6 +308,14 @@ def is_written_meanwhile(place):
             place.path("out").unlink()
 
 
+def is_written_before_its_lock(place):
+    """Another program writes to OUT before a build has locked it: OUT keeps that."""
+    place.lay(a_rec=records(ABC), out=OLD_FILES["chunk file"], comes=PICTURE)
+    answer, _ = place.meddled("build", "out", "a.rec", meddle={"before": "flock 1 cp comes out"})
+    place.answers(answer, refusal(b"another run writes OUT: out"))
+    place.holds(a_rec=records(ABC), out=PICTURE, comes=PICTURE)
+
+
 def is_swapped(place, command, call, is_device):
     """Another file comes in OUT's place before a call, each call in turn, from the first look at OUT to the end of the run: it is
     never written, and where OUT was a file, the run is refused."""
@@ -619,7 +627,7 @@ def tests():
         yield f"the rights of now, {'new' if before is None else 'old'}, {mode}", partial(has_the_rights_of_now, before=before, mode=mode)
     for flags in ([], ["--sync"]):
         yield f"is lost {' '.join(flags)}", partial(is_lost, flags=flags)
-    for test in (is_not_readable, is_a_block_device, has_no_files, names_all_files, stays_before_the_header, is_made_early, is_busy, is_written_meanwhile, is_not_its_own, is_behind_a_link, is_a_new_folder, keeps_its_group, has_its_rights_already, keeps_its_attributes):
+    for test in (is_not_readable, is_a_block_device, has_no_files, names_all_files, stays_before_the_header, is_made_early, is_busy, is_written_meanwhile, is_written_before_its_lock, is_not_its_own, is_behind_a_link, is_a_new_folder, keeps_its_group, has_its_rights_already, keeps_its_attributes):
         yield test.__name__.replace("_", " "), test
     yield from failing()
 
