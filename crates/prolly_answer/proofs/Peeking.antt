@@ -2,7 +2,6 @@
 use Rattle.std.proofs.Common.{◌≡◌, ℕ, List, [], ◌∷◌, ◌++◌, length, map, take, true, refl, sym, ap, subst}
 use Rattle.std.proofs.Common.{◌∙◌, ◌≢◌, suc}
 use Rattle.std.proofs.lemmas.List.{append-nil, append_assoc, map-append}
-use Rattle.std.specs.List.{AllByRecursion}
 use Rattle.prolly_entry.specs.lemmas.Lists.{all_back, all_front}
 use Rattle.prolly_io.specs.Source.{SourceView}
 use Rattle.prolly_link.specs.declared.fault.RunFault.{RunFault}
@@ -42,9 +41,6 @@ module _ {S T : Type 0} (seen : S → SourceView) (seen' : T → SourceView) whe
     pub all : yielded ++ rest ≡ sources
     pub put_back : ArePutBack seen seen' yielded wholes
     pub sampled : AreHonest seen yielded → SamplesAll (lefts_of seen yielded) old now
-
-  pub none_peeked : (sources : List S) (old : Sampled) → ArePeeked sources [] sources [] old old
-  none_peeked sources old = record { all = refl; put_back = record {}; sampled = λ honest. refl }
 
   -- One source more was looked at.
   pub one_peeked : (sources yielded left rest : List S) (wholes more : List T) (old now new : Sampled)
