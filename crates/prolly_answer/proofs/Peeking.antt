@@ -4,10 +4,9 @@ use Rattle.std.proofs.Common.{◌∙◌, ◌≢◌, suc}
 use Rattle.std.proofs.lemmas.List.{append-nil, append_assoc, map-append}
 use Rattle.prolly_entry.specs.lemmas.Lists.{all_back, all_front}
 use Rattle.prolly_io.specs.Source.{SourceView}
-use Rattle.prolly_link.specs.declared.fault.RunFault.{RunFault}
 use Rattle.prolly_answer.specs.ChunkBytes.{Sampled, Samples}
-use Rattle.prolly_answer.specs.Peeks.{AreHonest, ArePutBack, IsPutBack, IsReadOf, IsUnread}
-use Rattle.prolly_answer.specs.Peeks.{SamplesAll, lefts_of}
+use Rattle.prolly_answer.specs.Peeks.{AreHonest, ArePutBack, IsPutBack, IsUnreadOf, SamplesAll}
+use Rattle.prolly_answer.specs.Peeks.{lefts_of}
 
 -- One file more was seen.
 samples_more : (files : List (List ℕ)) (file : List ℕ) (old now new : Sampled) →
@@ -61,17 +60,18 @@ module _ {S T : Type 0} (seen : S → SourceView) (seen' : T → SourceView) whe
   }
 
   -- A read of the next one failed.
-  pub peek_failed : (sources yielded left rest : List S) (wholes : List T) (old now : Sampled) (s : S)
-      (number : ℕ) (fault : RunFault) → ArePeeked sources yielded left wholes old now →
-      left ≡ s ∷ rest → (seen s).is_steady ≢ true → number ≡ length wholes →
-      IsUnread number fault → IsReadOf seen sources fault
-  peek_failed sources yielded left rest wholes old now s number fault h next unsteady is told = record {
+  pub peek_failed : (sources yielded left rest : List S) (wholes : List T) (old now : Sampled)
+      (s after : S) (number : ℕ) → ArePeeked sources yielded left wholes old now → left ≡ s ∷ rest →
+      number ≡ length wholes → (seen after).failures ≢ (seen s).failures →
+      (seen s).is_steady ≢ true → IsUnreadOf seen sources number after
+  peek_failed sources yielded left rest wholes old now s after number h next is failed unsteady = record {
     before = yielded;
     source = s;
     behind = rest;
     place = sym h.all ∙ ap (λ ss. yielded ++ ss) next;
+    numbered = is ∙ as_many yielded wholes h.put_back;
+    failed = failed;
     unsteady = unsteady;
-    told = subst (λ (n : ℕ). IsUnread n fault) (is ∙ as_many yielded wholes h.put_back) told;
   }
 
   -- All were looked at.

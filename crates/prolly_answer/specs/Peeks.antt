@@ -36,14 +36,16 @@ module _ {S : Type 0} (seen : S → SourceView) where
   abbrev pub lefts_of : List S → List (List ℕ)
   lefts_of sources = map (λ s. (seen s).left) sources
 
-  -- A read of one of the sources failed, and the fault names that.
-  pub record IsReadOf (sources : List S) (fault : RunFault) : Type 0 where
+  -- A read of one of the sources failed: of the one that has this number among them. It is given back
+  -- as the failed read left it.
+  pub record IsUnreadOf (sources : List S) (number : ℕ) (after : S) : Type 0 where
     pub before : List S
     pub source : S
     pub behind : List S
     pub place : sources ≡ before ++ source ∷ behind
+    pub numbered : number ≡ length before
+    pub failed : (seen after).failures ≢ (seen source).failures
     pub unsteady : (seen source).is_steady ≢ true
-    pub told : IsUnread (length before) fault
 
 -- Of each honest source there is one that gives what it gave, in the same order.
 module _ {S T : Type 0} (seen : S → SourceView) (seen' : T → SourceView) where

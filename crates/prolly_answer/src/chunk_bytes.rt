@@ -3,4 +3,4 @@ mod chosen_bits;
 mod sample;
 
 pub use chosen_bits::{ChosenBits, bits_note};
-pub use sample::Sample;
+pub use sample::{Sample, Unread};

@@ -18,5 +18,5 @@ pub use answers::{
     answer_prove_set, answer_prove_set_by_root, answer_root, answer_scan, answer_scan_by_root,
     answer_scan_in, answer_scratch, answer_stat, answer_verify, answer_verify_set, status_behind,
 };
-pub use chunk_bytes::{ChosenBits, Sample, bits_note};
+pub use chunk_bytes::{ChosenBits, Sample, Unread, bits_note};
 pub use key_list::read_keys;

@@ -132,7 +132,7 @@ fn build_asked<T: Wait + Threads + Clock + Sync>(
     let mut sample = Sample::new();
     let mut sources = match sample.peek_all(rt.alloc(), sources)? {
         Ok(sources) => sources,
-        Err(fault) => return Answer::of_fault(rt.alloc(), Fault::Run(fault)),
+        Err(unread) => return Answer::of_fault(rt.alloc(), Fault::Run(unread.fault())),
     };
     let bits = chosen_bits(rt, &sample, chunk_bytes, request.bits)?;
     let config = request.config(bits);

@@ -2,7 +2,7 @@
 ghost use Rattle.std.specs.Prelude.{◌≡◌, ◌≢◌, ◌≤◌, ◌++◌, take, true, length};
 ghost use Rattle.std.specs.Prelude.{IsOk, IfErr, IfOk, OnErr, OnOk};
 ghost use Rattle.prolly_answer.specs.ChunkBytes.{ArePuts, IsChoice, Samples, nothing_sampled};
-ghost use Rattle.prolly_answer.specs.Peeks.{AreHonest, ArePutBack, IsPutBack, IsReadOf, IsUnread};
+ghost use Rattle.prolly_answer.specs.Peeks.{AreHonest, ArePutBack, IsPutBack, IsUnread, IsUnreadOf};
 ghost use Rattle.prolly_answer.specs.Peeks.{SamplesAll, lefts_of};
 
 use crate::chunk_bytes::chosen_bits::{ChosenBits, least_bits};
@@ -88,44 +88,52 @@ impl Sample {
     /// Looks at the first bytes of a record file, as [`read`](Sample::read) does, and puts them back:
     /// gives a source of the same bytes.
     ///
-    /// At a `SourceFault`, and where memory is refused, the source is gone.
+    /// Where a read fails, the source comes back as `Err`, without what was read of it. Where memory is
+    /// refused, it is gone.
     pub fn peek<S: Source + Drop>(
         &mut self,
         alloc: Global,
         mut source: S,
-    ) -> Result<Result<Rejoined<S>, SourceFault>, AllocError>
+    ) -> Result<Result<Rejoined<S>, S>, AllocError>
         ensures sampled { (S.seen source).is_honest ≡ true → IfOk result (λ read. OnOk read
             (Samples (take self.old.left (S.seen source).left) self.old self.new)) }
         ensures put_back { (S.seen source).is_honest ≡ true → IfOk result (λ read. IfOk read
             (λ whole. IsPutBack (S.seen source) (⟦<Rejoined<S> as Source>⟧.seen whole))) }
+        ensures failed { IfOk result (λ read. IfErr read (λ after.
+            (S.seen after).failures ≢ (S.seen source).failures)) }
         ensures succeeds { (S.seen source).is_steady ≡ true → IfOk result IsOk }
     {
         match self.read(alloc, &mut source)? {
             Ok(front) => Ok(Ok(Rejoined::new(front, source))),
-            Err(fault) => Ok(Err(fault)),
+            Err(_) => Ok(Err(source)),
         }
     }
 
     /// Looks at the first bytes of record files, one file after another, and puts them back: gives
     /// sources of the same bytes, in the same order.
     ///
-    /// At the first failed read, which is the fault, and where memory is refused, the sources are
-    /// gone.
+    /// At the first failed read that source comes back, and the others are gone. Where memory is
+    /// refused, all are.
     pub fn peek_all<S: Source + Drop>(
         &mut self,
         alloc: Global,
         sources: Vec<S>,
-    ) -> Result<Result<Vec<Rejoined<S>>, RunFault>, AllocError>
+    ) -> Result<Result<Vec<Rejoined<S>>, Unread<S>>, AllocError>
         ensures sampled { AreHonest S.seen sources.items → IfOk result (λ read. OnOk read
             (SamplesAll (lefts_of S.seen sources.items) self.old self.new)) }
         ensures put_back { IfOk result (λ read. IfOk read (λ wholes. ArePutBack S.seen
             ⟦<Rejoined<S> as Source>⟧.seen sources.items wholes.items)) }
-        ensures failed { IfOk result (λ read. IfErr read (IsReadOf S.seen sources.items)) }
+        ensures failed { IfOk result (λ read. IfErr read (λ unread.
+            IsUnreadOf S.seen sources.items unread.file unread.source)) }
     {
         let mut wholes = Vec::with_capacity(alloc, sources.len())?;
         for source in sources {
-            let Ok(whole) = self.peek(alloc, source)? else {
-                return Ok(Err(unread(wholes.len())));
+            let whole = match self.peek(alloc, source)? {
+                Ok(whole) => whole,
+                Err(source) => {
+                    let file = wholes.len();
+                    return Ok(Err(Unread { file, source }));
+                }
             };
             wholes.push(whole)?;
         }
@@ -155,6 +163,27 @@ impl Sample {
         let mean = (self.bytes / self.entries) as u64;
         let bits = least_bits(mean, chunk_bytes);
         Some(ChosenBits { bits, mean })
+    }
+}
+
+/// A record file that could not be looked at, since a read failed.
+#[derive(Drop)]
+pub struct Unread<S> {
+    /// Its number among the files, from 0 on.
+    pub file: usize,
+    /// It, as the reads left it.
+    pub source: S,
+}
+
+impl<S> Unread<S> {
+    /// The fault by which a run names the file.
+    pub fn fault(&self) -> RunFault
+        ensures { IsUnread self.now.file result }
+    {
+        match u32::try_from(self.file) {
+            Ok(file) => RunFault::Read { file },
+            Err(_) => RunFault::TooManyFiles,
+        }
     }
 }
 
@@ -189,15 +218,5 @@ fn puts_in(front: &[u8]) -> Puts
             }
             NextRecord::More | NextRecord::Flawed(_) => return puts,
         }
-    }
-}
-
-/// The fault of the file of this number, of which a read failed.
-fn unread(number: usize) -> RunFault
-    ensures { IsUnread number result }
-{
-    match u32::try_from(number) {
-        Ok(file) => RunFault::Read { file },
-        Err(_) => RunFault::TooManyFiles,
     }
 }

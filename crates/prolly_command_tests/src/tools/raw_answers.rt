@@ -122,7 +122,7 @@ fn a_file_that_cannot_be_looked_at_is_told(rt: HostRuntime) -> Result<(), Fail> 
     }
     match Sample::new().peek_all(alloc, sources)? {
         Ok(_) => return Err(Fail::from("no read failed")),
-        Err(fault) => expect_eq(&rt, &fault, &RunFault::Read { file: 1 }),
+        Err(unread) => expect_eq(&rt, &unread.fault(), &RunFault::Read { file: 1 }),
     }
     Ok(())
 }

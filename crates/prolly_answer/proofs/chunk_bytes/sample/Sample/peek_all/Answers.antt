@@ -23,13 +23,13 @@ loop-source-preserved g c =
     l.invariant c.in-Some.ensures.steps.0 (λ honest. search rules) (λ honest. search rules)
     c.in_ok-push.ensures.items
 
-pub returns-in_default-clause-failed : goal.returns-in_default-clause-failed
-returns-in_default-clause-failed g c =
+pub returns-in-Err-clause-failed : goal.returns-in-Err-clause-failed
+returns-in-Err-clause-failed g c =
     let l = c.loop-source in
     peek_failed g.S.Source.seen (rejoined_view g.S.Source.seen) c.args.sources.items l.yielded
     (into_iter_items l.source-iterator) (into_iter_items c.next.new.self) l.wholes.items
-    c.args.self.now l.self c.in-Some.source c.len-in_default.result c.unread.result l.invariant
-    c.in-Some.ensures.steps.0 (λ steady. search rules) (search rules) c.unread.ensures
+    c.args.self.now l.self c.in-Some.source c.in-Err.source c.len-file.result l.invariant
+    c.in-Some.ensures.steps.0 (search rules) (search rules) (λ steady. search rules)
 
 pub returns-clause-sampled : goal.returns-clause-sampled
 returns-clause-sampled g c =
