@@ -3,10 +3,9 @@ use Rattle.std.proofs.Common.{◌≡◌, ℕ, List, [], ◌∷◌, ◌++◌, len
 use Rattle.std.proofs.Common.{◌∙◌, ◌≢◌, suc}
 use Rattle.std.proofs.lemmas.List.{append-nil, append_assoc, map-append}
 use Rattle.prolly_entry.specs.lemmas.Lists.{all_back, all_front}
-use Rattle.prolly_io.specs.Source.{SourceView}
+use Rattle.prolly_io.specs.Source.{AreHonest, SourceView}
 use Rattle.prolly_answer.specs.ChunkBytes.{Sampled, Samples}
-use Rattle.prolly_answer.specs.Peeks.{AreHonest, ArePutBack, IsPutBack, IsUnreadOf, SamplesAll}
-use Rattle.prolly_answer.specs.Peeks.{lefts_of}
+use Rattle.prolly_answer.specs.Peeks.{ArePutBack, IsPutBack, IsUnreadOf, SamplesAll, lefts_of}
 
 -- One file more was seen.
 samples_more : (files : List (List ℕ)) (file : List ℕ) (old now new : Sampled) →

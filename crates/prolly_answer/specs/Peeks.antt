@@ -1,6 +1,5 @@
 -- Record files that were looked at before they are read.
 use Rattle.std.specs.Prelude.{◌≡◌, ◌≢◌, ◌≤◌, ℕ, List, [], ◌∷◌, ◌++◌, length, map, take, true}
-use Rattle.std.specs.List.{AllByRecursion}
 use Rattle.prolly_io.specs.Source.{SourceView}
 use Rattle.prolly_link.specs.declared.fault.RunFault.{RunFault}
 use Rattle.prolly_link.specs.declared.fault.RunFault.TheVariants.{Read, TooManyFiles}
@@ -28,10 +27,6 @@ IsUnread number TooManyFiles = 4294967296 ≤ number
 IsUnread number _ = ⊥
 
 module _ {S : Type 0} (seen : S → SourceView) where
-  -- Honest sources.
-  abbrev pub AreHonest : List S → Type 0
-  AreHonest sources = AllByRecursion (λ s. (seen s).is_honest ≡ true) sources
-
   -- What each source has left.
   abbrev pub lefts_of : List S → List (List ℕ)
   lefts_of sources = map (λ s. (seen s).left) sources

@@ -10,7 +10,7 @@ use Rattle.prolly_entry.specs.Overlay.{overlay}
 use Rattle.prolly_entry.specs.Pair.{Pair}
 use Rattle.prolly_entry.specs.Record.{Record}
 use Rattle.prolly_entry.specs.declared.version.Version.{Version}
-use Rattle.prolly_io.specs.Source.{SourceView}
+use Rattle.prolly_io.specs.Source.{AreHonest, SourceView}
 use Rattle.prolly_io.specs.Sink.{SinkView}
 use Rattle.prolly_link.specs.Identity.{LinkId}
 use Rattle.prolly_link.specs.Progress.{end_given}
@@ -39,7 +39,7 @@ use Rattle.prolly_build.specs.BuiltFile.{AreKept, IsBegun, IsStartFault, IsUnmad
 use Rattle.prolly_build.specs.BuiltFile.{IsWriterFault}
 use Rattle.prolly_build.specs.Config.{AreLawful, Settings}
 use Rattle.prolly_build.specs.End.{IsFinished, IsRefusedAt, IsStoppedAt}
-use Rattle.prolly_build.specs.InputFaults.{AreHonest, IsFileFault}
+use Rattle.prolly_build.specs.InputFaults.{IsFileFault}
 use Rattle.prolly_build.specs.Mergers.{received_input}
 use Rattle.prolly_build.specs.OldBase.{AreChangesPaired, IsChangesLink, first_sent, senders_of}
 use Rattle.prolly_build.specs.OldEnd.{IsOldEnded, TellsOf}

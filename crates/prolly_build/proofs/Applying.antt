@@ -14,7 +14,7 @@ use Rattle.prolly_entry.specs.lemmas.Lists.{prefix_trans}
 use Rattle.prolly_entry.specs.Pair.{Pair}
 use Rattle.prolly_entry.specs.Prefix.{IsPrefix}
 use Rattle.prolly_entry.specs.Record.{Record, keys_of}
-use Rattle.prolly_io.specs.Source.{SourceView}
+use Rattle.prolly_io.specs.Source.{AreHonest, SourceView}
 use Rattle.prolly_laws.specs.Merging.{cut_behind_stop, merged_part_is_small, overlay_is_small}
 use Rattle.prolly_link.specs.Views.{Batching, Whole}
 use Rattle.prolly_link.specs.declared.message.End.{End}
@@ -44,7 +44,7 @@ use Rattle.prolly_apply.specs.lemmas.OldLeaves.{pairs_are, rest_are_cut}
 use Rattle.prolly_build.specs.Applied.{IsMapOf, IsOldFault}
 use Rattle.prolly_build.specs.BuiltFile.{AreRead, IsInputEnd, IsLoadFault, IsRunOf}
 use Rattle.prolly_build.specs.Config.{AreLawful, Settings}
-use Rattle.prolly_build.specs.InputFaults.{AreHonest, CountFor}
+use Rattle.prolly_build.specs.InputFaults.{CountFor}
 use Rattle.prolly_build.specs.Mergers.{MergesAll, sent_input}
 use Rattle.prolly_build.specs.OldBase.{AreChangesPaired, first_sent, senders_of}
 use Rattle.prolly_build.specs.RecordLinks.{IsFed, IsJoint, Joined}

@@ -9,7 +9,7 @@ use Rattle.prolly_entry.specs.Record.{Record}
 use Rattle.prolly_entry.specs.declared.next.Flaw.{Flaw}
 use Rattle.prolly_entry.specs.declared.next.Flaw.TheVariants as flaws
 use Rattle.prolly_laws.specs.Readings.{reading_is}
-use Rattle.prolly_io.specs.Source.{SourceView}
+use Rattle.prolly_io.specs.Source.{AreHonest, SourceView}
 use Rattle.prolly_link.specs.Views.{Batching, Whole}
 use Rattle.prolly_link.specs.declared.message.End.{End}
 use Rattle.prolly_link.specs.declared.message.End.TheVariants.{Clean, Fault}
@@ -19,7 +19,7 @@ use Rattle.prolly_load.specs.Loaded.{FailsAs, EndsAs}
 use Rattle.prolly_merge.specs.Inputs.{input_of, fault_in}
 use Rattle.prolly_build.specs.Mergers.{sent_input}
 use Rattle.prolly_build.specs.RunResult.{AreLoaded}
-use Rattle.prolly_build.specs.InputFaults.{IsReadingOf, IsFailureOf, CountFor, AreHonest}
+use Rattle.prolly_build.specs.InputFaults.{IsReadingOf, IsFailureOf, CountFor}
 use Rattle.prolly_build.specs.InputFaults.{ending_told}
 use Rattle.prolly_build.specs.Workers.{IsLoadedFrom}
 use Rattle.prolly_build.proofs.LoaderSteps.{of_all}

@@ -21,7 +21,7 @@ use Rattle.prolly_laws.specs.Stages.{composition, within_is_prefix}
 use Rattle.prolly_laws.specs.Merging.{all_rising, fronts_merge, rising_two_as_one, two_of_all}
 use Rattle.prolly_laws.specs.Merging.{overlay_of_two, overlay_is_small}
 use Rattle.prolly_laws.specs.Readings.{begins_all, first_are_good, one_reading, reading_is}
-use Rattle.prolly_io.specs.Source.{SourceView}
+use Rattle.prolly_io.specs.Source.{AreHonest, SourceView}
 use Rattle.prolly_io.specs.Sink.{SinkView}
 use Rattle.prolly_link.specs.Views.{Batching, Whole}
 use Rattle.prolly_link.specs.declared.message.End.{End}
@@ -39,7 +39,6 @@ use Rattle.prolly_build.specs.Refusals.{AreGood, IsRefused}
 use Rattle.prolly_build.specs.Config.{Settings, AreLawful}
 use Rattle.prolly_build.specs.End.{IsRefusedAt}
 use Rattle.prolly_build.proofs.StagingSteps.{HasStaged}
-use Rattle.prolly_build.specs.InputFaults.{AreHonest}
 use Rattle.prolly_build.specs.Workers.{IsLoadedFrom}
 use Rattle.prolly_build.specs.WriterState.{frames_of}
 use Rattle.prolly_build.proofs.Counted.{LeftAreBytes}

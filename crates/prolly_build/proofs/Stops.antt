@@ -15,7 +15,7 @@ use Rattle.prolly_tree.specs.Pipeline.{pipeline_events}
 use Rattle.prolly_entry.specs.Record.{Record}
 use Rattle.prolly_laws.specs.Merging.{cut_behind_stop, merge_joined, merged_part_rises}
 use Rattle.prolly_laws.specs.Merging.{merged_part_is_small}
-use Rattle.prolly_io.specs.Source.{SourceView}
+use Rattle.prolly_io.specs.Source.{AreHonest, SourceView}
 use Rattle.prolly_link.specs.declared.message.End.{End}
 use Rattle.prolly_link.specs.declared.message.End.TheVariants.{Clean, Fault}
 use Rattle.prolly_link.specs.declared.fault.RunFault.{RunFault}
@@ -28,7 +28,7 @@ use Rattle.prolly_build.specs.LastMerger.{IsGathered}
 use Rattle.prolly_build.specs.Mergers.{MergesAll, sent_input}
 use Rattle.prolly_build.specs.Config.{Settings, AreLawful}
 use Rattle.prolly_build.proofs.StagingSteps.{HasStaged}
-use Rattle.prolly_build.specs.InputFaults.{CountFor, AreHonest}
+use Rattle.prolly_build.specs.InputFaults.{CountFor}
 use Rattle.prolly_build.proofs.Counted.{LeftAreBytes, all_count}
 use Rattle.prolly_build.proofs.Loads.{all_rise, all_few}
 use Rattle.prolly_build.proofs.Mergings.{Inputs, Rises, rises_all, joined_rises, all_front}

@@ -15,7 +15,7 @@ use Rattle.prolly_tree.specs.File.{header, root_reference}
 use Rattle.prolly_tree.specs.Merge.{Input, stop, stop_fault, merged_part}
 use Rattle.prolly_tree.specs.Passing.{map_input}
 use Rattle.prolly_io.specs.Sink.{SinkView, TakesPrefix}
-use Rattle.prolly_io.specs.Source.{SourceView}
+use Rattle.prolly_io.specs.Source.{AreHonest, SourceView}
 use Rattle.prolly_link.specs.declared.fault.RunFault.{RunFault}
 use Rattle.prolly_link.specs.declared.fault.RunFault.TheVariants.{Memory, Write, NoThread, Lost}
 use Rattle.prolly_root.specs.RootFault.{MayFail}
@@ -25,7 +25,7 @@ use Rattle.prolly_apply.specs.Applied.{old_tree_fault}
 use Rattle.prolly_build.specs.BuiltFile.{AreKept, AreRead, IsBegun, IsMadeFile, IsStartFault}
 use Rattle.prolly_build.specs.BuiltFile.{IsUnmadeOf, IsWriterFault}
 use Rattle.prolly_build.specs.Config.{Settings}
-use Rattle.prolly_build.specs.InputFaults.{AreHonest, CountFor, IsFileFault, TookBegun}
+use Rattle.prolly_build.specs.InputFaults.{CountFor, IsFileFault, TookBegun}
 use Rattle.prolly_build.specs.Refusals.{AreGood}
 use Rattle.prolly_build.specs.WriterState.{frames_of}
 use Rattle.prolly_report.specs.declared.apply_fault.ApplyFault.{ApplyFault}

@@ -1,7 +1,6 @@
 -- What a build names, and what it leaves, where a record file is at fault.
 use Rattle.std.specs.Prelude.{◌≡◌, ◌≢◌, ◌⊎◌, ℕ, ◌+◌, true, List, [], ◌∷◌, ◌++◌, length, Option}
 use Rattle.std.specs.Prelude.{Some, None}
-use Rattle.std.specs.List.{AllByRecursion}
 use Rattle.prolly_tree.specs.Chunk.{begun_chunks}
 use Rattle.prolly_entry.specs.Cut.{sha512_cut}
 use Rattle.prolly_tree.specs.File.{header}
@@ -59,10 +58,6 @@ module _ {S : Type 0} (seen : S → SourceView) where
       (IsReadingOf file limit s t i ⊎ IsFailureOf file limit s t i) ×
       CountFor (file + 1) limit ss ts inputs
   CountFor file limit _ _ _ = ⊥
-
--- Honest sources.
-abbrev pub AreHonest : {S : Type 0} → (S → SourceView) → List S → Type 0
-AreHonest seen sources = AllByRecursion (λ s. (seen s).is_honest ≡ true) sources
 
 -- What is written of the pairs that come before a fault: the header, and a frame for each chunk
 -- that they close, up to, and without, the second one of the last stage's level.

@@ -1,14 +1,14 @@
 -- What a build has answered, and what it has made of its sources and of the sink then.
 use Rattle.std.specs.Prelude.{◌≡◌, ◌≢◌, List, Result, IfOk, IfErr, OnOk}
 use Rattle.prolly_io.specs.Sink.{SinkView}
-use Rattle.prolly_io.specs.Source.{SourceView}
+use Rattle.prolly_io.specs.Source.{AreHonest, SourceView}
 use Rattle.prolly_link.specs.declared.fault.RunFault.{RunFault}
 use Rattle.prolly_link.specs.declared.fault.RunFault.TheVariants.{Memory, Write, NoThread, Lost}
 use Rattle.prolly_build.specs.BuiltFile.{IsBegun, IsBuilt, IsUnmade, IsStartFault, IsWriterFault}
 use Rattle.prolly_build.specs.BuiltFile.{AreKept}
 use Rattle.prolly_build.specs.Refusals.{IsRefused}
 use Rattle.prolly_build.specs.Config.{Settings}
-use Rattle.prolly_build.specs.InputFaults.{AreHonest, IsFileFault, IsStopped}
+use Rattle.prolly_build.specs.InputFaults.{IsFileFault, IsStopped}
 use Rattle.prolly_report.specs.declared.report.Report.{Report}
 
 -- All that a build with these settings promises of its answer: of the sources before and after it,

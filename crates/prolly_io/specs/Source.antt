@@ -1,5 +1,6 @@
 -- What a contract sees of a source, and what a read does to the bytes that it has left.
-use Rattle.std.specs.Prelude.{◌≡◌, ℕ, ◌<◌, Bool, List, [], ◌++◌, length, take, Result, MatchResult}
+use Rattle.std.specs.Prelude.{◌≡◌, ℕ, ◌<◌, Bool, List, [], ◌++◌, length, take, true, Result, MatchResult}
+use Rattle.std.specs.List.{AllByRecursion}
 
 -- What a contract sees of a source: whether it is honest, so that it hands out the bytes that are
 -- left, in order, and tells where they end; whether it is steady, so that no read fails; the bytes
@@ -9,6 +10,10 @@ pub record SourceView : Type 0 where
   pub is_steady : Bool
   pub left : List ℕ
   pub failures : ℕ
+
+-- Honest sources.
+abbrev pub AreHonest : {S : Type 0} → (S → SourceView) → List S → Type 0
+AreHonest seen sources = AllByRecursion (λ s. (seen s).is_honest ≡ true) sources
 
 -- A read into a buffer that gave `Ok(n)` handed out the first n bytes that were left, and none only
 -- where none is left or the buffer has no room. A failed read handed out none.

@@ -1,8 +1,9 @@
 //! What is seen of record files before bits are chosen by it.
 ghost use Rattle.std.specs.Prelude.{◌≡◌, ◌≢◌, ◌≤◌, ◌++◌, take, true, length};
 ghost use Rattle.std.specs.Prelude.{IsOk, IfErr, IfOk, OnErr, OnOk};
+ghost use Rattle.prolly_io.specs.Source.{AreHonest};
 ghost use Rattle.prolly_answer.specs.ChunkBytes.{ArePuts, IsChoice, Samples, nothing_sampled};
-ghost use Rattle.prolly_answer.specs.Peeks.{AreHonest, ArePutBack, IsPutBack, IsUnread, IsUnreadOf};
+ghost use Rattle.prolly_answer.specs.Peeks.{ArePutBack, IsPutBack, IsUnread, IsUnreadOf};
 ghost use Rattle.prolly_answer.specs.Peeks.{SamplesAll, lefts_of};
 
 use crate::chunk_bytes::chosen_bits::{ChosenBits, least_bits};
