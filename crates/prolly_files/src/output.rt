@@ -238,12 +238,12 @@ impl<'a> Output<'a> {
     /// Empties the file before its first byte, where it stands in the output's place. One that was
     /// written to since it was found, or made, is left as it is.
     fn empty(&self) -> io::Result<()> {
-        let is_left_alone = match self.place {
+        let is_untouched = match self.place {
             Place::New(_) => self.is_empty(),
             Place::Old => self.look()?.is_still(self.target.found()),
             Place::Stream | Place::Beside(_) => return Ok(()),
         };
-        if !is_left_alone {
+        if !is_untouched {
             return Err(io::Error::from(ErrorKind::ResourceBusy));
         }
         self.file.set_len(0)
