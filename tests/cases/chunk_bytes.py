@@ -3,7 +3,7 @@
 from cases.scratch import ABC, numbered
 from oracle.readings import read
 from oracle.trees import REMOVED, chunk_file, overlay, record, records, reference_text, report, tree
-from support.harness import Case
+from support.harness import FOLDER, Case
 
 SAMPLE_BYTES = 1_000_000
 """How many bytes of record files are looked at, at most."""
@@ -105,6 +105,13 @@ def faults():
         status=5,
         err=b"prolly: cannot open none.rec\n",
         before={"in.rec": good},
+    )
+    yield Case(
+        "build --chunk-bytes: a folder for the second of two, and OUT is as it was",
+        ["build", "--chunk-bytes", "4096", "out.prl", "in.rec", "folder"],
+        status=5,
+        err=b"prolly: file 1: read failed\n",
+        before={"in.rec": good, "folder": FOLDER, "out.prl": chunk_file(ABC, 0)},
     )
 
 
