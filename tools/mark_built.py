@@ -7,13 +7,8 @@ This writes the marks: the toolchain's own sum of what a library is built from, 
 keeps it. One that is older than a file of its sources, or that stands on such a one, gets none.
 """
 
-import importlib.machinery
-import importlib.util
-import shutil
-import sys
-from pathlib import Path
-
 from prove import CRATES, TOP, crates_below
+from toolchain import toolchain
 
 
 def main():
@@ -35,17 +30,6 @@ def is_fresh(folder):
         return False
     sources = [file for part in ("src", "specs", "proofs") for file in (folder / part).rglob("*") if file.is_file()]
     return all(file.stat().st_mtime < built.stat().st_mtime for file in sources)
-
-
-def toolchain():
-    """The module in which the command `rt` keeps what it knows of crates."""
-    place = Path(shutil.which("rt")).resolve().parent / "rtlib.py"
-    loader = importlib.machinery.SourceFileLoader("rtlib", str(place))
-    module = importlib.util.module_from_spec(importlib.util.spec_from_loader("rtlib", loader))
-    sys.modules["rtlib"] = module
-    sys.dont_write_bytecode = True
-    loader.exec_module(module)
-    return module
 
 
 if __name__ == "__main__":

@@ -6,28 +6,29 @@ proved, since the program waits for it longest. JOBS jobs of the prover run at a
 and fewer where memory is short. A crate gets more than one where there are fewer crates than jobs: each further one loads all that
 the crate stands on once more.
 
-While `rt` proves a crate it lets no other run use the folders of those below, so runs that go on side by side have a room each.
-What the prover notes goes to a log, which is named where a proof fails.
+The first time a library is cut to its statements, which the crates above load sooner. One that is built again, or that `rt check`
+looked at, keeps its proofs, so that the next time only what changed is proved. What the prover notes goes to a log, which is named
+where a proof fails.
 """
 
 import os
 import shutil
 import subprocess
 import sys
+import tempfile
 import time
 from concurrent.futures import FIRST_COMPLETED, ThreadPoolExecutor, wait
+from contextlib import contextmanager
 from functools import cache
 from pathlib import Path
+
+from toolchain import toolchain
 
 TOP = Path(__file__).resolve().parents[1]
 CRATES = TOP / "crates"
 PROGRAM = "prolly"
 OUT = CRATES / PROGRAM / "out"
 LOG = OUT / "proofs.log"
-ROOMS = OUT / "rooms"
-
-PARTS = "src", "specs", "proofs"
-"""The folders of a crate that are read."""
 
 JOB_BYTES = 2_500_000_000
 """What a job takes of memory at most, but for the last ones, which run alone."""
@@ -43,11 +44,9 @@ def main():
     """Proves all, builds, and runs the program once: over the empty map."""
     jobs = int(sys.argv[1]) if len(sys.argv) > 1 else most_jobs()
     OUT.mkdir(parents=True, exist_ok=True)
-    shutil.rmtree(ROOMS, ignore_errors=True)
     with open(LOG, "w", encoding="utf-8") as log:
         proving = Proving(jobs, log)
         root = proving.libraries() and proving.program()
-    shutil.rmtree(ROOMS, ignore_errors=True)
     if not root:
         sys.exit(f"what the prover says stands in {LOG.relative_to(TOP)}")
     print(f"crates/{PROGRAM}/out/{PROGRAM} is built; the root of the empty map is {root}")
@@ -65,19 +64,19 @@ class Proving:
 
     def __init__(self, jobs, log):
         self.jobs, self.log, self.start = jobs, log, time.monotonic()
-        self.crates = {PROGRAM, *crates_below(PROGRAM)}
-        self.done, self.rooms = set(), []
+        self.crates, self.done = {PROGRAM, *crates_below(PROGRAM)}, set()
 
     def libraries(self):
         """Proves all libraries. Gives whether none has failed: with the first one that has, no further one begins."""
         free, under_way, failed = self.jobs, {}, False
-        with ThreadPoolExecutor(self.jobs) as pool:
+        known = {crate.name: crate for crate in toolchain().crates_below(str(TOP))}
+        with held([known[crate] for crate in self.crates]), ThreadPoolExecutor(self.jobs) as pool:
             while True:
                 ready = [] if failed else self.ready(under_way.values())
                 while free and ready:
                     crate = ready.pop(0)
                     jobs = min(jobs_for(crate), max(1, free // (len(ready) + 1)))
-                    under_way[pool.submit(self.proved, crate, jobs)] = crate, jobs
+                    under_way[pool.submit(proved, known[crate], jobs)] = crate, jobs
                     free -= jobs
                 if not under_way:
                     return not failed
@@ -97,14 +96,6 @@ class Proving:
         """How many lines of code are proved one after another from a crate on, up to the program."""
         above = [other for other in self.crates if crate in crates_below(other)]
         return lines_of(crate) + max(map(self.work_from, above), default=0)
-
-    def proved(self, crate, jobs):
-        """Proves a library in a room. Gives whether it is proved, and what the prover said."""
-        room = self.rooms.pop() if self.rooms else Room(ROOMS / crate)
-        try:
-            return room.proved(crate, jobs)
-        finally:
-            self.rooms.append(room)
 
     def noted(self, crate, outcome):
         """Says of a crate that it is done, or is not proved. Gives whether it is."""
@@ -129,38 +120,40 @@ class Proving:
         return done.stdout.split()[-1] if is_proved else None
 
 
-class Room:
-    """A folder with the sources of all crates, in which one run at a time proves."""
-
-    def __init__(self, folder):
-        self.crates = folder / CRATES.name
-        for part in PARTS:
-            for sources in CRATES.glob(f"*/{part}"):
-                same_files(sources, self.crates / sources.relative_to(CRATES))
-        for name in ("crates.txt", "HANDLES"):
-            shutil.copy(TOP / name, folder / name)
-
-    def proved(self, crate, jobs):
-        """Proves a library, over what earlier runs kept of it. Gives whether it is proved, and what the prover said."""
-        for lower in crates_below(crate):
-            library = self.crates / lower / "out" / "rlib"
-            if not library.exists():
-                same_files(CRATES / lower / "out" / "rlib", library)
-        kept, out = CRATES / crate / "out", self.crates / crate / "out"
-        if kept.exists():
-            kept.rename(out)
-        try:
-            how = {"stdin": subprocess.DEVNULL, "stdout": subprocess.PIPE, "stderr": subprocess.STDOUT, "text": True}
-            done = subprocess.run(["rt", "lib", "--jobs", str(jobs)], cwd=self.crates / crate, check=False, **how)
-            return done.returncode == 0, done.stdout
-        finally:
-            if out.exists():
-                out.rename(kept)
+@contextmanager
+def held(crates):
+    """Keeps other runs of `rt` out of the crates' folders meanwhile."""
+    folders = toolchain().lock(crates)
+    try:
+        yield
+    finally:
+        for folder in folders:
+            os.close(folder)
 
 
-def same_files(folder, other):
-    """Gives the files of a folder a second name each, in another one."""
-    shutil.copytree(folder, other, copy_function=os.link)
+def proved(crate, jobs):
+    """Proves and builds a library, if it was not built from the sources as they stand. Gives whether it is, and what the prover said."""
+    build = library_with_proofs if crate.has_kept() or Path(crate.rlib).exists() else cut_library
+    with tempfile.TemporaryFile("w+", encoding="utf-8", errors="replace") as crate.out:
+        is_proved = crate.is_built() or build(crate, ["--jobs", str(jobs)]) == 0
+        crate.out.seek(0)
+        return is_proved, crate.out.read()
+
+
+def library_with_proofs(crate, flags):
+    """Proves and builds a library over the proofs that were kept of it, and keeps those of now. Gives the prover's status."""
+    return crate.build_rlib(flags, anew=False)
+
+
+def cut_library(crate, flags):
+    """Proves a library from nothing and builds it with its statements alone. Gives the prover's status."""
+    stamp, folder = crate.stamp(), Path(crate.rlib).parent
+    shutil.rmtree(folder, ignore_errors=True)
+    folder.mkdir(parents=True)
+    status = crate.call(toolchain().RATTLE, "build", *crate.words(flags, keeps=False), "--statements", "-o", crate.rlib)
+    if not status and stamp == crate.stamp():
+        (folder / "stamp").write_text(stamp, encoding="utf-8")
+    return status
 
 
 def lines_of(crate):
