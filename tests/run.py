@@ -102,7 +102,11 @@ LONGEST_TEST = 3_600.0
 
 def main():
     """Runs all cases, and gives the status."""
+    if len(sys.argv) < 2:
+        raise SystemExit(__doc__)
     program = str(Path(sys.argv[1]).resolve())
+    if not Path(program).is_file() or not os.access(program, os.X_OK):
+        raise SystemExit(f"{sys.argv[1]} is not there or does not run: make prolly makes the program")
     for count, version, size in KNOWN_SIZES:
         assert len(chunk_file(scratch.ABC[:count], 0, version)) == size
     assert chunk_file([], 0) == scratch.EMPTY_FILE
