@@ -135,13 +135,24 @@ def proved(crate, jobs):
     """Proves and builds a library, if it was not built from the sources as they stand. Gives whether it is, and what the prover said."""
     build = library_with_proofs if crate.has_kept() or Path(crate.rlib).exists() else cut_library
     with tempfile.TemporaryFile("w+", encoding="utf-8", errors="replace") as crate.out:
-        is_proved = crate.is_built() or build(crate, ["--jobs", str(jobs)]) == 0
+        is_proved = is_built(crate) or build(crate, ["--jobs", str(jobs)]) == 0
         crate.out.seek(0)
         return is_proved, crate.out.read()
 
 
+def is_built(crate):
+    """Whether a library was built from the sources as they stand, over those below as they stand: a cut one fits no others."""
+    return crate.is_built() and all(built_at(lower) <= built_at(crate) for lower in crate.below())
+
+
+def built_at(crate):
+    """When a library was built."""
+    return os.stat(crate.rlib).st_mtime_ns
+
+
 def library_with_proofs(crate, flags):
     """Proves and builds a library over the proofs that were kept of it, and keeps those of now. Gives the prover's status."""
+    Path(crate.rlib).with_name("stamp").unlink(missing_ok=True)
     return crate.build_rlib(flags, anew=False)
 
 
