@@ -79,10 +79,3 @@ fn put(bytes: &mut [u8], place: usize, byte: u8) {
         *there = byte;
     }
 }
-
-/// Flips the highest bit of a byte.
-pub(crate) fn flip(bytes: &mut [u8], place: usize) {
-    if let Some(byte) = bytes.get_mut(place) {
-        *byte ^= 0x80;
-    }
-}

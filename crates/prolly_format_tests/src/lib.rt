@@ -14,11 +14,3 @@ mod files;
 mod growths;
 #[cfg(test)]
 mod levels;
-#[cfg(test)]
-mod read_ahead;
-#[cfg(test)]
-mod rooted;
-#[cfg(test)]
-mod rooted_differences;
-#[cfg(test)]
-mod set_proofs;

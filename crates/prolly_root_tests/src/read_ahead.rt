@@ -2,13 +2,12 @@
 ghost use Rattle.std.specs.Prelude.{◌<◌, length, OnOk};
 ghost use Rattle.prolly_root.specs.Reader.{way_of};
 
-use crate::checking::flip;
 use crate::expect::{expect_bytes, expect_eq};
 use crate::rooted::{Chunks, Rooted, open};
 use prolly_entry::{Pair, Version};
 use prolly_look_up::ManyThreads;
 use prolly_root::{ReadAhead, Reader, RootFault, Subtree};
-use prolly_test_parts::joined;
+use prolly_test_parts::{flip, joined};
 use std::alloc::Global;
 use std::num::NonZeroUsize;
 use std::process::Abort;

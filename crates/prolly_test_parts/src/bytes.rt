@@ -26,3 +26,10 @@ pub fn chunk_file(alloc: Global, head: [u8; 2], chunks: &[&[u8]]) -> Result<Vec<
     file.extend_from_slice(&(chunks.len() as u64).to_be_bytes())?;
     Ok(file)
 }
+
+/// Flips the highest bit of the byte in this place, if there is one.
+pub fn flip(bytes: &mut [u8], place: usize) {
+    if let Some(byte) = bytes.get_mut(place) {
+        *byte ^= 0x80;
+    }
+}

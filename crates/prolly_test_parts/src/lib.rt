@@ -5,6 +5,6 @@ mod bytes;
 mod pairs;
 mod zeros;
 
-pub use bytes::{chunk_file, joined};
+pub use bytes::{chunk_file, flip, joined};
 pub use pairs::pairs_of;
 pub use zeros::Zeros;

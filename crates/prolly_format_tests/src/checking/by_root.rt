@@ -2,13 +2,13 @@
 ghost use Rattle.std.specs.Prelude.{◌<◌};
 
 use super::damaged::FAULTS;
-use super::{FILE_OF_NONE, checked, file_cut_by, file_of_three, flip, put};
+use super::{FILE_OF_NONE, checked, file_cut_by, file_of_three, put};
 use crate::expect::expect_eq;
 use prolly_check::{CheckFault, OneThread, RootReport, StreamFault, check_by_root};
 use prolly_entry::{Ref, Version};
 use prolly_io::{FromRead, ScriptSource};
 use prolly_look_up::ManyThreads;
-use prolly_test_parts::pairs_of;
+use prolly_test_parts::{flip, pairs_of};
 use std::alloc::{AllocError, Global};
 use std::num::NonZeroUsize;
 use std::process::Abort;

@@ -1,9 +1,10 @@
 //! A file of which a byte is another, or of which only a part is there.
 
-use super::{checked, expect_fault, file_of_three, flip, put};
+use super::{checked, expect_fault, file_of_three, put};
 use crate::expect::expect_eq;
 use prolly_check::CheckFault;
 use prolly_entry::Version;
+use prolly_test_parts::flip;
 use std::alloc::Global;
 use std::process::Abort;
 use std::test::Fail;

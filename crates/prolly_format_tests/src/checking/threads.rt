@@ -1,12 +1,12 @@
 //! Files of which many threads take the hashes: they are told as by one.
 
-use super::{FILE_OF_NONE, checked, file_cut_by, file_of_three, flip};
+use super::{FILE_OF_NONE, checked, file_cut_by, file_of_three};
 use crate::expect::expect_eq;
 use prolly_check::{CheckFault, Tree, check_by};
 use prolly_entry::Version;
 use prolly_io::FromRead;
 use prolly_look_up::ManyThreads;
-use prolly_test_parts::pairs_of;
+use prolly_test_parts::{flip, pairs_of};
 use std::alloc::Global;
 use std::num::NonZeroUsize;
 use std::process::Abort;
