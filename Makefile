@@ -2,7 +2,7 @@
 
 PREFIX ?= /usr/local
 PROGRAM = crates/prolly/out/prolly
-TESTS = $(foreach name,format root worker sort build command,crates/prolly_$(name)_tests/out/prolly_$(name)_tests_tests)
+TESTS = $(foreach name,format root worker sort build line command,crates/prolly_$(name)_tests/out/prolly_$(name)_tests_tests)
 MADE = $(dir $(PROGRAM))share
 SHARE = $(DESTDIR)$(PREFIX)/share
 LIBRARY = library/out

@@ -1,11 +1,7 @@
-//! What no contract says of the command line and of what the commands answer: that their calls
-//! succeed where memory is at hand, and what they give for examples that were worked out elsewhere.
+//! What no contract says of what the commands answer: that their calls succeed where memory is at
+//! hand, and what they give for examples that were worked out elsewhere.
 #![tactic(auto)]
 
-#[cfg(test)]
-mod command_line;
-#[cfg(test)]
-mod commands;
 #[cfg(test)]
 mod expect;
 #[cfg(test)]

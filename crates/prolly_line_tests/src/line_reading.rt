@@ -1,6 +1,6 @@
 //! The records of lines, as a reader gives them one after another.
-use super::packing::{FAULTY_TEXT_LINES, HEX_LINES, TEXT_LINES};
 use crate::expect::{expect_bytes, expect_eq};
+use crate::packing::{FAULTY_TEXT_LINES, HEX_LINES, TEXT_LINES};
 use prolly_entry::append_record;
 use prolly_io::ScriptSource;
 use prolly_text::{

@@ -7,7 +7,7 @@ use std::process::Abort;
 use std::test::Fail;
 
 /// Lines in hexadecimal, their number, and the records that they stand for.
-pub(super) const HEX_LINES: &[(&[u8], u64, &[u8])] = &[
+pub(crate) const HEX_LINES: &[(&[u8], u64, &[u8])] = &[
     (b"", 0, b""),
     (
         b"61 31\n62 31\n",
@@ -72,7 +72,7 @@ fn names_the_first_faulty_line(rt: HostRuntime) -> Result<(), Fail> {
 
 /// Lines of text, whether a key alone is its removal, their number, and the records that they stand
 /// for.
-pub(super) const TEXT_LINES: &[(&[u8], bool, u64, &[u8])] = &[
+pub(crate) const TEXT_LINES: &[(&[u8], bool, u64, &[u8])] = &[
     (b"a\t1\n", false, 1, b"\0\x01a\0\0\0\x011"),
     // The escapes as the manual of PostgreSQL's COPY lists them.
     (
@@ -105,7 +105,7 @@ pub(super) const TEXT_LINES: &[(&[u8], bool, u64, &[u8])] = &[
 ];
 
 /// Lines of which one is no text, whether a key alone is its removal, and the first such line.
-pub(super) const FAULTY_TEXT_LINES: &[(&[u8], bool, u64)] = &[
+pub(crate) const FAULTY_TEXT_LINES: &[(&[u8], bool, u64)] = &[
     (b"a\n", false, 0),
     (b"a\t1\n\n", false, 1),
     (b"a\t1\t2\n", true, 0),
