@@ -33,6 +33,11 @@ pub enum LookFault {
 }
 
 impl From<AllocError> for LookFault {
+    ghost use Rattle.std.specs.Prelude.{◌≡◌};
+    ghost use Rattle.prolly_files.specs.declared.output.kind.LookFault.TheVariants.{Memory};
+
+    ghost from_gives = { λ _ fault. fault ≡ Memory };
+
     fn from(_error: AllocError) -> LookFault {
         LookFault::Memory
     }
