@@ -4,9 +4,10 @@
 //! test's own values, the test ends in want of memory; where it is one of the calls that are
 //! tested, the test goes on.
 use crate::expect::{expect_bytes, expect_eq};
-use crate::rooted::{Chunks, Rooted, Shown, Sought, expect_shown, keys_from, look_up, open};
+use crate::rooted::{Shown, Sought, expect_shown, keys_from, look_up, open};
 use crate::rooted_differences::changes_between;
-use crate::set_proofs::{Tree, range};
+use crate::set_proofs::range;
+use crate::tree_file::{Chunks, TreeFile};
 use prolly_entry::Version;
 use prolly_look_up::ManyThreads;
 use prolly_range::{ProveFault, SetFault};
@@ -23,14 +24,14 @@ fn found(
     rt: &impl Abort,
     alloc: Global,
     chunks: &mut Chunks,
-    rooted: &Rooted,
+    file: &TreeFile,
     sought: Sought,
 ) -> Result<Shown, RootFault> {
-    match look_up(rt, alloc, chunks, rooted, sought) {
+    match look_up(rt, alloc, chunks, file, sought) {
         Ok(shown) => Ok(shown),
         Err(fault) => {
             expect_eq(rt, &fault, &RootFault::Memory);
-            look_up(rt, alloc, chunks, rooted, sought)
+            look_up(rt, alloc, chunks, file, sought)
         }
     }
 }
@@ -42,9 +43,9 @@ fn expect_found(
     sought: Sought,
     expected: (usize, Option<&[u8]>),
 ) -> Result<(), Fail> {
-    let rooted = Rooted::of(alloc, Version::Two, &[b"a", b"b"])?;
-    let mut chunks = rooted.chunks(alloc, 0)?;
-    match found(rt, alloc, &mut chunks, &rooted, sought) {
+    let file = TreeFile::of_keys(alloc, Version::Two, &[b"a", b"b"])?;
+    let mut chunks = file.chunks(alloc, 0)?;
+    match found(rt, alloc, &mut chunks, &file, sought) {
         Ok(shown) => expect_shown(rt, &shown, expected),
         Err(fault) => expect_eq(rt, &Some(fault), &None),
     }
@@ -76,9 +77,9 @@ fn leaf(
 
 /// Scans the tree of a=1 and b=1.
 fn expect_scan(rt: &impl Abort, alloc: Global) -> Result<(), Fail> {
-    let rooted = Rooted::of(alloc, Version::One, &[b"a", b"b"])?;
-    let mut chunks = rooted.chunks(alloc, 0)?;
-    let mut reader = open(alloc, &mut chunks, &rooted)?;
+    let file = TreeFile::of_keys(alloc, Version::One, &[b"a", b"b"])?;
+    let mut chunks = file.chunks(alloc, 0)?;
+    let mut reader = open(alloc, &mut chunks, &file)?;
     for (from, keys) in [
         (b"".as_slice(), b"a".as_slice()),
         (b"a\0", b"b"),
@@ -102,10 +103,10 @@ fn expect_read_ahead<T: Threads + Sync>(
     threads: &T,
     alloc: Global,
 ) -> Result<(), Fail> {
-    let rooted = Rooted::of(alloc, Version::One, &[b"a", b"b", b"c", b"d"])?;
+    let file = TreeFile::of_keys(alloc, Version::One, &[b"a", b"b", b"c", b"d"])?;
     let hasher = ManyThreads::new(threads, NonZeroUsize::MIN);
-    let mut chunks = rooted.chunks(alloc, 0)?;
-    let mut reader = open(alloc, &mut chunks, &rooted)?;
+    let mut chunks = file.chunks(alloc, 0)?;
+    let mut reader = open(alloc, &mut chunks, &file)?;
     for (from, spelled) in [
         (b"".as_slice(), b"\0\x01a\0\0\0\x011".as_slice()),
         (b"a\0", b"\0\x01b\0\0\0\x011"),
@@ -129,8 +130,8 @@ fn leaves_are_read_ahead_or_when_they_are_due(rt: HostRuntime) -> Result<(), Fai
 #[test]
 fn a_difference_by_the_roots_wants_memory_and_gives_no_more(rt: HostRuntime) -> Result<(), Fail> {
     let alloc = rt.alloc();
-    let before = Rooted::of(alloc, Version::Two, &[b"a", b"b"])?;
-    let after = Rooted::of(alloc, Version::Two, &[b"b", b"c"])?;
+    let before = TreeFile::of_keys(alloc, Version::Two, &[b"a", b"b"])?;
+    let after = TreeFile::of_keys(alloc, Version::Two, &[b"b", b"c"])?;
     let mut old = before.chunks(alloc, 0)?;
     let mut new = after.chunks(alloc, 0)?;
     let (changes, fault) = changes_between(&rt, alloc, (&before, &after), &mut old, &mut new)?;
@@ -148,7 +149,7 @@ fn a_difference_by_the_roots_wants_memory_and_gives_no_more(rt: HostRuntime) -> 
 
 /// Writes the proof of a range and reads it. A sink whose memory is refused has failed.
 fn expect_set_proof(rt: &impl Abort, alloc: Global) -> Result<(), Fail> {
-    let tree = Tree::of(alloc, Version::Two, 0, b"abc")?;
+    let tree = TreeFile::of_bytes(alloc, Version::Two, 0, b"abc")?;
     let set = range(b"b", None);
     let (proof, fault) = tree.proof_at(alloc, set, (0, 0))?;
     if let Some(fault) = fault {

@@ -14,3 +14,5 @@ mod rooted;
 mod rooted_differences;
 #[cfg(test)]
 mod set_proofs;
+#[cfg(test)]
+mod tree_file;

@@ -3,7 +3,8 @@ ghost use Rattle.std.specs.Prelude.{◌<◌, length, OnOk};
 ghost use Rattle.prolly_root.specs.Reader.{way_of};
 
 use crate::expect::{expect_bytes, expect_eq};
-use crate::rooted::{Chunks, Rooted, open};
+use crate::rooted::open;
+use crate::tree_file::{Chunks, TreeFile};
 use prolly_entry::{Pair, Version};
 use prolly_look_up::ManyThreads;
 use prolly_root::{ReadAhead, Reader, RootFault, Subtree};
@@ -41,14 +42,14 @@ fn value_of(alloc: Global, byte: u8) -> Result<Vec<u8>, Fail> {
 }
 
 /// The file of the keys, each of whose pairs is a leaf.
-fn long_leaves(alloc: Global, version: Version) -> Result<Rooted, Fail> {
+fn long_leaves(alloc: Global, version: Version) -> Result<TreeFile, Fail> {
     let mut pairs = Vec::new(alloc);
     for key in KEYS {
         let key = Vec::from_slice(alloc, &[*key])?;
         let value = value_of(alloc, key[0])?;
         pairs.push(Pair::new(key, value)?)?;
     }
-    Rooted::of_pairs(alloc, version, &pairs)
+    TreeFile::new(alloc, version, 0, &pairs)
 }
 
 /// The first bytes of each pair that a scan finds, leaf by leaf, and the fault that stopped it.
@@ -64,14 +65,14 @@ fn scan<T: Threads + Sync>(
     count: usize,
     alloc: Global,
     chunks: &mut Chunks,
-    rooted: &Rooted,
+    file: &TreeFile,
 ) -> Scanned {
     let hasher = match NonZeroUsize::new(count) {
         Some(count) => Some(ManyThreads::new(threads, count)),
         None => None,
     };
     let mut found = Vec::new(alloc);
-    let fault = scan_into(hasher.as_ref(), alloc, chunks, rooted, &mut found).err();
+    let fault = scan_into(hasher.as_ref(), alloc, chunks, file, &mut found).err();
     Scanned { found, fault }
 }
 
@@ -96,10 +97,10 @@ fn scan_into<T: Threads + Sync>(
     hasher: Option<&ManyThreads<'_, T>>,
     alloc: Global,
     chunks: &mut Chunks,
-    rooted: &Rooted,
+    file: &TreeFile,
     found: &mut Vec<u8>,
 ) -> Result<(), RootFault> {
-    let mut reader = open(alloc, chunks, rooted)?;
+    let mut reader = open(alloc, chunks, file)?;
     let mut next = Vec::new(alloc);
     for _ in 0..=KEYS.len() {
         go_to(hasher, alloc, chunks, &mut reader, &next)?;
@@ -125,11 +126,11 @@ fn expect_scanned<T: Threads + Sync>(
     rt: &impl Abort,
     threads: &T,
     alloc: Global,
-    rooted: &Rooted,
+    file: &TreeFile,
 ) -> Result<Scanned, Fail> {
-    let expected = scan(threads, 0, alloc, &mut rooted.chunks(alloc, 0)?, rooted);
+    let expected = scan(threads, 0, alloc, &mut file.chunks(alloc, 0)?, file);
     for count in [1, 2, 5] {
-        let scanned = scan(threads, count, alloc, &mut rooted.chunks(alloc, 0)?, rooted);
+        let scanned = scan(threads, count, alloc, &mut file.chunks(alloc, 0)?, file);
         expect_same(rt, &scanned, &expected);
     }
     Ok(expected)
@@ -139,8 +140,8 @@ fn expect_scanned<T: Threads + Sync>(
 fn a_scan_of_leaves_that_are_read_ahead_finds_all(rt: HostRuntime) -> Result<(), Fail> {
     let alloc = rt.alloc();
     for version in [Version::One, Version::Two] {
-        let rooted = long_leaves(alloc, version)?;
-        let scanned = expect_scanned(&rt, &rt, alloc, &rooted)?;
+        let file = long_leaves(alloc, version)?;
+        let scanned = expect_scanned(&rt, &rt, alloc, &file)?;
         let mut all = Vec::new(alloc);
         for key in KEYS {
             all.extend_from_slice(&[0, 1, *key, 0, 1, 0, 0, *key])?;
@@ -154,12 +155,12 @@ fn a_scan_of_leaves_that_are_read_ahead_finds_all(rt: HostRuntime) -> Result<(),
 #[test]
 fn a_damaged_file_is_told_as_where_none_is_read_ahead(rt: HostRuntime) -> Result<(), Fail> {
     let alloc = rt.alloc();
-    let mut rooted = long_leaves(alloc, Version::Two)?;
+    let mut file = long_leaves(alloc, Version::Two)?;
     let mut damaged: usize = 0;
-    for place in (HEADER_BYTES..rooted.file.len()).step_by(DAMAGE_STEP) {
-        flip(&mut rooted.file, place);
-        let scanned = expect_scanned(&rt, &rt, alloc, &rooted)?;
-        flip(&mut rooted.file, place);
+    for place in (HEADER_BYTES..file.bytes.len()).step_by(DAMAGE_STEP) {
+        flip(&mut file.bytes, place);
+        let scanned = expect_scanned(&rt, &rt, alloc, &file)?;
+        flip(&mut file.bytes, place);
         if scanned.fault.is_some() {
             damaged = damaged.saturating_add(1);
         }
@@ -171,11 +172,11 @@ fn a_damaged_file_is_told_as_where_none_is_read_ahead(rt: HostRuntime) -> Result
 #[test]
 fn a_failed_read_is_told_and_the_next_scan_finds_all(rt: HostRuntime) -> Result<(), Fail> {
     let alloc = rt.alloc();
-    let rooted = long_leaves(alloc, Version::One)?;
-    let expected = scan(&rt, 0, alloc, &mut rooted.chunks(alloc, 0)?, &rooted);
+    let file = long_leaves(alloc, Version::One)?;
+    let expected = scan(&rt, 0, alloc, &mut file.chunks(alloc, 0)?, &file);
     for fail_at in 1..=MOST_CALLS {
-        let mut chunks = rooted.chunks(alloc, fail_at)?;
-        let scanned = scan(&rt, 2, alloc, &mut chunks, &rooted);
+        let mut chunks = file.chunks(alloc, fail_at)?;
+        let scanned = scan(&rt, 2, alloc, &mut chunks, &file);
         if scanned.fault.is_none() {
             expect_same(&rt, &scanned, &expected);
             assert!(rt; fail_at > 1);
@@ -183,7 +184,7 @@ fn a_failed_read_is_told_and_the_next_scan_finds_all(rt: HostRuntime) -> Result<
         }
         expect_eq(&rt, &scanned.fault, &Some(RootFault::Read));
         assert!(rt; expected.found.starts_with(&scanned.found));
-        expect_same(&rt, &scan(&rt, 2, alloc, &mut chunks, &rooted), &expected);
+        expect_same(&rt, &scan(&rt, 2, alloc, &mut chunks, &file), &expected);
     }
     Err("too many calls".into())
 }
@@ -193,11 +194,11 @@ fn read_behind_first<T: Threads + Sync>(
     threads: &T,
     alloc: Global,
     chunks: &mut Chunks,
-    rooted: &Rooted,
+    file: &TreeFile,
     version: Version,
 ) -> Result<Reader<Subtree>, RootFault> {
     let hasher = ManyThreads::new(threads, NonZeroUsize::MIN);
-    let mut reader = open(alloc, chunks, rooted)?;
+    let mut reader = open(alloc, chunks, file)?;
     reader.seek(alloc, chunks, &KEYS[..1])?;
     // So many times that most leaves are among them.
     for key in KEYS {
@@ -210,10 +211,10 @@ fn read_behind_first<T: Threads + Sync>(
 #[test]
 fn leaves_are_found_that_do_not_stand_behind_one_another(rt: HostRuntime) -> Result<(), Fail> {
     let alloc = rt.alloc();
-    let rooted = long_leaves(alloc, Version::Two)?;
+    let file = long_leaves(alloc, Version::Two)?;
     for version in [Version::One, Version::Two] {
-        let mut chunks = rooted.chunks(alloc, 0)?;
-        let mut reader = read_behind_first(&rt, alloc, &mut chunks, &rooted, version)?;
+        let mut chunks = file.chunks(alloc, 0)?;
+        let mut reader = read_behind_first(&rt, alloc, &mut chunks, &file, version)?;
         for key in b"hacefgbqrdaap" {
             let value = reader.get(alloc, &mut chunks, &[*key])?.ok_or("no value")?;
             expect_bytes(&rt, &value, &value_of(alloc, *key)?);

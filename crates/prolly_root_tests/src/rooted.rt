@@ -2,13 +2,13 @@
 ghost use Rattle.std.specs.Prelude.{◌≡◌, IfOk};
 
 use crate::expect::{expect_bytes, expect_eq};
+use crate::tree_file::{Chunks, TreeFile};
 use prolly_check::check;
-use prolly_entry::{Pair, Ref, Sha512Cut, Version};
-use prolly_file::scratch_as;
-use prolly_io::{FromRead, ScriptDevice};
+use prolly_entry::{Pair, Version};
+use prolly_io::FromRead;
 use prolly_range::prove_checked_key;
 use prolly_root::{FileChunks, Reader, RootFault, Subtree};
-use prolly_test_parts::{joined, pairs_of};
+use prolly_test_parts::joined;
 use std::alloc::Global;
 use std::process::Abort;
 use std::test::Fail;
@@ -18,46 +18,6 @@ const MOST_CALLS: u64 = 100;
 
 /// How many pairs of a leaf are asked for: more than any has.
 const MOST_PAIRS: usize = 100;
-
-/// The chunks of a file on a device that is honest.
-pub(crate) type Chunks = FileChunks<ScriptDevice>;
-
-/// A chunk file, with what is to be known of it.
-#[derive(Drop)]
-pub(crate) struct Rooted {
-    pub(crate) version: Version,
-    pub(crate) root: Ref,
-    pub(crate) file: Vec<u8>,
-}
-
-impl Rooted {
-    /// The file of these keys, each with the value 1, of 0 bits: each pair is a leaf.
-    pub(crate) fn of(alloc: Global, version: Version, keys: &[&[u8]]) -> Result<Rooted, Fail> {
-        Rooted::of_pairs(alloc, version, &pairs_of(alloc, keys)?)
-    }
-
-    /// The file of these pairs, of 0 bits.
-    pub(crate) fn of_pairs(
-        alloc: Global,
-        version: Version,
-        pairs: &[Pair],
-    ) -> Result<Rooted, Fail> {
-        let cut = Sha512Cut::new(0).ok_or("bits")?;
-        let mut file = Vec::new(alloc);
-        let root = scratch_as(alloc, cut, version, pairs, 12, &mut file)?;
-        Ok(Rooted {
-            version,
-            root,
-            file,
-        })
-    }
-
-    /// The chunks of the file on a device whose call of this number fails; 0 for none.
-    pub(crate) fn chunks(&self, alloc: Global, fail_at: u64) -> Result<Chunks, Fail> {
-        let file = self.file.to_vec(alloc)?;
-        Ok(FileChunks::new(ScriptDevice::new(file, Some(fail_at))))
-    }
-}
 
 /// What is looked up.
 #[derive(Clone, Copy)]
@@ -82,14 +42,14 @@ pub(crate) fn look_up(
     rt: &impl Abort,
     alloc: Global,
     chunks: &mut Chunks,
-    rooted: &Rooted,
+    file: &TreeFile,
     sought: Sought,
 ) -> Result<Shown, RootFault> {
-    let mut reader = open(alloc, chunks, rooted)?;
+    let mut reader = open(alloc, chunks, file)?;
     let found = match sought {
         Sought::Key(key) => reader.get(alloc, chunks, key)?,
         Sought::Number(n) => {
-            assert!(rt; rooted.version == Version::Two);
+            assert!(rt; file.version == Version::Two);
             joined_pair(alloc, reader.nth(alloc, chunks, n)?)?
         }
     };
@@ -107,13 +67,13 @@ pub(crate) fn expect_shown(rt: &impl Abort, shown: &Shown, expected: (usize, Opt
 fn expect_found(
     rt: &impl Abort,
     alloc: Global,
-    rooted: &Rooted,
+    file: &TreeFile,
     sought: Sought,
     expected: (usize, Option<&[u8]>),
 ) -> Result<(), Fail> {
     for fail_at in 1..=MOST_CALLS {
-        let mut chunks = rooted.chunks(alloc, fail_at)?;
-        match look_up(rt, alloc, &mut chunks, rooted, sought) {
+        let mut chunks = file.chunks(alloc, fail_at)?;
+        match look_up(rt, alloc, &mut chunks, file, sought) {
             Err(fault) => expect_eq(rt, &fault, &RootFault::Read),
             Ok(shown) => {
                 expect_shown(rt, &shown, expected);
@@ -122,7 +82,7 @@ fn expect_found(
             }
         }
         let mut again = FileChunks::new(chunks.into_device());
-        let shown = look_up(rt, alloc, &mut again, rooted, sought)?;
+        let shown = look_up(rt, alloc, &mut again, file, sought)?;
         expect_shown(rt, &shown, expected);
     }
     Err("too many calls".into())
@@ -147,8 +107,8 @@ const SOUGHT: &[(&[&[u8]], Sought, usize, Option<&[u8]>)] = &[
 fn finds_keys_and_numbers_also_behind_a_failed_call(rt: HostRuntime) -> Result<(), Fail> {
     let alloc = rt.alloc();
     for &(keys, sought, chunks, found) in SOUGHT {
-        let rooted = Rooted::of(alloc, Version::Two, keys)?;
-        expect_found(&rt, alloc, &rooted, sought, (chunks, found))?;
+        let file = TreeFile::of_keys(alloc, Version::Two, keys)?;
+        expect_found(&rt, alloc, &file, sought, (chunks, found))?;
     }
     Ok(())
 }
@@ -160,11 +120,11 @@ const LEAVES: [(&[u8], &[u8]); 4] = [(b"", b"a"), (b"a\0", b"b"), (b"b\0", b"c")
 pub(crate) fn open(
     alloc: Global,
     chunks: &mut Chunks,
-    rooted: &Rooted,
+    file: &TreeFile,
 ) -> Result<Reader<Subtree>, RootFault>
-    ensures { IfOk result (λ reader. reader.version ≡ rooted.now.version) }
+    ensures { IfOk result (λ reader. reader.version ≡ file.now.version) }
 {
-    Reader::open(alloc, chunks, rooted.version, &rooted.root)
+    Reader::open(alloc, chunks, file.version, &file.root)
 }
 
 /// The keys of the pairs of a leaf, from a key on, joined.
@@ -209,13 +169,13 @@ fn opened(
     rt: &impl Abort,
     alloc: Global,
     chunks: &mut Chunks,
-    rooted: &Rooted,
+    file: &TreeFile,
 ) -> Result<(Reader<Subtree>, bool), Fail> {
-    match open(alloc, chunks, rooted) {
+    match open(alloc, chunks, file) {
         Ok(reader) => Ok((reader, false)),
         Err(fault) => {
             expect_eq(rt, &fault, &RootFault::Read);
-            Ok((open(alloc, chunks, rooted)?, true))
+            Ok((open(alloc, chunks, file)?, true))
         }
     }
 }
@@ -225,9 +185,9 @@ fn expect_leaves(
     rt: &impl Abort,
     alloc: Global,
     chunks: &mut Chunks,
-    rooted: &Rooted,
+    file: &TreeFile,
 ) -> Result<bool, Fail> {
-    let (mut reader, mut has_failed) = opened(rt, alloc, chunks, rooted)?;
+    let (mut reader, mut has_failed) = opened(rt, alloc, chunks, file)?;
     for (from, keys) in &LEAVES {
         has_failed |= expect_leaf(rt, alloc, chunks, &mut reader, from, keys)?;
     }
@@ -236,10 +196,10 @@ fn expect_leaves(
 
 /// Scans over devices whose first call fails, whose second does, and so on to one none of whose
 /// calls does.
-fn expect_scans(rt: &impl Abort, alloc: Global, rooted: &Rooted) -> Result<(), Fail> {
+fn expect_scans(rt: &impl Abort, alloc: Global, file: &TreeFile) -> Result<(), Fail> {
     for fail_at in 1..=MOST_CALLS {
-        let mut chunks = rooted.chunks(alloc, fail_at)?;
-        if !expect_leaves(rt, alloc, &mut chunks, rooted)? {
+        let mut chunks = file.chunks(alloc, fail_at)?;
+        if !expect_leaves(rt, alloc, &mut chunks, file)? {
             assert!(rt; fail_at > 1);
             return Ok(());
         }
@@ -251,8 +211,8 @@ fn expect_scans(rt: &impl Abort, alloc: Global, rooted: &Rooted) -> Result<(), F
 fn a_scan_finds_each_leaf_also_behind_a_failed_call(rt: HostRuntime) -> Result<(), Fail> {
     let alloc = rt.alloc();
     for version in [Version::One, Version::Two] {
-        let rooted = Rooted::of(alloc, version, &[b"a", b"b", b"c"])?;
-        expect_scans(&rt, alloc, &rooted)?;
+        let file = TreeFile::of_keys(alloc, version, &[b"a", b"b", b"c"])?;
+        expect_scans(&rt, alloc, &file)?;
     }
     Ok(())
 }
@@ -276,11 +236,11 @@ fn expect_leaf_and_proof(
     rt: &impl Abort,
     alloc: Global,
     chunks: &mut Chunks,
-    rooted: &Rooted,
+    file: &TreeFile,
     key: &[u8],
     (leaf, proof): (&[u8], &[u8]),
 ) -> Result<bool, Fail> {
-    let (mut reader, mut has_failed) = opened(rt, alloc, chunks, rooted)?;
+    let (mut reader, mut has_failed) = opened(rt, alloc, chunks, file)?;
     let (found, made) = match leaf_and_proof(alloc, chunks, &mut reader, key) {
         Ok(both) => both,
         Err(fault) => {
@@ -299,16 +259,16 @@ fn expect_leaf_and_proof(
 fn expect_proved(
     rt: &impl Abort,
     alloc: Global,
-    rooted: &Rooted,
+    file: &TreeFile,
     key: &[u8],
     leaf: &[u8],
 ) -> Result<(), Fail> {
-    let tree = check(alloc, &mut FromRead::new(rooted.file.as_slice()), 10_000)?;
+    let tree = check(alloc, &mut FromRead::new(file.bytes.as_slice()), 10_000)?;
     let proof = prove_checked_key(alloc, &tree, key)?;
     for fail_at in 1..=MOST_CALLS {
-        let mut chunks = rooted.chunks(alloc, fail_at)?;
+        let mut chunks = file.chunks(alloc, fail_at)?;
         let wanted = (leaf, proof.as_slice());
-        if !expect_leaf_and_proof(rt, alloc, &mut chunks, rooted, key, wanted)? {
+        if !expect_leaf_and_proof(rt, alloc, &mut chunks, file, key, wanted)? {
             assert!(rt; fail_at > 1);
             return Ok(());
         }
@@ -327,9 +287,9 @@ const SPELLED: [(&[u8], &[u8]); 3] = [
 fn a_leaf_and_a_proof_are_found_also_behind_a_failed_call(rt: HostRuntime) -> Result<(), Fail> {
     let alloc = rt.alloc();
     for version in [Version::One, Version::Two] {
-        let rooted = Rooted::of(alloc, version, &[b"a", b"b", b"c"])?;
+        let file = TreeFile::of_keys(alloc, version, &[b"a", b"b", b"c"])?;
         for (key, leaf) in &SPELLED {
-            expect_proved(&rt, alloc, &rooted, key, leaf)?;
+            expect_proved(&rt, alloc, &file, key, leaf)?;
         }
     }
     Ok(())

@@ -1,9 +1,8 @@
 //! Differences by the roots, over devices that are honest and one of whose calls fails.
 use crate::expect::{expect_bytes, expect_eq};
-use crate::rooted::Rooted;
+use crate::tree_file::{Chunks, TreeFile};
 use prolly_entry::{Pair, Version};
-use prolly_io::{Device, ScriptDevice};
-use prolly_root::{FileChunks, RootFault, Subtree};
+use prolly_root::{RootFault, Subtree};
 use prolly_root_diff::{RootChange, RootDiffFault, RootDifferences};
 use std::alloc::{AllocError, Global};
 use std::process::Abort;
@@ -35,12 +34,12 @@ const CHANGES: &[(Entries, Entries, &[u8])] = &[
 ];
 
 /// The file of these entries.
-fn rooted(alloc: Global, entries: Entries) -> Result<Rooted, Fail> {
+fn file_of(alloc: Global, entries: Entries) -> Result<TreeFile, Fail> {
     let mut pairs = Vec::new(alloc);
     for &(key, value) in entries {
         pairs.push(Pair::copy_of(alloc, &[key], &[value])?)?;
     }
-    Rooted::of_pairs(alloc, Version::Two, &pairs)
+    TreeFile::new(alloc, Version::Two, 0, &pairs)
 }
 
 /// Appends a change.
@@ -55,14 +54,11 @@ fn append(out: &mut Vec<u8>, change: &RootChange) -> Result<(), AllocError> {
     out.extend_from_slice(pair.value())
 }
 
-/// The chunks of a file on a device that is honest.
-type Chunks = FileChunks<ScriptDevice>;
-
 /// The changes, up to the first fault, which the next call answers with the last one.
 pub(crate) fn changes_between(
     rt: &impl Abort,
     alloc: Global,
-    roots: (&Rooted, &Rooted),
+    roots: (&TreeFile, &TreeFile),
     old: &mut Chunks,
     new: &mut Chunks,
 ) -> Result<(Vec<u8>, Option<RootDiffFault>), Fail> {
@@ -93,7 +89,7 @@ pub(crate) fn changes_between(
 fn expect_changes(
     rt: &impl Abort,
     alloc: Global,
-    roots: (&Rooted, &Rooted),
+    roots: (&TreeFile, &TreeFile),
     fail_at: (u64, u64),
     expected: &[u8],
 ) -> Result<bool, Fail> {
@@ -118,7 +114,7 @@ fn expect_changes(
 fn first_unmade(
     rt: &impl Abort,
     alloc: Global,
-    roots: (&Rooted, &Rooted),
+    roots: (&TreeFile, &TreeFile),
     is_old: bool,
     changes: &[u8],
 ) -> Result<u64, Fail> {
@@ -135,7 +131,7 @@ fn first_unmade(
 fn changes_are_given_up_to_a_failed_call(rt: HostRuntime) -> Result<(), Fail> {
     let alloc = rt.alloc();
     for &(old, new, changes) in CHANGES {
-        let (before, after) = (rooted(alloc, old)?, rooted(alloc, new)?);
+        let (before, after) = (file_of(alloc, old)?, file_of(alloc, new)?);
         for is_old in [true, false] {
             let unmade = first_unmade(&rt, alloc, (&before, &after), is_old, changes)?;
             // Trees with one root are the same without a look at them.

@@ -5,11 +5,9 @@ mod lists;
 mod ranges;
 
 use crate::expect::expect_eq;
-use prolly_entry::{Pair, Ref, Sha512Cut, Version};
-use prolly_file::scratch_as;
-use prolly_io::{ScriptDevice, ScriptSink, ScriptSource};
+use crate::tree_file::TreeFile;
+use prolly_io::{ScriptSink, ScriptSource};
 use prolly_range::{KeySet, ProveFault, SetFault, SetVerifier, SortedKeys, prove_set};
-use prolly_root::FileChunks;
 use std::alloc::{AllocError, Global};
 use std::process::Abort;
 use std::test::Fail;
@@ -20,31 +18,7 @@ const MOST_CHUNKS: usize = 1_000;
 /// More pairs than any of their chunks shows.
 const MOST_PAIRS: usize = 100;
 
-/// A chunk file, with what is to be known of it.
-#[derive(Drop)]
-pub(crate) struct Tree {
-    pub(crate) version: Version,
-    pub(crate) root: Ref,
-    pub(crate) file: Vec<u8>,
-}
-
-impl Tree {
-    /// The tree of these keys of a byte each, each with itself as its value.
-    pub(crate) fn of(alloc: Global, version: Version, bits: u8, keys: &[u8]) -> Result<Tree, Fail> {
-        let cut = Sha512Cut::new(bits).ok_or("bits")?;
-        let mut pairs = Vec::new(alloc);
-        for key in keys {
-            pairs.push(Pair::copy_of(alloc, &[*key], &[*key])?)?;
-        }
-        let mut file = Vec::new(alloc);
-        let root = scratch_as(alloc, cut, version, &pairs, 20, &mut file)?;
-        Ok(Tree {
-            version,
-            root,
-            file,
-        })
-    }
-
+impl TreeFile {
     /// The proof of a set of keys, over a device and a sink whose calls of these numbers fail; 0 for
     /// none. Gives what the sink took, and the fault.
     pub(crate) fn proof_at(
@@ -53,8 +27,7 @@ impl Tree {
         set: KeySet<'_>,
         fail_at: (u64, u64),
     ) -> Result<(Vec<u8>, Option<ProveFault>), AllocError> {
-        let device = ScriptDevice::new(self.file.to_vec(alloc)?, Some(fail_at.0));
-        let mut chunks = FileChunks::new(device);
+        let mut chunks = self.chunks(alloc, fail_at.0)?;
         let mut sink = ScriptSink::new(alloc, 7, Some(fail_at.1));
         let fault = prove_set(alloc, &mut chunks, self.version, &self.root, set, &mut sink).err();
         Ok((sink.taken().to_vec(alloc)?, fault))

@@ -1,6 +1,7 @@
 //! Proofs of ranges that were changed, cut or put together anew.
-use super::{Tree, copies, list, range};
+use super::{copies, list, range};
 use crate::expect::expect_eq;
+use crate::tree_file::TreeFile;
 use prolly_entry::Version;
 use prolly_io::{FRAME_START, frame_at};
 use prolly_range::{KeySet, SetFault};
@@ -28,7 +29,7 @@ const KEYS: &[u8] = b"abcde";
 fn fault_of(
     rt: &impl Abort,
     alloc: Global,
-    tree: &Tree,
+    tree: &TreeFile,
     proof: Vec<u8>,
 ) -> Result<Option<SetFault>, AllocError> {
     let (_, fault) = tree.shown(rt, alloc, range(FROM, Some(TO)), proof, 0)?;
@@ -39,7 +40,7 @@ fn fault_of(
 fn expect_fault(
     rt: &impl Abort,
     alloc: Global,
-    tree: &Tree,
+    tree: &TreeFile,
     proof: Vec<u8>,
     fault: ProofFault,
 ) -> Result<(), AllocError> {
@@ -61,7 +62,7 @@ fn turned(alloc: Global, bytes: &[u8], place: usize) -> Result<Vec<u8>, AllocErr
 fn refuses_a_turned_bit_in_each_byte(rt: HostRuntime) -> Result<(), Fail> {
     let alloc = rt.alloc();
     for version in [Version::One, Version::Two] {
-        let tree = Tree::of(alloc, version, 0, KEYS)?;
+        let tree = TreeFile::of_bytes(alloc, version, 0, KEYS)?;
         let proof = tree.proof(&rt, alloc, range(FROM, Some(TO)))?;
         for place in 0..proof.len() {
             let fault = fault_of(&rt, alloc, &tree, turned(alloc, &proof, place)?)?;
@@ -74,7 +75,7 @@ fn refuses_a_turned_bit_in_each_byte(rt: HostRuntime) -> Result<(), Fail> {
 #[test]
 fn refuses_each_part_that_ends_early(rt: HostRuntime) -> Result<(), Fail> {
     let alloc = rt.alloc();
-    let tree = Tree::of(alloc, Version::Two, 0, KEYS)?;
+    let tree = TreeFile::of_bytes(alloc, Version::Two, 0, KEYS)?;
     let proof = tree.proof(&rt, alloc, range(FROM, Some(TO)))?;
     for len in 0..proof.len() {
         expect_fault(
@@ -105,7 +106,7 @@ fn with_length(alloc: Global, proof: &[u8], len: u64) -> Result<Vec<u8>, AllocEr
 #[test]
 fn tells_a_frame_of_a_great_length_as_cut_short(rt: HostRuntime) -> Result<(), Fail> {
     let alloc = rt.alloc();
-    let tree = Tree::of(alloc, Version::One, 0, KEYS)?;
+    let tree = TreeFile::of_bytes(alloc, Version::One, 0, KEYS)?;
     let proof = tree.proof(&rt, alloc, range(FROM, Some(TO)))?;
     for &len in GREAT_LENGTHS {
         let changed = with_length(alloc, &proof, len)?;
@@ -118,7 +119,7 @@ fn tells_a_frame_of_a_great_length_as_cut_short(rt: HostRuntime) -> Result<(), F
 #[test]
 fn refuses_bytes_behind_the_last_chunk(rt: HostRuntime) -> Result<(), Fail> {
     let alloc = rt.alloc();
-    let tree = Tree::of(alloc, Version::One, 0, KEYS)?;
+    let tree = TreeFile::of_bytes(alloc, Version::One, 0, KEYS)?;
     let proof = tree.proof(&rt, alloc, range(FROM, Some(TO)))?;
     let longer = joined(alloc, &[&proof, b"C"])?;
     expect_fault(&rt, alloc, &tree, longer, ProofFault::Trailing)?;
@@ -128,7 +129,7 @@ fn refuses_bytes_behind_the_last_chunk(rt: HostRuntime) -> Result<(), Fail> {
 #[test]
 fn refuses_the_proof_of_another_range(rt: HostRuntime) -> Result<(), Fail> {
     let alloc = rt.alloc();
-    let tree = Tree::of(alloc, Version::One, 0, KEYS)?;
+    let tree = TreeFile::of_bytes(alloc, Version::One, 0, KEYS)?;
     let more = tree.proof(&rt, alloc, range(b"a", Some(TO)))?;
     let fewer = tree.proof(&rt, alloc, range(FROM, Some(b"c")))?;
     for proof in [more, fewer] {
@@ -140,11 +141,11 @@ fn refuses_the_proof_of_another_range(rt: HostRuntime) -> Result<(), Fail> {
 #[test]
 fn refuses_the_proof_of_another_tree(rt: HostRuntime) -> Result<(), Fail> {
     let alloc = rt.alloc();
-    let tree = Tree::of(alloc, Version::One, 0, KEYS)?;
+    let tree = TreeFile::of_bytes(alloc, Version::One, 0, KEYS)?;
     let set: KeySet<'_> = range(FROM, Some(TO));
-    let other = Tree::of(alloc, Version::One, 0, b"abcd")?.proof(&rt, alloc, set)?;
+    let other = TreeFile::of_bytes(alloc, Version::One, 0, b"abcd")?.proof(&rt, alloc, set)?;
     expect_fault(&rt, alloc, &tree, other, ProofFault::Reference { chunk: 0 })?;
-    let counted = Tree::of(alloc, Version::Two, 0, KEYS)?.proof(&rt, alloc, set)?;
+    let counted = TreeFile::of_bytes(alloc, Version::Two, 0, KEYS)?.proof(&rt, alloc, set)?;
     expect_fault(&rt, alloc, &tree, counted, ProofFault::Version)?;
     Ok(())
 }
@@ -152,7 +153,7 @@ fn refuses_the_proof_of_another_tree(rt: HostRuntime) -> Result<(), Fail> {
 #[test]
 fn refuses_the_proof_of_one_key(rt: HostRuntime) -> Result<(), Fail> {
     let alloc = rt.alloc();
-    let tree = Tree::of(alloc, Version::One, 0, KEYS)?;
+    let tree = TreeFile::of_bytes(alloc, Version::One, 0, KEYS)?;
     let proof = tree.proof(&rt, alloc, range(FROM, Some(TO)))?;
     let Some(frames) = proof.strip_prefix(b"PRLP\x11") else {
         return Err("start".into());
@@ -165,7 +166,7 @@ fn refuses_the_proof_of_one_key(rt: HostRuntime) -> Result<(), Fail> {
 #[test]
 fn takes_no_memory_for_a_length_that_lies(rt: HostRuntime) -> Result<(), Fail> {
     let alloc = rt.alloc();
-    let tree = Tree::of(alloc, Version::One, 0, KEYS)?;
+    let tree = TreeFile::of_bytes(alloc, Version::One, 0, KEYS)?;
     for length in [1 << 40, u64::MAX - 9] {
         let frame = length.to_be_bytes();
         let proof = joined(alloc, &[b"PRLP\x11C", &frame, b"\0"])?;
@@ -245,7 +246,7 @@ fn changed(
 fn expect_refused(
     rt: &impl Abort,
     alloc: Global,
-    tree: &Tree,
+    tree: &TreeFile,
     set: KeySet<'_>,
     change: Change,
 ) -> Result<(), Fail> {
@@ -264,7 +265,7 @@ fn expect_refused(
 #[test]
 fn refuses_frames_left_out_doubled_and_exchanged(rt: HostRuntime) -> Result<(), Fail> {
     let alloc = rt.alloc();
-    let tree = Tree::of(alloc, Version::One, 0, KEYS)?;
+    let tree = TreeFile::of_bytes(alloc, Version::One, 0, KEYS)?;
     let keys = copies(alloc, &[b"a", b"c\0", b"d", b"e"])?;
     for set in [range(FROM, Some(TO)), list(&keys)?] {
         for change in [Change::LeftOut, Change::Doubled, Change::Exchanged] {
@@ -277,7 +278,7 @@ fn refuses_frames_left_out_doubled_and_exchanged(rt: HostRuntime) -> Result<(), 
 #[test]
 fn refuses_the_proof_of_another_list(rt: HostRuntime) -> Result<(), Fail> {
     let alloc = rt.alloc();
-    let tree = Tree::of(alloc, Version::One, 0, KEYS)?;
+    let tree = TreeFile::of_bytes(alloc, Version::One, 0, KEYS)?;
     let keys = copies(alloc, &[b"a", b"c"])?;
     let fewer = copies(alloc, &[b"a"])?;
     let more = copies(alloc, &[b"a", b"b", b"c"])?;

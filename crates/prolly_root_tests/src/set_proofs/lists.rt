@@ -1,8 +1,9 @@
 //! Lists of keys of small maps.
 use super::ranges::{ENDS, KEYS, MAPS};
-use super::{Tree, copies, list};
+use super::{copies, list};
 use crate::expect::{expect_bytes, expect_eq};
-use prolly_check::{Tree as Checked, check};
+use crate::tree_file::TreeFile;
+use prolly_check::{Tree, check};
 use prolly_entry::Version;
 use prolly_io::FromRead;
 use prolly_range::{NotRising, SortedKeys, prove_checked_key};
@@ -14,8 +15,8 @@ use std::test::Fail;
 const LISTS: u64 = 64;
 
 /// The file of a tree, checked.
-fn checked(alloc: Global, tree: &Tree) -> Result<Checked, Fail> {
-    Ok(check(alloc, &mut FromRead::new(tree.file.as_slice()), 1_000)?)
+fn checked(alloc: Global, tree: &TreeFile) -> Result<Tree, Fail> {
+    Ok(check(alloc, &mut FromRead::new(tree.bytes.as_slice()), 1_000)?)
 }
 
 /// Some of the keys of [`ENDS`], in their order: those whose bit is set.
@@ -32,7 +33,7 @@ fn chosen(alloc: Global, bits: u64) -> Result<Vec<Vec<u8>>, AllocError> {
 }
 
 /// Keys and values of the keys that the map has, joined.
-fn pairs_at(alloc: Global, checked: &Checked, keys: &[Vec<u8>]) -> Result<Vec<u8>, AllocError> {
+fn pairs_at(alloc: Global, checked: &Tree, keys: &[Vec<u8>]) -> Result<Vec<u8>, AllocError> {
     let mut pairs = Vec::new(alloc);
     for key in keys {
         if let Some(value) = checked.get(key) {
@@ -47,8 +48,8 @@ fn pairs_at(alloc: Global, checked: &Checked, keys: &[Vec<u8>]) -> Result<Vec<u8
 fn expect_proved(
     rt: &impl Abort,
     alloc: Global,
-    tree: &Tree,
-    checked: &Checked,
+    tree: &TreeFile,
+    checked: &Tree,
     keys: &[Vec<u8>],
 ) -> Result<(), Fail> {
     let set = list(keys)?;
@@ -60,12 +61,12 @@ fn expect_proved(
 }
 
 /// The trees of small maps, of both versions.
-fn trees(alloc: Global) -> Result<Vec<Tree>, Fail> {
+fn trees(alloc: Global) -> Result<Vec<TreeFile>, Fail> {
     let mut trees = Vec::new(alloc);
     for version in [Version::One, Version::Two] {
         for &(count, bits) in MAPS {
             let keys = KEYS.get(..count).ok_or("keys")?;
-            trees.push(Tree::of(alloc, version, bits, keys)?)?;
+            trees.push(TreeFile::of_bytes(alloc, version, bits, keys)?)?;
         }
     }
     Ok(trees)
@@ -123,10 +124,10 @@ fn the_proof_of_each_key_has_each_chunk_once(rt: HostRuntime) -> Result<(), Fail
         keys.push([*key].to_vec(alloc)?)?;
     }
     for bits in [0, 1, 6] {
-        let tree = Tree::of(alloc, Version::One, bits, KEYS)?;
+        let tree = TreeFile::of_bytes(alloc, Version::One, bits, KEYS)?;
         let proof = tree.proof(&rt, alloc, list(&keys)?)?;
         // A file has a header of six bytes and an end record of 29, a proof five bytes at its start.
-        expect_eq(&rt, &(proof.len() as u64 + 30), &(tree.file.len() as u64));
+        expect_eq(&rt, &(proof.len() as u64 + 30), &(tree.bytes.len() as u64));
     }
     Ok(())
 }

@@ -1,6 +1,7 @@
 //! All ranges of small maps.
-use super::{Tree, range};
+use super::range;
 use crate::expect::{expect_bytes, expect_eq};
+use crate::tree_file::TreeFile;
 use prolly_check::check;
 use prolly_entry::Version;
 use prolly_io::{FromRead, ScriptSink};
@@ -59,7 +60,7 @@ fn pairs_in(
 fn expect_proved(
     rt: &impl Abort,
     alloc: Global,
-    tree: &Tree,
+    tree: &TreeFile,
     keys: &[u8],
     from: &[u8],
     to: Option<&[u8]>,
@@ -76,7 +77,7 @@ fn expect_proved(
 fn expect_all_proved(
     rt: &impl Abort,
     alloc: Global,
-    tree: &Tree,
+    tree: &TreeFile,
     keys: &[u8],
 ) -> Result<(), AllocError> {
     for from in ENDS {
@@ -96,7 +97,7 @@ fn each_range_of_small_maps_is_proved(rt: HostRuntime) -> Result<(), Fail> {
             let Some(keys) = KEYS.get(..count) else {
                 return Err("keys".into());
             };
-            let tree = Tree::of(alloc, version, bits, keys)?;
+            let tree = TreeFile::of_bytes(alloc, version, bits, keys)?;
             expect_all_proved(&rt, alloc, &tree, keys)?;
         }
     }
@@ -107,10 +108,10 @@ fn each_range_of_small_maps_is_proved(rt: HostRuntime) -> Result<(), Fail> {
 fn expect_same_checked(
     rt: &impl Abort,
     alloc: Global,
-    tree: &Tree,
+    tree: &TreeFile,
     set: KeySet<'_>,
 ) -> Result<(), Fail> {
-    let checked = check(alloc, &mut FromRead::new(tree.file.as_slice()), 1_000)?;
+    let checked = check(alloc, &mut FromRead::new(tree.bytes.as_slice()), 1_000)?;
     let mut sink = ScriptSink::new(alloc, 7, None);
     let fault = prove_checked_set(alloc, &checked, set, &mut sink).err();
     expect_eq(rt, &fault, &None);
@@ -122,7 +123,7 @@ fn expect_same_checked(
 fn a_checked_file_is_proved_as_by_its_root(rt: HostRuntime) -> Result<(), Fail> {
     let alloc = rt.alloc();
     for version in [Version::One, Version::Two] {
-        let tree = Tree::of(alloc, version, 0, b"abcde")?;
+        let tree = TreeFile::of_bytes(alloc, version, 0, b"abcde")?;
         expect_same_checked(&rt, alloc, &tree, range(b"b", Some(b"e")))?;
         expect_same_checked(&rt, alloc, &tree, range(b"", None))?;
     }
@@ -133,10 +134,10 @@ fn a_checked_file_is_proved_as_by_its_root(rt: HostRuntime) -> Result<(), Fail> 
 fn the_proof_of_all_keys_has_each_chunk_once(rt: HostRuntime) -> Result<(), Fail> {
     let alloc = rt.alloc();
     for bits in [0, 1, 6] {
-        let tree = Tree::of(alloc, Version::Two, bits, KEYS)?;
+        let tree = TreeFile::of_bytes(alloc, Version::Two, bits, KEYS)?;
         let proof = tree.proof(&rt, alloc, range(b"", None))?;
         // A file has a header of six bytes and an end record of 29, a proof five bytes at its start.
-        expect_eq(&rt, &(proof.len() as u64 + 30), &(tree.file.len() as u64));
+        expect_eq(&rt, &(proof.len() as u64 + 30), &(tree.bytes.len() as u64));
     }
     Ok(())
 }
@@ -146,7 +147,7 @@ fn the_proof_of_all_keys_has_each_chunk_once(rt: HostRuntime) -> Result<(), Fail
 fn expect_failures(
     rt: &impl Abort,
     alloc: Global,
-    tree: &Tree,
+    tree: &TreeFile,
     set: KeySet<'_>,
     is_device: bool,
 ) -> Result<(), Fail> {
@@ -172,7 +173,7 @@ fn expect_failures(
 #[test]
 fn a_proof_is_written_up_to_a_failed_call(rt: HostRuntime) -> Result<(), Fail> {
     let alloc = rt.alloc();
-    let tree = Tree::of(alloc, Version::One, 0, b"abcde")?;
+    let tree = TreeFile::of_bytes(alloc, Version::One, 0, b"abcde")?;
     expect_failures(&rt, alloc, &tree, range(b"b", Some(b"e")), true)?;
     expect_failures(&rt, alloc, &tree, range(b"b", Some(b"e")), false)
 }
@@ -182,7 +183,7 @@ fn a_proof_is_written_up_to_a_failed_call(rt: HostRuntime) -> Result<(), Fail> {
 fn expect_failed_reads(
     rt: &impl Abort,
     alloc: Global,
-    tree: &Tree,
+    tree: &TreeFile,
     set: KeySet<'_>,
 ) -> Result<(), Fail> {
     let proof = tree.proof(rt, alloc, set)?;
@@ -202,6 +203,6 @@ fn expect_failed_reads(
 #[test]
 fn a_proof_is_read_up_to_a_failed_read(rt: HostRuntime) -> Result<(), Fail> {
     let alloc = rt.alloc();
-    let tree = Tree::of(alloc, Version::Two, 0, b"abcde")?;
+    let tree = TreeFile::of_bytes(alloc, Version::Two, 0, b"abcde")?;
     expect_failed_reads(&rt, alloc, &tree, range(b"b", Some(b"e")))
 }
