@@ -298,8 +298,9 @@ module _ {W : Type 0} (seen : W → SinkView) (form : Option RecordForm) (all le
   module _ (new : W) (same : (seen mid).is_keeping ≡ true → (seen new).taken ≡ (seen mid).taken)
       (own_form : RecordForm) (some : form ≡ Some own_form) where
     pub all_written : (seen new).failures ≡ (seen mid).failures → IsSettled (seen new) →
+        ((seen mid).is_keeping ≡ true → (seen new).is_keeping ≡ true) →
         HasDifference all.before all.after (AreAll new)
-    all_written counted settled = record {
+    all_written counted settled still = record {
       records = w.done;
       is = all_done;
       so = (go form some w.took, w.counted);
@@ -309,7 +310,7 @@ module _ {W : Type 0} (seen : W → SinkView) (form : Option RecordForm) (all le
             AreWritten f (λ bytes. TookAll seen bytes old new) (new ≡ old) w.done
         go None e took = absurd (no_form own_form e)
         go (Some f) e took =
-            flushed seen (written_records f w.done) old mid took new same counted settled
+            flushed seen (written_records f w.done) old mid took new same counted settled still
 
     pub flush_failed : (seen new).failures ≡ after_failure (seen mid).failures →
         HasDifference all.before all.after

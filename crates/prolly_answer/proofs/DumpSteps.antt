@@ -119,9 +119,10 @@ module _ {W : Type 0} (seen : W → SinkView) (notation : Notation) where
             sym l.all)
 
         pub all_listed : (seen new).failures ≡ (seen mid).failures → IsSettled (seen new) →
+            ((seen mid).is_keeping ≡ true → (seen new).is_keeping ≡ true) →
             TookAll seen (lines_file notation pairs) old new
-        all_listed counted settled = subst (λ bytes. TookAll seen bytes old new) done_all
-            (flushed seen (lines_file notation l.done) old mid l.took new same counted settled)
+        all_listed counted settled still = subst (λ bytes. TookAll seen bytes old new) done_all
+            (flushed seen (lines_file notation l.done) old mid l.took new same counted settled still)
 
         pub list_unflushed : (seen new).failures ≡ after_failure (seen mid).failures →
             TookPart seen (lines_file notation pairs) old new

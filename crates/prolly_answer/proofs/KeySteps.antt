@@ -268,6 +268,7 @@ module _ {W : Type 0} (seen : W → SinkView) (version : Version) (root : List �
     took = record {
       unfailed = refl;
       took = λ k. sym (append-nil (seen old).taken);
+      keeping = λ k. k;
       settled = λ before. before;
     };
   }

@@ -168,11 +168,12 @@ module _ {W : Type 0} (seen : W → SinkView) where
       (same : (seen mid).is_keeping ≡ true → (seen after).taken ≡ (seen mid).taken) where
     all_flushed : (form : Option RecordForm) (f : RecordForm) → form ≡ Some f →
         (seen after).failures ≡ (seen mid).failures → IsSettled (seen after) →
+        ((seen mid).is_keeping ≡ true → (seen after).is_keeping ≡ true) →
         (done : List Record) → WroteSoFar seen form sink mid done →
         WroteAll seen form sink after done
-    all_flushed None f is counted settled done so_far = cc
-    all_flushed (Some form) f is counted settled done so_far =
-        flushed seen (written_records form done) sink mid so_far after same counted settled
+    all_flushed None f is counted settled still done so_far = cc
+    all_flushed (Some form) f is counted settled still done so_far =
+        flushed seen (written_records form done) sink mid so_far after same counted settled still
 
     part_flushed : (form : Option RecordForm) (f : RecordForm) → form ≡ Some f →
         (seen after).failures ≡ after_failure (seen mid).failures → (done : List Record) →
@@ -457,7 +458,7 @@ module _ {W : Type 0} (seen : W → SinkView) (version : Version) (old new : Lis
       subst After (sym (is.1 ∙ is.0)) (cut_off is.2 (subst Before is.0 d))
   diff_told outcome shown d (inr is) = elim is.1.tells [
     | inl s ↦ subst After (sym s.0) (done_flushed
-        (all_flushed seen sink mid after is.1.same form f is_form s.1 s.2) outcome is.0 d)
+        (all_flushed seen sink mid after is.1.same form f is_form s.1 s.2 is.1.keeping) outcome is.0 d)
     | inr s ↦ let first = first_given outcome is.0 d in subst After (sym s.0) (inr (
       record {
         records = first.records;

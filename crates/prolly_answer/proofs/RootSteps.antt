@@ -286,14 +286,15 @@ module _ {W : Type 0} (seen : W → SinkView) (old mid new : W)
   same_taken : (outcome : Outcome) → outcome ≢ Err (Output Write) →
       ((seen mid).is_keeping ≡ true → (seen new).taken ≡ (seen mid).taken) →
       (seen new).failures ≡ (seen mid).failures → IsSettled (seen new) →
+      ((seen mid).is_keeping ≡ true → (seen new).is_keeping ≡ true) →
       TakesFor seen old mid bytes outcome → TakesAllFor seen old new bytes outcome
-  same_taken (Ok done) other same counted settled t =
-      all_flushed seen old mid new keeping same counted settled bytes t
-  same_taken (Err (Root fault)) other same counted settled t =
-      all_flushed seen old mid new keeping same counted settled bytes t
-  same_taken (Err (Output Memory)) other same counted settled t =
-      prefix_flushed seen old mid new keeping same counted settled bytes t
-  same_taken (Err (Output Write)) other same counted settled t = absurd (other refl)
+  same_taken (Ok done) other same counted settled still t =
+      all_flushed seen old mid new keeping same counted settled still bytes t
+  same_taken (Err (Root fault)) other same counted settled still t =
+      all_flushed seen old mid new keeping same counted settled still bytes t
+  same_taken (Err (Output Memory)) other same counted settled still t =
+      prefix_flushed seen old mid new keeping same counted bytes t
+  same_taken (Err (Output Write)) other same counted settled still t = absurd (other refl)
 
   part_taken : (outcome : Outcome) → outcome ≢ Err (Output Write) →
       ((seen mid).is_keeping ≡ true → (seen new).taken ≡ (seen mid).taken) →
@@ -315,7 +316,7 @@ module _ {W : Type 0} (seen : W → SinkView) (old mid new : W)
       (subst (TakesFor seen old mid bytes) is.0 t))
   taken_told outcome told (inr is) t = elim is.1.tells [
     | inl s ↦ subst (TakesAllFor seen old new bytes) (sym s.0)
-        (same_taken outcome is.0 is.1.same s.1 s.2 t)
+        (same_taken outcome is.0 is.1.same s.1 s.2 is.1.keeping t)
     | inr s ↦ subst (TakesAllFor seen old new bytes) (sym s.0)
         (part_taken outcome is.0 is.1.same s.1 t)
   ]
@@ -328,6 +329,7 @@ module _ {W : Type 0} (seen : W → SinkView) (version : Version) (root from : L
     nothing_taken = subst (λ b. TookAll seen b old old) (sym none) (record {
       unfailed = refl;
       took = λ k. sym (append-nil (seen old).taken);
+      keeping = λ k. k;
       settled = λ before. before;
     })
 

@@ -190,10 +190,12 @@ module _ {W : Type 0} (seen : W → SinkView) (old mid new : W)
   so_far_all : (bytes : List ℕ) → TookBytes seen bytes old mid → TookSoFar seen bytes old mid
   so_far_all bytes t = record { all = t; keeping = keeping }
 
-  module _ (counted : (seen new).failures ≡ (seen mid).failures)
-      (settled : IsSettled (seen new)) where
-    pub all_flushed : (bytes : List ℕ) → TookBytes seen bytes old mid → TookAll seen bytes old new
-    all_flushed bytes t = flushed seen bytes old mid (so_far_all bytes t) new same counted settled
+  module _ (counted : (seen new).failures ≡ (seen mid).failures) where
+    pub all_flushed : IsSettled (seen new) →
+        ((seen mid).is_keeping ≡ true → (seen new).is_keeping ≡ true) → (bytes : List ℕ) →
+        TookBytes seen bytes old mid → TookAll seen bytes old new
+    all_flushed settled still bytes t =
+        flushed seen bytes old mid (so_far_all bytes t) new same counted settled still
 
     pub prefix_flushed : (bytes : List ℕ) → TookPrefix seen bytes old mid →
         TookPrefix seen bytes old new

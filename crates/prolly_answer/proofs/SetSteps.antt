@@ -387,16 +387,18 @@ module _ {W : Type 0} (seen : W → SinkView) (notation : Notation) (version : V
   module _ (same : (seen mid).is_keeping ≡ true → (seen new).taken ≡ (seen mid).taken) where
     -- the sink is flushed
     ended_flushed : (seen new).failures ≡ (seen mid).failures → IsSettled (seen new) →
+        ((seen mid).is_keeping ≡ true → (seen new).is_keeping ≡ true) →
         (outcome : Result (Unit {0}) Fault) → outcome ≢ Err Write → Before outcome → After outcome
-    ended_flushed counted settled (Ok done) other d = record {
+    ended_flushed counted settled still (Ok done) other d = record {
       proof = d.proof;
       pairs = d.pairs;
       proves = d.proves;
       read = d.read;
-      took = flushed seen (lines_at_end notation set d.pairs) old mid d.took new same counted settled;
+      took = flushed seen (lines_at_end notation set d.pairs) old mid d.took new same counted settled
+          still;
     }
-    ended_flushed counted settled (Err fault) other s = ended_by fault fault s (elim s.stopped [
-      | inl d ↦ inl (d.0, d.1, d.2, flushed seen s.lines old mid d.3 new same counted settled)
+    ended_flushed counted settled still (Err fault) other s = ended_by fault fault s (elim s.stopped [
+      | inl d ↦ inl (d.0, d.1, d.2, flushed seen s.lines old mid d.3 new same counted settled still)
       | inr d ↦ absurd (other (ap Err d.0))
     ])
 
@@ -430,7 +432,7 @@ module _ {W : Type 0} (seen : W → SinkView) (notation : Notation) (version : V
   set_told outcome shown d (inl is) =
       subst After (sym (is.1 ∙ is.0)) (cut_off is.2 (subst Before is.0 d))
   set_told outcome shown d (inr is) = elim is.1.tells [
-    | inl s ↦ subst After (sym s.0) (ended_flushed is.1.same s.1 s.2 outcome is.0 d)
+    | inl s ↦ subst After (sym s.0) (ended_flushed is.1.same s.1 s.2 is.1.keeping outcome is.0 d)
     | inr s ↦ subst After (sym s.0) (ended_unflushed is.1.same s.1 outcome is.0 d)
   ]
 

@@ -30,6 +30,7 @@ module _ {W : Type 0} (seen : W → SinkView) where
   wrote_all x bytes old new w settled = record {
     unfailed = w.failures;
     took = w.written;
+    keeping = w.keeping;
     settled = λ before. settled;
   }
 
@@ -95,10 +96,12 @@ module _ {W : Type 0} (seen : W → SinkView) where
     module _ (new : W) (same : (seen mid).is_keeping ≡ true →
         (seen new).taken ≡ (seen mid).taken) where
       pub flushed : (seen new).failures ≡ (seen mid).failures → IsSettled (seen new) →
+          ((seen mid).is_keeping ≡ true → (seen new).is_keeping ≡ true) →
           TookAll seen done old new
-      flushed counted settled = record {
+      flushed counted settled keeping = record {
         unfailed = counted ∙ so_far.all.unfailed;
         took = λ k. same (so_far.keeping k) ∙ so_far.all.took k;
+        keeping = λ k. keeping (so_far.keeping k);
         settled = λ before. settled;
       }
 

@@ -26,11 +26,12 @@ pub record TookSoFar {W : Type 0} (seen : W → SinkView) (bytes : List ℕ) (ol
   pub all : TookBytes seen bytes old new
   pub keeping : (seen old).is_keeping ≡ true → (seen new).is_keeping ≡ true
 
--- The sink took all of these bytes, no call of it failed, and where it had held no byte back before
--- it holds none back now.
+-- The sink took all of these bytes and keeps what it takes, if it did, no call of it failed, and where
+-- it had held no byte back before it holds none back now.
 pub record TookAll {W : Type 0} (seen : W → SinkView) (bytes : List ℕ) (old new : W) : Type 0 where
   pub unfailed : (seen new).failures ≡ (seen old).failures
   pub took : (seen old).is_keeping ≡ true → (seen new).taken ≡ (seen old).taken ++ bytes
+  pub keeping : (seen old).is_keeping ≡ true → (seen new).is_keeping ≡ true
   pub settled : IsSettled (seen old) → IsSettled (seen new)
 
 -- A call of the sink failed, and it took a prefix of these bytes.

@@ -149,6 +149,7 @@ module _ {S : Type 0} (seen : S → SourceView) (has : Content → Type 0) (sett
         cut_so = λ e. absurd (bits_are_no_run fault (sym e));
         had = λ told content e. absurd (old_is_no_run told fault (sym e));
         refused = λ e. absurd (h.no_memory (same_run fault Memory e));
+        keeps = begun.keeps;
       }
 
   -- nothing was started
@@ -169,6 +170,7 @@ module _ {S : Type 0} (seen : S → SourceView) (has : Content → Type 0) (sett
     cut_so = λ e. absurd (bits_are_no_run fault (sym e));
     had = λ told content e. absurd (old_is_no_run told fault (sym e));
     refused = λ e. refused (same_run fault Memory e);
+    keeps = begun.keeps;
   }
 
   pub lost_outcome : IsBegun settings old new → Answers (Err (answers.Run Lost))
@@ -184,6 +186,7 @@ module _ {S : Type 0} (seen : S → SourceView) (has : Content → Type 0) (sett
     cut_so = λ e. absurd (bits_are_no_run Lost (sym e));
     had = λ told content e. absurd (old_is_no_run told Lost (sym e));
     refused = λ e. absurd (lost_is_no_memory (same_run Lost Memory e));
+    keeps = begun.keeps;
   }
 
   -- the stop of a run that is named
@@ -252,6 +255,7 @@ module _ {S : Type 0} (seen : S → SourceView) (has : Content → Type 0) (sett
       cut_so = tt;
       had = tt;
       refused = tt;
+      keeps = finished.keeps;
     }
 
     refused_so : (fault : RunFault) → IsFinished settings out old new (Err fault) →
@@ -300,6 +304,7 @@ module _ {S : Type 0} (seen : S → SourceView) (has : Content → Type 0) (sett
       cut_so = λ e. absurd (bits_are_no_run fault (sym e));
       had = λ told content e. absurd (old_is_no_run told fault (sym e));
       refused = λ e. refused_so fault finished (same_run fault Memory e);
+      keeps = finished.keeps;
     }
 
     run_outcome : (fault told : RunFault) → IsFinished settings out old new (Err fault) →
@@ -348,6 +353,7 @@ module _ {S : Type 0} (seen : S → SourceView) (has : Content → Type 0) (sett
             subst MayFail (same_old told t e) (subst (λ (f : Option RootFault). IfSome f MayFail)
             some (fair content has_it version named));
         refused = λ e. absurd (old_is_no_run told Memory e);
+        keeps = finished.keeps;
       };
       counted = λ e. cc;
     }
@@ -367,6 +373,7 @@ module _ {S : Type 0} (seen : S → SourceView) (has : Content → Type 0) (sett
         cut_so = λ e. never wrong;
         had = λ told content e. absurd (bits_are_no_old told e);
         refused = λ e. absurd (bits_are_no_run Memory e);
+        keeps = finished.keeps;
       };
       counted = λ e. cc;
     }

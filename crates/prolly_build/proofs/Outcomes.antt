@@ -62,6 +62,7 @@ module _ {S : Type 0} (seen : S → SourceView) (settings : Settings) (before af
         unstarted = IfErr-weaker result _ _ (λ fault h start. absurd (h r.input start))
             finished.started;
         left_behind = IfErr-weaker result _ _ (λ fault h a b. r.kept) finished.started;
+        keeps = finished.keeps;
       }
 
   -- a worker was lost
@@ -76,6 +77,7 @@ module _ {S : Type 0} (seen : S → SourceView) (settings : Settings) (before af
     begun = λ other. begun;
     unstarted = λ start. absurd start;
     left_behind = λ a b. absurd (b refl);
+    keeps = begun.keeps;
   }
 
   -- the answer of a build over the sources, which were lent

@@ -1,6 +1,6 @@
 -- What the driver's parts give back.
 use Rattle.std.proofs.Common.{◌≡◌, ℕ, ◌-◌, List, [], ◌++◌, ◌≢◌, inl, inr, refl, sym, subst, ap, ◌∙◌}
-use Rattle.std.proofs.Common.{Result, Ok, Err}
+use Rattle.std.proofs.Common.{Result, Ok, Err, true}
 use Rattle.std.proofs.lemmas.List.{append-nil}
 use Rattle.std.proofs.lemmas.Result.{err_from_is_err_and}
 use Rattle.std.specs.Prelude.{IsErrAnd, IfOk, IfErr, OnOk}
@@ -16,9 +16,10 @@ use Rattle.prolly_link.specs.Growth.{items_between}
 use Rattle.prolly_link.specs.declared.message.End.TheVariants.{Clean, Fault}
 use Rattle.prolly_link.specs.declared.fault.RunFault.{RunFault}
 use Rattle.prolly_link.specs.declared.fault.RunFault.TheVariants.{Write}
+use Rattle.prolly_report.specs.declared.report.Report.{Report}
 use Rattle.prolly_build.specs.Config.{Settings}
 use Rattle.prolly_build.specs.BuiltFile.{IsBegun}
-use Rattle.prolly_build.specs.WriterState.{HasWritten, IsEndFault, frames_of}
+use Rattle.prolly_build.specs.WriterState.{HasWritten, IsEndFault, IsEndWritten, frames_of}
 use Rattle.prolly_build.specs.RunResult.{IsWriterDone, HandsOn}
 use Rattle.prolly_build.specs.declared.end.Halt.{Halt}
 use Rattle.prolly_build.specs.declared.end.Halt.TheVariants.{NoThread, Lost}
@@ -36,6 +37,7 @@ nothing_begun settings old = record {
     grown = sym (append-nil old.taken);
     is_prefix = (frames_of (header settings.version settings.bits) [], refl);
   };
+  keeps = λ k. k;
 }
 
 pub all_taken : {old new wanted : List ℕ} → new ≡ old ++ wanted → TakesPrefix old new wanted
@@ -51,15 +53,21 @@ pub written_begun : (settings : Settings) (level : ℕ) (events : List Chunk) (o
     HasWritten (header settings.version settings.bits) level events old new written →
     IsBegun settings old new
 written_begun settings level events old new (Writing begun) h =
-    record { chunks_begun = events; small = h.small; taken = λ k. all_taken (h.taken_is k) }
+    record {
+      chunks_begun = events;
+      small = h.small;
+      taken = λ k. all_taken (h.taken_is k);
+      keeps = h.keeps;
+    }
 written_begun settings level events old new TooTall h =
     record {
       chunks_begun = before_second level events;
       small = h.small;
       taken = λ k. all_taken (h.taken_is k);
+      keeps = h.keeps;
     }
 written_begun settings level events old new Failed h =
-    record { chunks_begun = h.tried; small = h.small; taken = h.taken_is }
+    record { chunks_begun = h.tried; small = h.small; taken = h.taken_is; keeps = h.keeps }
 
 -- and once the build has ended with another fault than a failed write
 pub ended_begun : (settings : Settings) (level : ℕ) (events : List Chunk)
@@ -77,10 +85,40 @@ ended_begun settings level events old before after written Clean fault h (inr (i
       chunks_begun = before_second level events;
       small = tall.1.small;
       taken = λ k. all_taken (tall.1.taken_is k);
+      keeps = tall.1.keeps;
     }
 ended_begun settings level events old before after written Clean fault h (inr (inr lost)) other =
     subst (λ (s : SinkView). IsBegun settings old s) (sym lost.1)
     (written_begun settings level events old before written h)
+
+-- the writer's sink keeps what it takes, if it did
+written_keeps : (head : List ℕ) (level : ℕ) (events : List Chunk) (old new : SinkView)
+    (written : WriterState) → HasWritten head level events old new written →
+    old.is_keeping ≡ true → new.is_keeping ≡ true
+written_keeps head level events old new (Writing begun) h = h.keeps
+written_keeps head level events old new TooTall h = h.keeps
+written_keeps head level events old new Failed h = h.keeps
+
+-- and so it does once the build has ended
+pub ended_keeps : (head : List ℕ) (level : ℕ) (events : List Chunk) (old before after : SinkView)
+    (written : WriterState) (end : End) (result : Result Report RunFault) →
+    HasWritten head level events old before written →
+    IfOk result (IsEndWritten head level events old after) →
+    IfErr result (λ fault. IsEndFault head level events old before after end fault) →
+    old.is_keeping ≡ true → after.is_keeping ≡ true
+ended_keeps head level events old before after written end (Ok report) h ok err = ok.keeps
+ended_keeps head level events old before after written (Fault f) (Err fault) h ok err =
+    subst (λ (s : SinkView). old.is_keeping ≡ true → s.is_keeping ≡ true) (sym err.1)
+    (written_keeps head level events old before written h)
+ended_keeps head level events old before after written Clean (Err fault) h ok (inl (is, inl part)) =
+    part.keeps
+ended_keeps head level events old before after written Clean (Err fault) h ok (inl (is, inr part)) =
+    part.keeps
+ended_keeps head level events old before after written Clean (Err fault) h ok (inr (inl tall)) =
+    tall.1.keeps
+ended_keeps head level events old before after written Clean (Err fault) h ok (inr (inr lost)) =
+    subst (λ (s : SinkView). old.is_keeping ≡ true → s.is_keeping ≡ true) (sym lost.1)
+    (written_keeps head level events old before written h)
 
 pub all_begun : (settings : Settings) (last : Receiving Chunk) (old new : SinkView)
     (wrote : WriterResult) → IsWriterDone settings last old new wrote → IsBegun settings old new

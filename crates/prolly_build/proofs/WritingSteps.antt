@@ -150,8 +150,8 @@ pub unended : {head : List ℕ} {level : ℕ} {events : List Chunk} {old mid new
     begun.top ≡ Some top → begun.file.chunks < greatest_count →
     (mid.is_keeping ≡ true → TakesPrefix mid.taken new.taken
     (end_record top.root.0 begun.file.chunks)) → new.failures ≢ mid.failures →
-    IsUnended head level events old new
-unended {head} {level} {events} {old} {mid} {new} {begun} top h top_is few part failed =
+    (mid.is_keeping ≡ true → new.is_keeping ≡ true) → IsUnended head level events old new
+unended {head} {level} {events} {old} {mid} {new} {begun} top h top_is few part failed keeps =
     let last = subst (λ (t : Option LastChunk). IsTopOf events t) top_is h.top_is in
     let count_is = h.count_is in
     let chunks_are : begun.file.chunks ≡ length events = omega (arith, count_is, few) in
@@ -170,6 +170,7 @@ unended {head} {level} {events} {old} {mid} {new} {begun} top h top_is few part 
           ap (λ (r : List ℕ). end_record r (length events)) last.3)
           (part_behind old.taken mid.taken new.taken (frames_of head events)
           (end_record top.root.0 begun.file.chunks) (h.taken_is k) (part (h.keeps k)));
+      keeps = λ k. keeps (h.keeps k);
     }
 
 -- the same events

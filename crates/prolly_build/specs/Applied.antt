@@ -161,3 +161,5 @@ pub record IsApplyOutcome {S : Type 0} (seen : S → SourceView) (has : Content 
   -- without its end record, of the first pairs of the overlay of the map and all good records.
   pub refused : IfErr result (λ fault. fault ≡ answers.Run Memory → AreHonest seen before →
       OfMaps settings root (IsRefusedOver seen settings before old new))
+  -- The sink keeps what it takes, if it did.
+  pub keeps : old.is_keeping ≡ true → new.is_keeping ≡ true

@@ -37,12 +37,13 @@ pub record IsMadeFile (settings : Settings) (m : List Pair) (old new : SinkView)
   pub levels : report.levels ≡ level_count (sha512_cut settings.bits) settings.version m
 
 -- The sink took a prefix of a header and of the frames of some chunks, each of a length that its
--- frame can spell: no end record is begun.
+-- frame can spell: no end record is begun. It keeps what it takes, if it did.
 pub record IsBegun (settings : Settings) (old new : SinkView) : Type 0 where
   pub chunks_begun : List Chunk
   pub small : AreSmall chunks_begun
   pub taken : old.is_keeping ≡ true → TakesPrefix old.taken new.taken
       (frames_of (header settings.version settings.bits) chunks_begun)
+  pub keeps : old.is_keeping ≡ true → new.is_keeping ≡ true
 
 -- Law: what the sink took then does not begin with a header, frames and the first letter of an end
 -- record, so it begins with no whole file.

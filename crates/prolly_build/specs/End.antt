@@ -62,3 +62,5 @@ pub record IsFinished (settings : Settings) (sent : Whole Chunk) (old new : Sink
   pub begun : IfErr result (λ fault. fault ≢ Write → IsBegun settings old new)
   -- The workers were started, where they sent an end that they may send.
   pub started : IfErr result (λ fault. IsInputEnd sent.end → IsStartFault fault → ⊥)
+  -- The sink keeps what it takes, if it did.
+  pub keeps : old.is_keeping ≡ true → new.is_keeping ≡ true

@@ -1,5 +1,5 @@
 -- What a build has answered, and what it has made of its sources and of the sink then.
-use Rattle.std.specs.Prelude.{◌≡◌, ◌≢◌, List, Result, IfOk, IfErr, OnOk}
+use Rattle.std.specs.Prelude.{◌≡◌, ◌≢◌, true, List, Result, IfOk, IfErr, OnOk}
 use Rattle.prolly_io.specs.Sink.{SinkView}
 use Rattle.prolly_io.specs.Source.{AreHonest, SourceView}
 use Rattle.prolly_link.specs.declared.fault.RunFault.{RunFault}
@@ -42,3 +42,5 @@ pub record IsOutcome {S : Type 0} (seen : S → SourceView) (settings : Settings
   -- left it.
   pub left_behind : IfErr result (λ fault. fault ≢ NoThread → fault ≢ Lost →
       AreKept seen before after)
+  -- The sink keeps what it takes, if it did.
+  pub keeps : old.is_keeping ≡ true → new.is_keeping ≡ true

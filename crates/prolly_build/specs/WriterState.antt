@@ -93,6 +93,7 @@ pub record IsEndWritten (head : List ℕ) (level : ℕ) (events : List Chunk) (o
   pub unfailed : new.failures ≡ old.failures
   pub taken_is : old.is_keeping ≡ true → new.taken ≡ old.taken ++
       (frames_of head events ++ end_record (reference_of root.bytes) (length events))
+  pub keeps : old.is_keeping ≡ true → new.is_keeping ≡ true
   pub settled : IsSettled new
   pub root_is : report.root.0 ≡ reference_of root.bytes
   pub chunks_are : report.chunks ≡ length events
@@ -110,6 +111,7 @@ pub record IsUnended (head : List ℕ) (level : ℕ) (events : List Chunk) (old 
     pub failed : new.failures ≢ old.failures
     pub taken_is : old.is_keeping ≡ true → TakesPrefix old.taken new.taken
         (frames_of head events ++ end_record (reference_of root.bytes) (length events))
+    pub keeps : old.is_keeping ≡ true → new.is_keeping ≡ true
 
 -- Why nothing was made: the fault that came with the last link's end, which leaves the sink alone;
 -- or, at a clean end, a frame or the end record that failed, or a second event of the last stage's

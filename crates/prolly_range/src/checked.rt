@@ -1,5 +1,5 @@
 //! Proofs of a key and of a set of keys, from a file that was checked.
-ghost use Rattle.std.specs.Prelude.{[], ◌∷◌, IfErr, IfOk, OnErr, OnOk};
+ghost use Rattle.std.specs.Prelude.{◌≡◌, [], ◌∷◌, true, IfErr, IfOk, OnErr, OnOk};
 ghost use Rattle.prolly_look_up.specs.Content.{Content, IsFileOf};
 ghost use Rattle.prolly_entry.specs.Cut.{sha512_cut};
 ghost use Rattle.prolly_io.specs.Sink.{IsSettled};
@@ -44,6 +44,7 @@ pub fn prove_checked_set<W: Sink>(
         (root_reference (sha512_cut content.bits) content.version content.pairs) (set_of set.entry)
         (W.seen sink.old) (W.seen sink.new)) }
     ensures settled { OnOk result (IsSettled (W.seen sink.new)) }
+    ensures keeping { (W.seen sink.old).is_keeping ≡ true → (W.seen sink.new).is_keeping ≡ true }
     ensures part { (content : Content) → IsFileOf tree.now content →
         OnErr result (WritesPart content.version (root_due
         (root_reference (sha512_cut content.bits) content.version content.pairs)

@@ -45,6 +45,7 @@ pub fn prove_set<S: ChunkSource, W: Sink>(
     ensures proves { OnOk result (WritesProof version root.now.0 (set_of set.entry)
         (W.seen sink.old) (W.seen sink.new)) }
     ensures settled { OnOk result (IsSettled (W.seen sink.new)) }
+    ensures keeping { (W.seen sink.old).is_keeping ≡ true → (W.seen sink.new).is_keeping ≡ true }
     ensures part { OnErr result (WritesPart version (root_due root.now.0 (set_of set.entry) ∷ [])
         (set_start version) (W.seen sink.old) (W.seen sink.new)) }
 

@@ -16,6 +16,7 @@ returns-then-len-gt-FILES_LIMIT-clause-outcome g c = record {
   begun = λ n. nothing_begun _ _;
   unstarted = λ s. refl;
   left_behind = λ a b. same_kept g.S.Source.seen c.args.sources.now.items;
+  keeps = λ k. k;
 }
   where
     too_many_is_no_memory : TooManyFiles ≡ Memory → ⊥
@@ -39,4 +40,5 @@ returns-in_default-clause-outcome g c =
       begun = λ n. nothing_begun _ _;
       unstarted = λ s. refl;
       left_behind = λ a b. same_kept g.S.Source.seen c.args.sources.now.items;
+      keeps = λ k. k;
     }

@@ -52,15 +52,17 @@ pub returns-in-Err-clause-outcome : goal.returns-in-Err-clause-outcome
 returns-in-Err-clause-outcome g c =
     let e = at_err _ _ _ c.in-Err.is c.run_scoped-ran.ensures.hands_on.refused in
     let h = halted _ _ c.in-Err.halt c.fault.result c.fault.ensures e in
+    let begun = at_err _ _ _ c.in-Err.is c.run_scoped-ran.ensures.hands_on.begun in
     record {
       built = tt;
       kept = tt;
       unmade = λ w. absurd (h.no_writer w);
       stopped = λ file. absurd (h.no_file file);
       refused = λ memory. absurd (h.no_memory memory);
-      begun = λ other. at_err _ _ _ c.in-Err.is c.run_scoped-ran.ensures.hands_on.begun;
+      begun = λ other. begun;
       unstarted = h.unstarted;
       left_behind = h.left_behind;
+      keeps = begun.keeps;
     }
 
 pub returns-in-Err-clause-started : goal.returns-in-Err-clause-started

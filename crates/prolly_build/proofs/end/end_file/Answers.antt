@@ -8,7 +8,7 @@ returns-in-Err-clause-err g c = λ head level events old h.
     inl (
       refl,
       inr (unended c.in-Some.top h (c.in-Some.is) (omega (arith, c.if-chunks.false, c.chunks.ensures)) (search rules)
-          (search rules)),
+          (search rules) (search rules)),
     )
 
 pub returns-in-Ok-clause-ok : goal.returns-in-Ok-clause-ok

@@ -7,7 +7,7 @@ use Rattle.prolly_link.specs.Progress.{end_given}
 use Rattle.prolly_link.specs.declared.message.End.{End}
 use Rattle.prolly_link.specs.declared.fault.RunFault.{RunFault}
 use Rattle.prolly_build.specs.WriterState.{HasWritten, IsEndFault}
-use Rattle.prolly_build.proofs.RanSteps.{written_begun, ended_begun}
+use Rattle.prolly_build.proofs.RanSteps.{written_begun, ended_begun, ended_keeps}
 use Rattle.prolly_build.proofs.Takings.{lost_is_no_memory, is_refused_at, is_stopped_at}
 use Rattle.prolly_build.proofs.Makings.{file_made, no_start_fault, unmade_at, if_ok}
 use Rattle.prolly_build.proofs.end.finish.Goals as goal
@@ -53,6 +53,8 @@ returns-in-Ok g c = λ old written.
       started = IfErr-weaker result _ _
           (λ fault h input. no_start_fault head level sent.items old now after sent.end fault input
           (as_sent fault h)) fault_of_sent;
+      keeps = ended_keeps head level writer.last.items old now after writer.written writer.end result
+          written (c.end_build.ensures.ok head level writer.last.items old written) fault_of_last;
     }
 
 pub returns-in-Err : goal.returns-in-Err
@@ -65,4 +67,6 @@ returns-in-Err g c = λ old written. record {
   begun = λ other. written_begun c.args.config (c.args.config.stages - 1)
       c.args.wrote.last.items old _ c.args.wrote.written written;
   started = λ input start. absurd start;
+  keeps = (written_begun c.args.config (c.args.config.stages - 1) c.args.wrote.last.items old _
+      c.args.wrote.written written).keeps;
 }

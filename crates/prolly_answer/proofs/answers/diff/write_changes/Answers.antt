@@ -52,6 +52,7 @@ returns-clause-ok g c = all_written g.W.Sink.seen c.args.form c.args.changes _
     c.loop-change.counts c.args.sink.now c.loop-change.sink c.loop-change.invariant
     c.in_default.ensures.same c.flush.new.self c.in_ok-flush.ensures.bytes
     _ c.in-Some-form.is c.in_ok-flush.ensures.failures c.in_ok-flush.ensures.settled
+    c.in_ok-flush.ensures.keeping
 
 pub returns-in_err-flush-clause-err : goal.returns-in_err-flush-clause-err
 returns-in_err-flush-clause-err g c =
