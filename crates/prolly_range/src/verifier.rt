@@ -131,7 +131,8 @@ impl<'a> SetVerifier<'a> {
 
         ensures stops { OnErr result (self.new.stopped ≡ true) }
         ensures goes_on { OnOk result (self.new.stopped ≡ false) }
-        ensures stopped { self.old.stopped ≡ true → result ≡ Err SetFault.Stopped }
+        ensures stopped { self.old.stopped ≡ true → (result ≡ Err SetFault.Stopped) ×
+            (source.new ≡ source.old) }
         ensures read { IsErrOf result SetFault.Read ↔ ((S.seen source.new).failures ≢ (S.seen
             source.old).failures) }
         ensures honest { (S.seen source.old).is_honest ≡ true →

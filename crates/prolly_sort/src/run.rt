@@ -110,6 +110,7 @@ impl Run {
     pub fn sort(self, alloc: Global) -> Result<SortedRun, AllocError>
         ensures records { IfOk result (λ sorted. sorted ≡ overlaid self.records) }
         ensures rising { IfOk result (λ sorted. Rising (keys_of sorted)) }
+        ensures at_once { OnErr result (Rising (keys_of self.records) → ⊥) }
     {
         let Run {
             bytes,

@@ -6,12 +6,13 @@ use Rattle.std.proofs.Common.{append_assoc}
 use Rattle.std.specs.Char.{is_ascii_hexdigit}
 use Rattle.std.specs.Prelude.{is_some, nat_le, slice_get, slice_index, ◌&&◌}
 use Rattle.std.specs.List.{AllByRecursion}
+use Rattle.std.proofs.lemmas.Bool.{false≢true}
 use Rattle.std.proofs.lemmas.List.{length-take-le, take_all}
 use Rattle.std.proofs.lemmas.List.Elements.{All-from_recursion, recursion_from_All}
 use Rattle.std.proofs.lemmas.Option.{slice_get-get_or}
 use Rattle.hex.specs.Hex.{is_hex_digit}
 use Rattle.hex.proofs.HexLemmas.{decode_of-digits}
-use Rattle.prolly_text.specs.Defects.{BreaksOff, HasByte, HasDefect, HasTwo, IsLengthVerdict}
+use Rattle.prolly_text.specs.Defects.{BreaksOff, HasDefect, HasFirst, HasTwo, IsLengthVerdict}
 use Rattle.prolly_text.specs.Defects.{IsPart, IsPartDefect, IsRead, IsVerdictOn}
 use Rattle.prolly_text.specs.Lines.{CutsAt, IsBadLine, IsLineOf, IsMarked, reads_bare_keys}
 use Rattle.prolly_text.specs.Notations.{separator}
@@ -45,28 +46,43 @@ same_digits b = some_in_range (nat_le 65 b && nat_le b 70) (nat_le 97 b && nat_l
     (nat_le 48 b && nat_le b 57) (b - 55) (b - 87) (b - 48)
 
 -- A byte stands at its place.
-pub byte_there : (xs : List ℕ) (n byte start : ℕ) → slice_get xs n ≡ Some byte → n ≤ length xs →
-    HasByte byte start xs (start + n)
-byte_there xs n byte start there within = record {
+first_there : (IsWrong : ℕ → Type 0) (xs : List ℕ) (n byte start : ℕ) →
+    slice_get xs n ≡ Some byte → n ≤ length xs → IsWrong byte →
+    AllByRecursion (λ b. IsWrong b → ⊥) (take n xs) → HasFirst IsWrong start xs (start + n)
+first_there IsWrong xs n byte start there within wrong none = record {
   front = take n xs;
+  byte = byte;
   back = drop (n + 1) xs;
   is = cut_there xs n byte there;
+  wrong = wrong;
+  none_before = none;
   offset_is = ap (λ i. start + i) (sym (length-take-le n xs within));
 }
 
-pub bad_digit : (xs : List ℕ) (n start : ℕ) → n < length xs →
-    is_ascii_hexdigit (slice_index xs n) ≡ false →
-    (byte : ℕ) × (is_hex_digit byte ≡ false) × HasByte byte start xs (start + n)
-bad_digit xs n start within bad = (
-  slice_index xs n,
-  same_digits (slice_index xs n) ∙ bad,
-  byte_there xs n (slice_index xs n) start (slice_get-get_or xs n 0 within) (omega arith),
-)
+pub byte_there : (xs : List ℕ) (n byte start : ℕ) → slice_get xs n ≡ Some byte → n ≤ length xs →
+    All (λ b. b ≢ byte) (take n xs) → HasFirst (λ b. b ≡ byte) start xs (start + n)
+byte_there xs n byte start there within none = first_there (λ b. b ≡ byte) xs n byte start there within
+    refl (recursion_from_All (λ b. b ≢ byte) (take n xs) none)
 
 all_digits : (xs : List ℕ) → AllByRecursion (λ b. is_ascii_hexdigit b ≡ true) xs →
     AllByRecursion (λ b. is_hex_digit b ≡ true) xs
 all_digits [] h = tt
 all_digits (x ∷ xs) h = (same_digits x ∙ h.0, all_digits xs h.1)
+
+none_wrong : (xs : List ℕ) → AllByRecursion (λ b. is_hex_digit b ≡ true) xs →
+    AllByRecursion (λ b. is_hex_digit b ≡ false → ⊥) xs
+none_wrong [] h = tt
+none_wrong (x ∷ xs) h = (λ e. false≢true (sym e ∙ h.0), none_wrong xs h.1)
+
+pub bad_digit : (xs : List ℕ) (n start : ℕ) → n < length xs →
+    is_ascii_hexdigit (slice_index xs n) ≡ false →
+    All (λ b. is_ascii_hexdigit b ≡ true) (take n xs) →
+    HasFirst (λ b. is_hex_digit b ≡ false) start xs (start + n)
+bad_digit xs n start within bad digits =
+    first_there (λ b. is_hex_digit b ≡ false) xs n (slice_index xs n) start
+    (slice_get-get_or xs n 0 within) (omega arith) (same_digits (slice_index xs n) ∙ bad)
+    (none_wrong (take n xs) (all_digits (take n xs)
+    (recursion_from_All (λ b. is_ascii_hexdigit b ≡ true) (take n xs) digits)))
 
 -- As many digits as there are bytes are all of them.
 pub every_digit : (xs : List ℕ) (n : ℕ) → All (λ b. is_ascii_hexdigit b ≡ true) (take n xs) →

@@ -23,11 +23,14 @@ use Rattle.prolly_text.specs.declared.notation.Notation.TheVariants.{Hex, Text}
 abbrev pub IsRead : Notation → List ℕ → Type 0
 IsRead notation text = (bytes : List ℕ) × IsWritten notation text bytes
 
--- Among these bytes, which begin at an offset, a byte stands at another one.
-pub record HasByte (byte start : ℕ) (bytes : List ℕ) (offset : ℕ) : Type 0 where
+-- Of these bytes, which begin at an offset, the first one that is wrong stands at another one.
+pub record HasFirst (IsWrong : ℕ → Type 0) (start : ℕ) (bytes : List ℕ) (offset : ℕ) : Type 0 where
   pub front : List ℕ
+  pub byte : ℕ
   pub back : List ℕ
   pub is : bytes ≡ front ++ byte ∷ back
+  pub wrong : IsWrong byte
+  pub none_before : AllByRecursion (λ b. IsWrong b → ⊥) front
   pub offset_is : offset ≡ start + length front
 
 -- The text, which begins at an offset, is characters and escapes up to another one. There begins
@@ -45,7 +48,7 @@ abbrev pub IsPartDefect : Notation → List ℕ → ℕ → Defect → Type 0
 IsPartDefect notation text start (defects.BadEscape offset) =
     (notation ≡ Text) × BreaksOff text start offset
 IsPartDefect notation text start (defects.BadDigit offset) = (notation ≡ Hex) ×
-    ((byte : ℕ) × (is_hex_digit byte ≡ false) × HasByte byte start text offset)
+    HasFirst (λ b. is_hex_digit b ≡ false) start text offset
 IsPartDefect notation text start (defects.OddDigits offset) = (notation ≡ Hex) ×
     (offset ≡ start) × (length text % 2 ≡ 1) × AllByRecursion (λ b. is_hex_digit b ≡ true) text
 IsPartDefect notation text start _ = ⊥
@@ -106,7 +109,7 @@ abbrev pub HasDefect : LineForm → LinePlace → List ℕ → Defect → Type 0
 HasDefect form place line defects.ByteOrderMark =
     (place.number ≡ 0) × IsMarked form.notation line
 HasDefect form place line (defects.CarriageReturn offset) =
-    IsBadLine form line × HasByte 0x0D place.offset line offset
+    IsBadLine form line × HasFirst (λ b. b ≡ 0x0D) place.offset line offset
 HasDefect form place line defects.NoSeparator =
     IsBadLine form line × (reads_bare_keys form.notation form.removals ≡ false) ×
     AllByRecursion (λ b. b ≢ separator form.notation) line

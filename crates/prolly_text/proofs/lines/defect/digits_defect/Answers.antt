@@ -6,7 +6,8 @@ pub returns-then-digits-text-clause-some : goal.returns-then-digits-text-clause-
 returns-then-digits-text-clause-some c = (
   refl,
   bad_digit c.args.text.now c.leading_digits-digits.result c.args.start
-      c.if-digits-text.true (c.leading_digits-digits.ensures.over c.if-digits-text.true),
+      c.if-digits-text.true (c.leading_digits-digits.ensures.over c.if-digits-text.true)
+      c.leading_digits-digits.ensures.all,
 )
 
 pub returns-then-digits-eq1-clause-some : goal.returns-then-digits-eq1-clause-some

@@ -13,7 +13,7 @@ returns-then-returned-line c = (
   c.requires.bad,
   byte_there c.args.line.now c.first_place-returned.result 0x0D c.args.place.offset
       (c.first_place-returned.ensures.there c.if-returned-line.true)
-      c.first_place-returned.ensures.bound,
+      c.first_place-returned.ensures.bound c.first_place-returned.ensures.none,
 )
 
 pub bare_defect-requires-clause-none : goal.bare_defect-requires-clause-none
