@@ -4,6 +4,7 @@ import errno
 import os
 import random
 import resource
+import shutil
 import signal
 import stat
 import subprocess
@@ -18,7 +19,7 @@ from oracle.escapes import text_lines
 from oracle.proof import another, proof_of
 from oracle.trees import END_SIZE, chunk_file, records, reference_text, report, root_text, tree
 from support.by_root import Kind
-from support.place import DONE, all_of, opened_for_writing
+from support.place import DONE, NOBODY, all_of, opened_for_writing
 
 A = records(ABC[:2])
 B = records(ABC[2:])
@@ -61,6 +62,9 @@ BEFORES = {
     "prove --root": proof_of(tree(ABC, 0, 1), b"a", 1),
 }
 """What OUT held before: a file of the kind that each command writes."""
+
+LONG = "ö" * 127 + "o"
+"""A name as long as file systems take. A cut behind an odd number of bytes would be inside a letter."""
 
 IN_PLACE = ("build", "apply", "scratch")
 """The commands that write OUT itself where they are not told to write a file beside it."""
@@ -220,6 +224,36 @@ def is_read_twice(place, words, name):
     place.holds(in_prl=TREE, old_prl=OLD_TREE)
 
 
+def is_a_named_pipe_read_twice(place, words):
+    """The same of a pipe of the file system: it is not opened again, which would wait for another writer."""
+    files = laid(place)
+    os.mkfifo(place.path("pipe"))
+    process = place.start(words)
+    opened_for_writing(place.path("pipe"), process).close()
+    place.answers(place.finish(process), refusal(b"one pipe is two inputs: pipe"))
+    place.path("pipe").unlink()
+    place.holds(**files)
+
+
+def is_no_open_file(place):
+    """A name of a number that nobody has opened for the program leads to none of the files that it opens itself."""
+    files = laid(place)
+    files["keys"] = b"61\n"
+    place.lay(keys=files["keys"])
+    place.path("link").symlink_to("/dev/fd/3")
+    for name in ("/dev/fd/3", "/proc/self/fd/3", "link"):
+        wanted = refusal(b"cannot open " + name.encode())
+        for words, given, _, _ in WRITERS.values():
+            for flags in ([], ["--atomic"], ["--atomic", "--force"]):
+                place.answers(place.run(*in_place_of_out(words, name), *flags, stdin=given or b""), wanted)
+        readers = [["build", "new", "a.rec", name], ["apply", "--root", OLD_ROOT, "old.prl", "new", name]]
+        readers += [["diff", "old.prl", name], ["diff", name, "old.prl"], ["get", "--keys", "keys", name]]
+        for words in readers:
+            place.answers(place.run(*words), wanted)
+    place.path("link").unlink()
+    place.holds(**files)
+
+
 def is_a_device(place):
     """A device may be both."""
     place.answers(place.run("build", "--bits", "0", "/dev/null", "/dev/null"), (0, report([], 0), b""))
@@ -296,6 +330,15 @@ def passes_names(place, command):
     place.path("out.1.tmp").write_bytes(b"1")
     place.answers(place.run(*words, "--atomic", stdin=given or b""), answer)
     place.holds(out=made, out_0_tmp=b"0", out_1_tmp=b"1", **files)
+
+
+def has_a_long_name(place, command):
+    """An OUT behind whose name nothing fits is replaced as any other."""
+    words, given, made, answer = WRITERS[command]
+    files = laid(place)
+    place.lay(**{LONG: BEFORES[command]})
+    place.answers(place.run(*in_place_of_out(words, LONG), "--atomic", stdin=given or b""), answer)
+    place.holds(**{LONG: made}, **files)
 
 
 def is_not_replaced(place, name):
@@ -565,6 +608,47 @@ def is_a_pipe(place):
         place.note(f"the pipe gave {taken}")
 
 
+def comes_meanwhile(place):
+    """A file that takes OUT's name before a build has made OUT stays."""
+    for name in ("one", "two"):
+        os.mkfifo(place.path(name))
+    process = place.start(["build", "out", "one", "two"])
+    with opened_for_writing(place.path("one"), process):
+        # It has looked at OUT, and waits for who writes the second pipe.
+        place.lay(out=OLD_TREE)
+        opened_for_writing(place.path("two"), process).close()
+    place.answers(place.finish(process), refusal(b"another run writes OUT: out"))
+    place.holds(out=OLD_TREE, one=None, two=None)
+
+
+def is_in_an_odd_folder(place):
+    """A folder whose name is no UTF-8: files in it are made, and replaced."""
+    folder = os.path.join(os.fsencode(place.folder), b"\xff")
+    os.mkdir(folder)
+    for words, made, answer in ((["pack", "out"], A, b"2\n"), (["build", "--bits", "0", "tree", "out"], chunk_file(ABC[:2], 0), report(ABC[:2], 0))):
+        for flags in ([], [], ["--sync"], ["--atomic"], ["--atomic", "--sync"]):
+            done = subprocess.run([place.program, *words, *flags], cwd=folder, input=TEXT, capture_output=True, check=False)
+            place.answers((done.returncode, done.stdout, done.stderr), (0, answer, b""))
+            if Path(os.fsdecode(folder), "out" if made == A else "tree").read_bytes() != made:
+                place.note(f"{words} {flags}: another file")
+    if len(os.listdir(folder)) != 2:
+        place.note(f"{os.listdir(folder)}")
+    shutil.rmtree(folder)
+
+
+def needs_to_read_its_folder(place):
+    """A folder that can't be read can't be brought to the disk, which is told before anything is written."""
+    files = laid(place)
+    for words, given, _, _ in WRITERS.values():
+        for flags in (["--sync"], ["--sync", "--atomic"]):
+            place.program_of(NOBODY)
+            place.folder.chmod(0o300)
+            answer = place.run(*words, *flags, stdin=given or b"", is_nobody=True)
+            place.folder.chmod(0o755)
+            place.answers(answer, refusal(b"cannot open out"))
+    place.holds(**files)
+
+
 def is_a_link(place):
     """OUT is a symbolic link: the file behind it is written, or made."""
     files = laid(place)
@@ -646,7 +730,8 @@ def tests():
     yield from ended()
     yield from in_part()
     alone = [is_a_device, is_told_early, needs_its_folder, one_of_two, is_not_on_the_disk, has_few_files, has_few_threads]
-    alone += [is_checked_without_threads, has_little_room, is_a_pipe, is_a_link, is_read_only, is_shown_escaped, is_process_substitution, grows]
+    alone += [is_checked_without_threads, has_little_room, is_a_pipe, comes_meanwhile, is_in_an_odd_folder, needs_to_read_its_folder]
+    alone += [is_no_open_file, is_a_link, is_read_only, is_shown_escaped, is_process_substitution, grows]
     for test in alone:
         yield test.__name__.replace("_", " "), test
     for name in ("folder", "pipe", "/dev/null"):
@@ -661,6 +746,10 @@ def inputs_written():
     twice += [["diff", stdin, stdin], ["get", "--keys", stdin, stdin], ["prove", "--keys", stdin, stdin, "new.prf"], ["verify", "--keys", stdin, root, stdin]]
     for words in twice:
         yield f"one pipe is two inputs: {' '.join(words)}", partial(is_read_twice, words=words, name=next(word for word in reversed(words) if word.startswith(("/dev/stdin", "/proc"))).encode())
+    named = [["build", "new", "pipe", "a.rec", "pipe"], ["apply", "--root", OLD_ROOT, "old.prl", "new", "pipe", "pipe"], ["diff", "pipe", "pipe"]]
+    named += [["get", "--keys", "pipe", "pipe"], ["prove", "--keys", "pipe", "pipe", "new"], ["verify", "--keys", "pipe", root, "pipe"]]
+    for words in named:
+        yield f"one pipe of the file system is two inputs: {' '.join(words)}", partial(is_a_named_pipe_read_twice, words=words)
     yield "one pipe is two inputs: verify without PROOF", partial(is_read_twice, words=["verify", "--keys", stdin, root], name=b"standard input")
     rec = ["a.rec", "b.rec"]
     same = [["a.rec", *rec], ["b.rec", *rec], ["./a.rec", *rec], ["hard", *rec], ["soft", *rec], ["a.rec", "b.rec", "soft"]]
@@ -708,7 +797,7 @@ def written(command):
     for flags in (["--atomic"], ["--atomic", "--sync"]):
         for before in (None, BEFORES[command]):
             yield f"{command} {' '.join(flags)}: stays after a fault", partial(stays, command=command, flags=flags, before=before)
-    for test in (keeps_its_mode, follows_links, passes_names):
+    for test in (keeps_its_mode, follows_links, passes_names, has_a_long_name):
         yield f"{command} --atomic {test.__name__.replace('_', ' ')}", partial(test, command=command)
     for number in (2, 3, 7):
         yield f"{command}: interrupted, but each {number}th", partial(is_interrupted, command=command, how={"interrupt": str(number)})

@@ -5,7 +5,7 @@ ghost use Rattle.prolly.specs.Roots.{root_of};
 
 use crate::known_root::KnownRoot;
 use prolly_entry::{Ref, Version};
-use prolly_files::{Chunks, Found, Input, Refusal, refuse_read_twice};
+use prolly_files::{Chunks, Found, InputName, Refusal};
 use prolly_io::FromRead;
 use std::fs::File;
 
@@ -52,8 +52,9 @@ impl NamedTree {
     ) -> Result<OpenTree, Refusal>
         ensures { IfOk result (λ tree. root_of tree ≡ self.now.root) }
     {
-        let input = Input::open_beside(rt, &self.file, output)?;
-        refuse_read_twice(rt, input.found(), &[earlier], &self.file)?;
+        let name = InputName::look(rt, &self.file)?;
+        name.refuse_read_twice(rt, &[earlier])?;
+        let input = name.open_beside(rt, output)?;
         match self.root {
             None => Ok(OpenTree::Whole(input.into_chunk_file(rt)?)),
             Some(root) => Ok(OpenTree::Rooted(input.into_chunks(rt)?, root)),

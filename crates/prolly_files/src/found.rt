@@ -14,7 +14,7 @@ pub struct FileId {
 /// What the system tells of a regular file's bytes. A write changes it, unless it leaves the size as it
 /// was and comes within a tick of the file system's clock, a few milliseconds.
 #[derive(Clone, Copy, PartialEq, Eq)]
-pub struct Written {
+pub struct FileStamp {
     size: u64,
     /// When the file was last written to: the seconds since 1970, and the nanoseconds within a second.
     at: (i64, i64),
@@ -26,7 +26,7 @@ pub enum Found {
     /// No file.
     Nothing,
     /// A regular file, which keeps what is written to it.
-    Regular(FileId, Written),
+    Regular(FileId, FileStamp),
     /// A block device of this number, which keeps what is written to it, too.
     Block(u64),
     /// A pipe.
@@ -43,11 +43,11 @@ impl Found {
             inode: metadata.ino(),
         };
         if metadata.is_file() {
-            let written = Written {
+            let stamp = FileStamp {
                 size: metadata.len(),
                 at: (metadata.mtime(), metadata.mtime_nsec()),
             };
-            Found::Regular(id, written)
+            Found::Regular(id, stamp)
         } else if metadata.file_type().is_block_device() {
             Found::Block(metadata.rdev())
         } else if metadata.file_type().is_fifo() {
@@ -84,7 +84,7 @@ impl Found {
     /// Whether it holds bytes. What a block device holds can't be told, so it does.
     pub fn holds_bytes(self) -> bool {
         match self {
-            Found::Regular(_, written) => written.size > 0,
+            Found::Regular(_, stamp) => stamp.size > 0,
             Found::Block(_) => true,
             _ => false,
         }
@@ -127,7 +127,7 @@ impl Found {
     /// How many bytes it has, where it is a regular file.
     pub fn size(self) -> Option<u64> {
         match self {
-            Found::Regular(_, written) => Some(written.size),
+            Found::Regular(_, stamp) => Some(stamp.size),
             _ => None,
         }
     }

@@ -6,12 +6,78 @@ use prolly_check::CheckFault;
 use prolly_fault::{Fault, INPUT_LIMIT, NameFault};
 use prolly_io::{Blocks, FromFile, FromRead};
 use prolly_root::FileChunks;
+use std::alloc::AllocError;
 use std::fs;
 use std::fs::File;
+use std::io::ErrorKind;
 use std::os::unix::fs::FileExt;
 
 /// The chunks of a file of which any part is read.
 pub type Chunks = FileChunks<Blocks<FromFile<File>>>;
+
+/// The name of a file that is to be read, and what it leads to before the command opens any file.
+///
+/// The system has names for the numbers of open files, as `/dev/fd/3`. Where nobody has opened that
+/// number for the command, it is soon that of a file which the command opens itself: of another input,
+/// which would be read twice.
+#[derive(Clone, Copy)]
+pub struct InputName<'a> {
+    name: &'a str,
+    found: Found,
+}
+
+impl<'a> InputName<'a> {
+    /// Looks at what the name leads to. A name that the system can't follow can't be opened, either.
+    pub fn look(rt: &HostRuntime, name: &'a str) -> Result<InputName<'a>, AllocError> {
+        match Found::at(rt, name) {
+            Ok(found) => Ok(InputName { name, found }),
+            Err(error) if error.kind() == ErrorKind::OutOfMemory => Err(AllocError),
+            Err(_) => Ok(InputName {
+                name,
+                found: Found::Nothing,
+            }),
+        }
+    }
+
+    /// What it leads to.
+    pub fn found(&self) -> Found {
+        self.found
+    }
+
+    /// Refuses a pipe that is one of the inputs that were named before: it gives its bytes once. Opening
+    /// it would wait for who writes it a second time.
+    pub fn refuse_read_twice(self, rt: &HostRuntime, earlier: &[Found]) -> Result<(), Refusal> {
+        refuse_read_twice(rt, self.found, earlier, self.name)
+    }
+
+    /// Opens the file, where it is neither the one that is to be written nor the one to which is
+    /// printed.
+    pub fn open_beside(self, rt: &HostRuntime, output: Found) -> Result<Input, Refusal> {
+        // To open the pipe that is to be written would wait until someone writes it.
+        if self.found.is_same_pipe(output) {
+            return Err(self.refused(rt, fault_of_written(rt, self.found)));
+        }
+        if let Found::Nothing = self.found {
+            return Err(self.refused(rt, NameFault::CannotOpen));
+        }
+        let Ok(file) = fs::open(rt, self.name) else {
+            return Err(self.refused(rt, NameFault::CannotOpen));
+        };
+        let Ok(metadata) = file.metadata() else {
+            return Err(self.refused(rt, NameFault::CannotOpen));
+        };
+        let found = Found::of(&metadata);
+        if found.is_same(output) || found.is_same(Stream::Output.seen(rt)) {
+            return Err(self.refused(rt, fault_of_written(rt, found)));
+        }
+        Ok(Input { file, found })
+    }
+
+    /// The fault of the name.
+    fn refused(self, rt: &HostRuntime, fault: NameFault) -> Refusal {
+        Refusal::of_name(rt, fault, self.name)
+    }
+}
 
 /// A file that is open to be read.
 #[derive(Drop)]
@@ -26,21 +92,10 @@ impl Input {
         Input::open_beside(rt, name, Found::Nothing)
     }
 
-    /// The file of this name, where it is neither the one that is to be written nor the one to which
-    /// is printed.
+    /// The file of this name of a command that has no other file open, where it is neither the one that
+    /// is to be written nor the one to which is printed.
     pub fn open_beside(rt: &HostRuntime, name: &str, output: Found) -> Result<Input, Refusal> {
-        refuse_output_pipe(rt, name, output)?;
-        let Ok(file) = fs::open(rt, name) else {
-            return Err(Refusal::of_name(rt, NameFault::CannotOpen, name));
-        };
-        let Ok(metadata) = file.metadata() else {
-            return Err(Refusal::of_name(rt, NameFault::CannotOpen, name));
-        };
-        let found = Found::of(&metadata);
-        if found.is_same(output) || found.is_same(Stream::Output.seen(rt)) {
-            return Err(Refusal::of_name(rt, fault_of_written(rt, found), name));
-        }
-        Ok(Input { file, found })
+        InputName::look(rt, name)?.open_beside(rt, output)
     }
 
     /// What it is.
@@ -100,20 +155,6 @@ impl Input {
 pub fn refuse_printed_input(rt: &HostRuntime) -> Result<(), Refusal> {
     if Stream::Input.seen(rt).is_same(Stream::Output.seen(rt)) {
         return Err(Refusal::of_name(rt, NameFault::IsPrintedTo, Stream::Input.name()));
-    }
-    Ok(())
-}
-
-/// Refuses the name of the pipe that is to be written, without opening it: that would wait until
-/// someone writes it.
-fn refuse_output_pipe(rt: &HostRuntime, name: &str, output: Found) -> Result<(), Refusal> {
-    if let Found::Pipe(_) = output {
-        match Found::at(rt, name) {
-            Ok(found) if found.is_same_pipe(output) => {
-                return Err(Refusal::of_name(rt, fault_of_written(rt, found), name));
-            }
-            _ => {}
-        }
     }
     Ok(())
 }

@@ -10,8 +10,8 @@ mod refusal;
 mod sinks;
 mod streams;
 
-pub use found::{FileId, Found, Written};
-pub use inputs::{Chunks, Input, refuse_printed_input, refuse_read_twice};
+pub use found::{FileId, FileStamp, Found};
+pub use inputs::{Chunks, Input, InputName, refuse_printed_input, refuse_read_twice};
 pub use output::{CHUNK_FILE_LETTERS, Output, OutputKind, RunFile, RunFiles, Target};
 pub use patient::{Patient, stdin_source, tell_of_terminal};
 pub use refusal::{Refusal, told};

@@ -44,12 +44,25 @@ impl<'a> Output<'a> {
         target.refuse_input_pipe(rt)?;
         target.refuse_printed(rt)?;
         let (file, place) = target.open(rt)?;
-        Ok(Output {
+        let output = Output {
             target,
             file,
             place,
             has_begun: false,
-        })
+        };
+        output.with_open_folder(rt)
+    }
+
+    /// Refuses an output that is to be brought to the disk, and whose folder can't be: that is told
+    /// before anything is written.
+    fn with_open_folder(self, rt: &HostRuntime) -> Result<Output<'a>, Refusal> {
+        match self.folder(rt) {
+            Ok(_) => Ok(self),
+            Err(refusal) => {
+                self.remove(rt);
+                Err(refusal)
+            }
+        }
     }
 
     /// Opens or makes the output of a command that prints an answer. An output that is the file or
@@ -119,7 +132,7 @@ impl<'a> Output<'a> {
 
     /// What the file is.
     pub(crate) fn found(&self, rt: &HostRuntime) -> Result<Found, Refusal> {
-        told(rt, self.look())
+        or_write_fault(rt, self.look())
     }
 
     /// The file, where it stands beside the output, to be read from its start. It loses its name, which
@@ -151,11 +164,10 @@ impl<'a> Output<'a> {
     fn put(&self, rt: &HostRuntime) -> Result<Option<File>, Refusal> {
         self.bring_to_disk(rt)?;
         self.refuse_lost(rt)?;
-        let Place::Beside(replacement) = &self.place else {
-            return self.folder_of(rt, self.target.name());
-        };
-        let folder = self.folder_of(rt, replacement.beside.as_str())?;
-        self.replace(rt, replacement)?;
+        let folder = self.folder(rt)?;
+        if let Place::Beside(replacement) = &self.place {
+            self.replace(rt, replacement)?;
+        }
         Ok(folder)
     }
 
@@ -203,13 +215,23 @@ impl<'a> Output<'a> {
         Ok(())
     }
 
-    /// Opens the folder which has this name, where the file was to be brought to the disk. That is
-    /// done before the file takes its place, since after that nothing may want memory.
-    fn folder_of(&self, rt: &HostRuntime, name: &str) -> Result<Option<File>, Refusal> {
+    /// Opens the folder of the file, where that is to be brought to the disk. That is done before the
+    /// file takes its place, since after that nothing may want memory.
+    fn folder(&self, rt: &HostRuntime) -> Result<Option<File>, Refusal> {
         if !self.target.mode().sync {
             return Ok(None);
         }
-        told(rt, open_folder(rt, name))
+        let folder = match &self.place {
+            Place::Stream => return Ok(None),
+            Place::Beside(replacement) => open_folder(rt, &replacement.beside),
+            Place::New(path) => open_folder(rt, path),
+            Place::Old => open_folder(rt, &self.target.path(rt)?),
+        };
+        match folder {
+            Ok(folder) => Ok(Some(folder)),
+            Err(error) if error.kind() == ErrorKind::OutOfMemory => Err(Refusal::Memory),
+            Err(_) => Err(self.target.refused(rt, NameFault::CannotOpen)),
+        }
     }
 
     /// Removes the file where it stands beside its name, or is new and has no byte, not even another
@@ -279,7 +301,7 @@ impl Write for Output<'_> {
 }
 
 /// What was done to the output, or what the user is told where that failed.
-fn told<T>(rt: &HostRuntime, done: io::Result<T>) -> Result<T, Refusal> {
+fn or_write_fault<T>(rt: &HostRuntime, done: io::Result<T>) -> Result<T, Refusal> {
     match done {
         Ok(done) => Ok(done),
         Err(error) if error.kind() == ErrorKind::OutOfMemory => Err(Refusal::Memory),

@@ -44,6 +44,14 @@ impl Refusal {
         Refusal::by(Answer::of_fault(rt.alloc(), fault))
     }
 
+    /// What the user is told, where there is memory for it.
+    pub fn into_answer(self) -> Result<Answer, AllocError> {
+        match self {
+            Refusal::Told(answer) => Ok(answer),
+            Refusal::Memory => Err(AllocError),
+        }
+    }
+
     fn by(answer: Result<Answer, AllocError>) -> Refusal {
         match answer {
             Ok(answer) => Refusal::Told(answer),
@@ -56,7 +64,7 @@ impl Refusal {
 /// files.
 pub fn told(answer: Result<Answer, Refusal>) -> Result<Answer, AllocError> {
     match answer {
-        Ok(answer) | Err(Refusal::Told(answer)) => Ok(answer),
-        Err(Refusal::Memory) => Err(AllocError),
+        Ok(answer) => Ok(answer),
+        Err(refusal) => refusal.into_answer(),
     }
 }

@@ -21,7 +21,7 @@ impl Stream {
     /// system has no names for open files it can't be told, and is refused.
     pub fn found(self, rt: &HostRuntime) -> Result<Found, Refusal> {
         match Found::at(rt, self.path()) {
-            Ok(Found::Nothing) if !fs::metadata(rt, OPEN_FILES).is_ok() => {}
+            Ok(Found::Nothing) if fs::metadata(rt, OPEN_FILES).is_err() => {}
             Ok(found) => return Ok(found),
             Err(_) => {}
         }

@@ -6,14 +6,14 @@ ghost use Rattle.prolly_line.specs.GivenCommand.{IsWithinLimits};
 ghost use Rattle.prolly.specs.Kinds.{IsApply};
 ghost use Rattle.prolly.specs.Requests.{IsSetBy};
 
-use crate::commands::record_files::{RecordFiles, held_back_by, target_of};
+use crate::commands::record_files::{RecordFiles, held_back_by, looked_at, target_of};
 use crate::commands::version_of;
 use crate::commands::watch::Watch;
 use crate::host::Host;
 use prolly_build::{CHANGES_LIMIT, Config, ConfigFault};
 use prolly_entry::{Ref, Version};
 use prolly_fault::{Answer, Fault};
-use prolly_files::{Chunks, Input, Output, Refusal, Target, buffered};
+use prolly_files::{Chunks, InputName, Output, Refusal, Target, buffered};
 use prolly_io::{Blocks, FromFile, FromRead, Header, ToWrite};
 use prolly_line::Command;
 use prolly_progress::{CountedSink, CountedSource, CountingGate, Counts};
@@ -28,10 +28,10 @@ use std::time::Clock;
 /// How many levels a tree that is made has at most, as by default in a `build`.
 const STAGES: u8 = 12;
 
-/// How many messages wait between two threads, as there.
+/// How many messages wait between two threads, as by default in a `build`.
 const CAPACITY: u32 = 64;
 
-/// How many items a message has at most, as there.
+/// How many items a message has at most, as by default in a `build`.
 const BATCH: u32 = 16;
 
 /// The most records of a file of changes.
@@ -88,10 +88,12 @@ fn apply_to<T: Wait + Threads + Clock + Sync>(
     target: Target<'_>,
 ) -> Result<Answer, Refusal> {
     let rt = host.rt;
-    let old = Input::open_beside(rt, old, target.found())?;
+    let old = InputName::look(rt, old)?;
+    let changes = looked_at(rt, changes)?;
+    let old = old.open_beside(rt, target.found())?;
     let mut old = Blocks::new(rt.alloc(), old.into_device())?;
     let counts = Counts::new();
-    let changes = RecordFiles::open(rt, changes, target.found(), &counts)?;
+    let changes = RecordFiles::open(rt, &changes, target.found(), &counts)?;
     let mut output = Output::open_beside_answer(rt, target)?;
     let watch = Watch {
         counts: &counts,

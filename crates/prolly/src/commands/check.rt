@@ -85,7 +85,7 @@ fn check_files<T: Threads + Sync>(
                 let answer = told(check_input(host, input, root))?;
                 answer.in_file(rt.alloc(), file, quiet)?
             }
-            Err(refusal) => told(Err(refusal))?,
+            Err(refusal) => refusal.into_answer()?,
         };
         if print(rt, &answer).is_err() {
             return Err(Refusal::of_fault(rt, Fault::Write));

@@ -10,8 +10,7 @@ use prolly_check::CheckFault;
 use prolly_entry::Version;
 use prolly_fault::{Answer, Fault};
 use prolly_files::{
-    Chunks, Found, Input, Output, OutputKind, Patient, Refusal, Stream, Target, buffered,
-    refuse_read_twice,
+    Chunks, Found, InputName, Output, OutputKind, Patient, Refusal, Stream, Target, buffered,
 };
 use prolly_io::{FromRead, ToWrite};
 use prolly_line::{Command, RootPair};
@@ -105,9 +104,12 @@ struct TreePair {
 impl TreePair {
     /// Opens the files, where neither is the output.
     fn open(&self, rt: &HostRuntime, output: Found) -> Result<OpenPair, Refusal> {
-        let old = Input::open_beside(rt, &self.old, output)?;
-        let new = Input::open_beside(rt, &self.new, output)?;
-        refuse_read_twice(rt, new.found(), &[old.found()], &self.new)?;
+        let old = InputName::look(rt, &self.old)?;
+        let new = InputName::look(rt, &self.new)?;
+        let earlier = old.found();
+        let old = old.open_beside(rt, output)?;
+        new.refuse_read_twice(rt, &[earlier])?;
+        let new = new.open_beside(rt, output)?;
         match self.roots {
             None => Ok(OpenPair::Whole {
                 old: old.into_whole(rt, Fault::CheckOld(CheckFault::TooLong))?,

@@ -1,11 +1,12 @@
 //! The record files that become a tree.
 use prolly_fault::Fault;
-use prolly_files::{Found, Input, Output, OutputKind, Refusal, Target, refuse_read_twice};
+use prolly_files::{Found, InputName, Output, OutputKind, Refusal, Target};
 use prolly_io::FromRead;
 use prolly_line::WriteMode;
 use prolly_link::RunFault;
 use prolly_progress::{CountedSource, Counts};
 use prolly_runs::HeldBack;
+use std::alloc::AllocError;
 use std::fs::File;
 
 /// Record files that are open, whose bytes are counted as they are read.
@@ -20,7 +21,7 @@ impl<'a> RecordFiles<'a> {
     /// The files of these names, where none is the output and no pipe is named twice.
     pub fn open(
         rt: &HostRuntime,
-        names: &[String],
+        names: &[InputName<'_>],
         output: Found,
         counts: &'a Counts,
     ) -> Result<RecordFiles<'a>, Refusal> {
@@ -28,14 +29,26 @@ impl<'a> RecordFiles<'a> {
         let mut found = Vec::with_capacity(rt.alloc(), names.len())?;
         let mut sources = Vec::with_capacity(rt.alloc(), names.len())?;
         for name in names {
-            let input = Input::open_beside(rt, name, output)?;
-            refuse_read_twice(rt, input.found(), &found, name)?;
-            found.push(input.found())?;
+            name.refuse_read_twice(rt, &found)?;
+            found.push(name.found())?;
+            let input = name.open_beside(rt, output)?;
             size = sum_of(size, input.size());
             sources.push(CountedSource::new(input.into_source(), counts))?;
         }
         Ok(RecordFiles { sources, size })
     }
+}
+
+/// Looks at what these names lead to, before any file is opened.
+pub fn looked_at<'a>(
+    rt: &HostRuntime,
+    names: &'a [String],
+) -> Result<Vec<InputName<'a>>, AllocError> {
+    let mut looked_at = Vec::with_capacity(rt.alloc(), names.len())?;
+    for name in names {
+        looked_at.push(InputName::look(rt, name)?)?;
+    }
+    Ok(looked_at)
 }
 
 /// The sum of two sizes, where both are known.

@@ -8,8 +8,8 @@ use crate::known_root::KnownRoot;
 use prolly_answer::{answer_verify, answer_verify_set};
 use prolly_fault::{Answer, Fault, NameFault};
 use prolly_files::{
-    Found, Input, Patient, Refusal, Stream, refuse_printed_input, refuse_read_twice, stdin_source,
-    stdout_sink,
+    Found, Input, InputName, Patient, Refusal, Stream, refuse_printed_input, refuse_read_twice,
+    stdin_source, stdout_sink,
 };
 use prolly_io::FromRead;
 use prolly_line::{Command, Sought};
@@ -101,8 +101,9 @@ impl Client<'_> {
                 self.print_set(set, Patient::new(rt, rt.stdin()))
             }
             Some(proof) => {
-                let input = Input::open_beside(rt, &proof, printed)?;
-                refuse_read_twice(rt, input.found(), &[listed], &proof)?;
+                let name = InputName::look(rt, &proof)?;
+                name.refuse_read_twice(rt, &[listed])?;
+                let input = name.open_beside(rt, printed)?;
                 self.print_set(set, input.into_file())
             }
         };

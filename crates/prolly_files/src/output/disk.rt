@@ -2,14 +2,14 @@
 use crate::refusal::Refusal;
 use prolly_fault::Fault;
 use std::fs::File;
+use std::path::PathBuf;
 use std::{fs, io};
 
-/// Opens the folder which has this name.
-pub(crate) fn open_folder(rt: &HostRuntime, name: &str) -> io::Result<Option<File>> {
-    let path = fs::canonicalize(rt, name)?;
+/// Opens the folder in which the file of this path stands.
+pub(crate) fn open_folder(rt: &HostRuntime, path: &PathBuf) -> io::Result<File> {
     match path.parent() {
-        Some(folder) => Ok(Some(fs::open(rt, folder)?)),
-        None => Ok(None),
+        Some(folder) if !folder.as_str().is_empty() => fs::open(rt, folder),
+        _ => fs::open(rt, "."),
     }
 }
 

@@ -11,22 +11,42 @@ use std::{fs, io};
 const MOST_LINKS: u32 = 40;
 
 /// The path of the file to which the name leads through symbolic links, also where no file is there
-/// yet. `found` is what the name was found to lead to: where that is a file, and its path can't be
-/// told, it is not replaced.
+/// yet. `found` is what the name was found to lead to: a file that has no path any more, as one that is
+/// open and was removed, is not replaced.
+///
+/// The folder may have no path from the root that can be told, as where its name is no UTF-8, or where
+/// one above it may not be searched. Then it stays as it is named.
 pub(crate) fn path_behind(rt: &HostRuntime, name: &str, found: Found) -> Result<PathBuf, Refusal> {
     match fs::canonicalize(rt, name) {
-        Ok(path) => Ok(path),
-        Err(error) if error.kind() == ErrorKind::OutOfMemory => Err(Refusal::Memory),
-        Err(error) if error.kind() == ErrorKind::NotFound && matches!(found, Found::Nothing) => {
-            missing_path_behind(rt, name)
-        }
-        Err(_) => Err(Refusal::of_name(rt, NameFault::CannotReplace, name)),
+        Ok(path) => return Ok(path),
+        Err(error) if error.kind() == ErrorKind::OutOfMemory => return Err(Refusal::Memory),
+        Err(_) => {}
+    }
+    let path = last_path(rt, name)?;
+    match (found, Found::at(rt, path.as_str())) {
+        (Found::Nothing, _) | (_, Ok(Found::Regular(..))) => Ok(path),
+        (_, Err(error)) if error.kind() == ErrorKind::OutOfMemory => Err(Refusal::Memory),
+        _ => Err(Refusal::of_name(rt, NameFault::CannotReplace, name)),
     }
 }
 
-/// The path of the file that is not there: the name itself, or what the last of its symbolic links
-/// names.
-fn missing_path_behind(rt: &HostRuntime, name: &str) -> Result<PathBuf, Refusal> {
+/// Whether a name that leads to no file stands for a number of an open file, as `/dev/fd/3` does. That
+/// number may soon be the one of a file which the command opens itself.
+pub(crate) fn is_open_number(rt: &HostRuntime, name: &str) -> bool {
+    let Ok(path) = last_path(rt, name) else {
+        return false;
+    };
+    let Some(folder) = path.parent() else {
+        return false;
+    };
+    match fs::canonicalize(rt, folder) {
+        Ok(folder) => folder.as_str().starts_with("/proc/") && folder.as_str().ends_with("/fd"),
+        Err(_) => false,
+    }
+}
+
+/// The name itself, or what the last of its symbolic links names.
+fn last_path(rt: &HostRuntime, name: &str) -> Result<PathBuf, Refusal> {
     let mut path = PathBuf::from_str(rt.alloc(), name)?;
     for _ in 0..MOST_LINKS {
         match named_by(rt, &path) {

@@ -2,7 +2,6 @@
 use crate::found::Found;
 use crate::output::access::Access;
 use crate::output::kind::OutputKind;
-use crate::output::links::path_behind;
 use crate::output::target::Target;
 use crate::refusal::Refusal;
 use prolly_fault::{Fault, NameFault};
@@ -15,6 +14,10 @@ use std::path::PathBuf;
 /// How many names are tried for a file beside the output. One that is taken is that of a run that
 /// goes on, or that was killed.
 const MOST_NAMES: u32 = 1000;
+
+/// How many bytes of the output's name a file beside it has at most. With `.999.tmp` behind them that
+/// is as long a name as file systems take.
+const MOST_OF_NAME: usize = 247;
 
 /// The mode of a file beside an output that is there already, until it takes its place: it is for
 /// its owner alone, since the output may be.
@@ -44,7 +47,7 @@ pub(crate) struct Replaced {
 }
 
 impl Replaced {
-    /// The same once more.
+    /// A copy, which takes memory for the path.
     pub(crate) fn copied(&self, rt: &HostRuntime) -> Result<Replaced, AllocError> {
         Ok(Replaced {
             path: PathBuf::from_str(rt.alloc(), self.path.as_str())?,
@@ -133,11 +136,14 @@ impl Target<'_> {
         }
     }
 
-    /// Makes a new file in the output's place.
+    /// Makes a new file in the output's place, where none has come since.
     fn make(self, rt: &HostRuntime) -> Result<(File, Place), Refusal> {
-        let path = path_behind(rt, self.name(), self.found())?;
+        let path = self.path(rt)?;
         match new_options(NEW_MODE).open(rt, &path) {
             Ok(file) => Ok((self.lock(rt, file)?, Place::New(path))),
+            Err(error) if error.kind() == ErrorKind::AlreadyExists => {
+                Err(self.refused(rt, NameFault::IsBusy))
+            }
             Err(_) => Err(self.refused(rt, NameFault::CannotOpen)),
         }
     }
@@ -161,7 +167,7 @@ impl Target<'_> {
         }
         match old.metadata() {
             Ok(metadata) => {
-                let path = path_behind(rt, self.name(), self.found())?;
+                let path = self.path(rt)?;
                 let access = Some(Access::of(&metadata));
                 self.make_beside(rt, Replaced { path, access }, NameFault::CannotReplace)
             }
@@ -176,12 +182,12 @@ impl Target<'_> {
         rt: &HostRuntime,
         fault: NameFault,
     ) -> Result<(File, Place), Refusal> {
-        let path = path_behind(rt, self.name(), self.found())?;
+        let path = self.path(rt)?;
         self.make_beside(rt, Replaced { path, access: None }, fault)
     }
 
-    /// Makes a file of a new name beside the one that is to be replaced: `.0.tmp` behind its name, or
-    /// the next number that is free. Where it can't be made, it is this fault.
+    /// Makes a file of a new name beside the one that is to be replaced: its name with `.0.tmp`, or the
+    /// next number that is free. Where it can't be made, it is this fault.
     pub(crate) fn make_beside(
         self,
         rt: &HostRuntime,
@@ -194,8 +200,8 @@ impl Target<'_> {
             NEW_MODE
         };
         for number in 0..MOST_NAMES {
-            let name = replaced.path.as_str();
-            let beside = PathBuf::from(format!(in rt.alloc(); "{name}.{number}.tmp")?);
+            let front = front_of(replaced.path.as_str());
+            let beside = PathBuf::from(format!(in rt.alloc(); "{front}.{number}.tmp")?);
             match new_options(mode).open(rt, &beside) {
                 Ok(file) => {
                     let replacement = Replacement { beside, replaced };
@@ -207,6 +213,14 @@ impl Target<'_> {
         }
         Err(self.refused(rt, fault))
     }
+}
+
+/// The path, without the end of a name that is too long for a file beside it.
+fn front_of(path: &str) -> &str {
+    let name = path.rsplit('/').next().unwrap_or(path);
+    let too_long = name.len().saturating_sub(MOST_OF_NAME);
+    let end = path.len().saturating_sub(too_long);
+    &path[..path.floor_char_boundary(end)]
 }
 
 /// What is asked for a new file of this mode. It may be read back.

@@ -2,12 +2,14 @@
 use crate::found::Found;
 use crate::output::access::Access;
 use crate::output::kind::{LookFault, OutputKind};
+use crate::output::links::{is_open_number, path_behind};
 use crate::refusal::Refusal;
 use crate::streams::Stream;
 use prolly_fault::{Fault, NameFault};
 use prolly_line::WriteMode;
 use std::fs;
 use std::io::ErrorKind;
+use std::path::PathBuf;
 
 /// The output that the words name: what is there now, what is to be written, and how.
 #[derive(Clone, Copy)]
@@ -19,8 +21,9 @@ pub struct Target<'a> {
 }
 
 impl<'a> Target<'a> {
-    /// Looks at what the name leads to. Where the system can't tell, the output is refused, since it
-    /// may be a file that is to be read; and so is the empty name, which no file has.
+    /// Looks at what the name leads to, before any file is opened. Where the system can't tell, the
+    /// output is refused, since it may be a file that is to be read; and so are the empty name, which no
+    /// file has, and the number of an open file that nobody has opened.
     pub fn look(
         rt: &HostRuntime,
         name: &'a str,
@@ -28,6 +31,9 @@ impl<'a> Target<'a> {
         mode: WriteMode,
     ) -> Result<Target<'a>, Refusal> {
         match Found::at(rt, name) {
+            Ok(Found::Nothing) if is_open_number(rt, name) => {
+                Err(Refusal::of_name(rt, NameFault::CannotOpen, name))
+            }
             Ok(found) if !name.is_empty() => Ok(Target {
                 name,
                 found,
@@ -46,6 +52,11 @@ impl<'a> Target<'a> {
     /// What the name leads to.
     pub fn found(&self) -> Found {
         self.found
+    }
+
+    /// The path of the file to which the name leads.
+    pub(crate) fn path(&self, rt: &HostRuntime) -> Result<PathBuf, Refusal> {
+        path_behind(rt, self.name, self.found)
     }
 
     /// What kind of file is to be written.
