@@ -20,6 +20,7 @@ import json
 import os
 import re
 import signal
+import stat
 import subprocess
 import sys
 import tempfile
@@ -146,6 +147,7 @@ def number_of(column):
 def load(asked):
     """Packs the rows, sorted by their keys, and builds the tree of them."""
     out = Path(asked.out)
+    refuse_printed(asked.table, asked.table)
     refuse_other(out, asked.table)
     with open(asked.table, "rb") as file, folder_beside(out) as folder:
         files = []
@@ -156,6 +158,16 @@ def load(asked):
             pack(asked, part, files[-1])
         cut = [*given("--bits", asked.bits), *given("--chunk-bytes", asked.chunk_bytes)]
         ends_well(subprocess.run([asked.prolly, "build", "--atomic", *cut, "--", asked.out, *files], check=False).returncode)
+
+
+def refuse_printed(file, name):
+    """Refuses the file to which is printed: what is printed would stand in it, and might be read as a part of it."""
+    try:
+        read, printed = os.stat(file), os.fstat(1)
+    except OSError:
+        return  # Who opens it is told.
+    if stat.S_ISREG(read.st_mode) and os.path.samestat(read, printed):
+        raise OSError(0, "it is also standard output", name)
 
 
 def refuse_other(out, table):
@@ -348,6 +360,7 @@ def line_of(key, others):
 
 def give_back(asked):
     """Writes the table whose rows the lines of standard input are."""
+    refuse_printed(0, "standard input")
     with open(0, "rb", closefd=False) as lines, open(1, "w", encoding="utf-8", newline="", closefd=False) as out:
         if asked.form == "json":
             for key, others in rows_back(asked, lines):

@@ -16,6 +16,9 @@ NEW_MODE = 0o666
 OWN_MODE = 0o600
 """The mode beside a file that is there, until the new one takes its place: that may be for its owner alone."""
 
+NAME_BYTES = 255
+"""How long a name may be in most file systems."""
+
 ACCESS_LIST = "system.posix_acl_access"
 """The attribute of a file in which Linux keeps its access list."""
 
@@ -68,8 +71,7 @@ class Place:
         The new file has the mode, the access list, the owner and the group of the old one, as far as the user may give them.
         """
         old = self.old()
-        # A name that no other call has, of this process or of another one that shares the folder.
-        beside = f"{self.target}.{secrets.token_hex(8)}.tmp"
+        beside = name_beside(self.target)
         mode = NEW_MODE if old is None else OWN_MODE
         number = os.open(beside, os.O_WRONLY | os.O_CREAT | os.O_EXCL | os.O_CLOEXEC, mode)
         # From here on the name is that of this call's own file, which alone it may take away.
@@ -90,6 +92,14 @@ class Place:
         mode = stat.S_IMODE(old.st_mode)
         is_given = has_group(number, old) and has_list(number, self.target)
         os.fchmod(number, mode if is_given else mode & ~stat.S_IRWXG)
+
+
+def name_beside(target):
+    """A name beside a path that no other call has, of this process or of another one that shares the folder. Of a name that
+    is too long for that, the end is left out."""
+    ending = f".{secrets.token_hex(8)}.tmp".encode()
+    folder, name = os.path.split(os.fsencode(target))
+    return os.fsdecode(os.path.join(folder, name[: NAME_BYTES - len(ending)] + ending))
 
 
 def has_group(number, old):

@@ -41,7 +41,7 @@ def all_runs(program, folder):
         yield from tested(case.name, partial(run, LOAD, case))
     for number in range(TABLES):
         yield from tested(f"load.py: random {SEED}, table {number}", partial(there_and_back, program, random.Random(f"{SEED} {number}")))
-    for name, test in (("parts", in_parts), ("ended by a signal", ended), ("more rows than memory", streamed)):
+    for name, test in (("parts", in_parts), ("printed to its table", printed_to), ("ended by a signal", ended), ("more rows than memory", streamed)):
         yield from tested(f"load.py: {name}", partial(test, program))
 
 
@@ -277,6 +277,21 @@ def in_parts(program):
         done = subprocess.run([*words, "--unique", "table", "other.prl"], **how)
         found += differs("--unique", (done.returncode, done.stdout, done.stderr), (3, b"", b"load.py: --unique takes at most 3 rows\n"))
         return found + list(differs("files", sorted(path.name for path in folder.iterdir()), ["out.prl", "table"]))
+
+
+def printed_to(program):
+    """What becomes of a table to which the answer is printed, and of lines to which the table is."""
+    found = []
+    for words, name in ((["table", "out.prl"], "table"), (["--back"], "standard input")):
+        with tempfile.TemporaryDirectory() as folder_name:
+            table = Path(folder_name) / "table"
+            table.write_bytes(b"1,2\n")
+            with open(table, "rb") as lines, open(table, "ab") as out:
+                done = subprocess.run([LOAD, "--prolly", program, "--key", "1", *words], cwd=folder_name, stdin=lines, stdout=out, stderr=subprocess.PIPE, check=False)
+            found += differs(name, (done.returncode, done.stderr), (5, f"load.py: {name}: it is also standard output\n".encode()))
+            found += differs("the table", table.read_bytes(), b"1,2\n")
+            found += differs("files", [path.name for path in table.parent.iterdir()], ["table"])
+    return found
 
 
 def ended(program):

@@ -396,6 +396,12 @@ def kept_links(folder):
         raised(OSError, prolly.build, no_file, [])
     assert stat.S_ISFIFO(pipe.stat().st_mode)
     assert names(folder) == ["chain", "link", "loop", "pipe", "some.prl"]
+    # Nothing fits behind a name as long as this one.
+    long = folder / ("\u00f6" * 127 + "o")
+    for number in range(2):
+        prolly.build(long, [(b"a", b"%d" % number)])
+        assert pairs_at(long) == [(b"a", b"%d" % number)]
+    assert len(names(folder)) == 6
 
 
 def kept_access(folder):
