@@ -27,7 +27,7 @@ impl<'a, T: Threads + Sync> Host<'a, T> {
     }
 }
 
-/// How many threads there are on so many processors: one on one.
+/// How many threads there are on so many processors. On one processor there is one.
 fn threads_on(processors: NonZeroUsize) -> NonZeroUsize {
     if processors == NonZeroUsize::MIN {
         return processors;

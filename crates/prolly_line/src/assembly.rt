@@ -73,8 +73,8 @@ pub(crate) fn with_three<'a>(
     with_subcommand(line, third)
 }
 
-// A part joined to a whole, where there was memory for both. What a failure drops is one step of
-// the proof here, while in a function of commands each of their fields is a few.
+/// A part joined to a whole, where there was memory for both. What a failure drops is one step of
+/// the proof here, while in a function of commands each of their fields is a few.
 fn joined<W: Drop, P: Drop, F: FnOnce(W, P) -> Result<W, AllocError>>(
     whole: Result<W, AllocError>,
     part: Result<P, AllocError>,

@@ -292,7 +292,7 @@ pub(crate) fn refusal(alloc: Global, error: &clap::Error) -> ParseFault
     }
 }
 
-// The subcommand that was met, with its matches.
+/// The subcommand that was met, with its matches.
 fn subcommand_of<'b, 'a>(matches: &'b ArgMatches<'a>) -> Option<(&'a str, &'b ArgMatches<'a>)>
     ensures { option_map (λ p. (p.0.now, rows_in p.1.now)) result
         ≡ subcommand_rows_of matches.now }
@@ -300,7 +300,7 @@ fn subcommand_of<'b, 'a>(matches: &'b ArgMatches<'a>) -> Option<(&'a str, &'b Ar
     matches.subcommand()
 }
 
-// The command of a subcommand that clap has accepted.
+/// The command of a subcommand that clap has accepted.
 fn command_of(alloc: Global, name: &str, given: &ArgMatches<'_>) -> Result<Command, ParseFault>
     requires { IsAccepted (name.now, rows_in given.now) }
     ensures { Answers (name.now, rows_in given.now) result }

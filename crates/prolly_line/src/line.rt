@@ -11,7 +11,7 @@ use crate::commands::{
 use crate::help;
 use std::alloc::Global;
 
-// What stands above the subcommands.
+/// What stands above the subcommands.
 fn bare_line<'a>(alloc: Global) -> Line<'a>
     ensures { IfOk result (λ c. app_of c ≡ bare_line) }
 {

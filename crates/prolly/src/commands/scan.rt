@@ -11,8 +11,8 @@ use prolly_files::{Found, Refusal, Stream, stdout_sink};
 use prolly_line::Command;
 use std::thread::Threads;
 
-/// `scan [--text] [--root ROOT] [--format V] FILE KEY LIMIT`. With a root it prints as it goes, so the
-/// file may not be the one to which is printed.
+/// `scan [--text] [--root ROOT] [--format V] FILE KEY LIMIT`. With a root it prints as it goes, so it is
+/// refused where the system can't tell what standard output is.
 pub fn answer<T: Threads + Sync>(host: &Host<'_, T>, command: Command) -> Result<Answer, Refusal>
     requires limits { IsWithinLimits command }
     requires scan { IsScan command }

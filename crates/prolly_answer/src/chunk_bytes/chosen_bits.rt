@@ -3,15 +3,13 @@ ghost use Rattle.std.specs.Prelude.{◌≡◌, ◌↔◌, ◌≤◌, true, IfOk}
 ghost use Rattle.prolly_answer.specs.ChunkBytes.{AreLeast, IsEnough, chosen_note, default_note};
 ghost use Rattle.prolly_answer.specs.ChunkBytes.{note_line};
 
+use prolly_entry::BITS_LIMIT;
 use prolly_fault::append_number;
 use std::alloc::{AllocError, Global};
 
 /// The least bits that are chosen. By fewer a node has two or three children on average, and the
 /// levels of a build hold few pairs.
 const LEAST_BITS: u8 = 2;
-
-/// The most bits of a cut.
-const MOST_BITS: u8 = 24;
 
 /// The bits that were chosen for a tree, and by what.
 #[derive(Clone, Copy, Debug, PartialEq, Eq)]
@@ -29,13 +27,13 @@ pub(crate) fn least_bits(entry: u64, wanted: u32) -> u8
     ensures { AreLeast entry wanted result }
 {
     let mut size = entry << LEAST_BITS;
-    for bits in LEAST_BITS..MOST_BITS {
+    for bits in LEAST_BITS..BITS_LIMIT {
         if is_enough(size, wanted) {
             return bits;
         }
         size *= 2;
     }
-    MOST_BITS
+    BITS_LIMIT
 }
 
 /// Whether `wanted` is at most 1.4 times the size.

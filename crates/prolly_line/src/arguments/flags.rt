@@ -8,7 +8,7 @@ ghost use Rattle.prolly_line.specs.LocalArgs.{IsReadBy};
 use clap::{Arg, ArgAction};
 use std::alloc::Global;
 
-// `--NAME`
+/// `--NAME`
 fn flag<'a>(alloc: Global, name: &'a str) -> Arg<'a>
     ensures { IsReadBy (flag name.now) result }
 {

@@ -11,14 +11,14 @@ use clap::Arg;
 use clap::builder::ValueParser;
 use std::alloc::Global;
 
-// `--NAME VALUE_NAME`
+/// `--NAME VALUE_NAME`
 fn text_option<'a>(alloc: Global, name: &'a str, value_name: &'a str) -> Arg<'a>
     ensures { IsReadBy (option_rule name.now) result }
 {
     Arg::new(alloc, name).long(name).value_name(value_name)
 }
 
-// Such an option, for a number from `least` to `most`.
+/// Such an option, for a number from `least` to `most`.
 fn number_option<'a>(
     alloc: Global,
     name: &'a str,
@@ -34,7 +34,7 @@ fn number_option<'a>(
         .default_value(default)
 }
 
-// Such an option without a default.
+/// Such an option without a default.
 fn optional_number_option<'a>(
     alloc: Global,
     name: &'a str,

@@ -9,14 +9,14 @@ use clap::Arg;
 use clap::builder::ValueParser;
 use std::alloc::Global;
 
-// A word that has to be there.
+/// A word that has to be there.
 fn required_word<'a>(alloc: Global, name: &'a str, value_name: &'a str) -> Arg<'a>
     ensures { IsReadBy (word_rule name.now) result }
 {
     Arg::new(alloc, name).required(true).value_name(value_name)
 }
 
-// Such a word, for a number from `least` to `most`.
+/// Such a word, for a number from `least` to `most`.
 fn number_word<'a>(
     alloc: Global,
     name: &'a str,
@@ -137,7 +137,7 @@ pub(crate) fn n_word<'a>(alloc: Global) -> Arg<'a>
     )
 }
 
-// Any number of words.
+/// Any number of words.
 fn any_words<'a>(alloc: Global, name: &'a str, value_name: &'a str) -> Arg<'a>
     ensures { IsReadBy (words_rule name.now) result }
 {

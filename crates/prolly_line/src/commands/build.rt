@@ -97,7 +97,7 @@ pub(crate) fn build(alloc: Global, given: &ArgMatches<'_>) -> Result<Command, Pa
     }
 }
 
-// The same, where the words fit.
+/// The same, where the words fit.
 fn fitting_build(alloc: Global, given: &ArgMatches<'_>) -> Result<Command, ParseFault>
     requires accepted { IsAccepted (codes "build", rows_in given.now) }
     requires fit { DoesCutFit (rows_in given.now) }

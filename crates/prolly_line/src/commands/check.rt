@@ -60,7 +60,7 @@ pub(crate) fn check(alloc: Global, given: &ArgMatches<'_>) -> Result<Command, Pa
     }
 }
 
-// The same of one file.
+/// The same of one file.
 fn check_one(alloc: Global, given: &ArgMatches<'_>) -> Result<Command, ParseFault>
     requires accepted { IsAccepted (codes "check", rows_in given.now) }
     requires loud { GivesFlag (rows_in given.now) (codes "quiet") false }
@@ -77,7 +77,7 @@ fn check_one(alloc: Global, given: &ArgMatches<'_>) -> Result<Command, ParseFaul
     })
 }
 
-// The same of several files, or of which no more is told than what is at fault.
+/// The same of several files, or of which no more is told than what is at fault.
 fn check_files(alloc: Global, given: &ArgMatches<'_>) -> Result<Command, ParseFault>
     requires accepted { IsAccepted (codes "check", rows_in given.now) }
     requires several { GivesFlag (rows_in given.now) (codes "quiet") false

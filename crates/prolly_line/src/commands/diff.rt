@@ -74,8 +74,8 @@ pub(crate) fn diff_line<'a>(alloc: Global) -> Line<'a>
     with_argument(with_argument(line, old), new)
 }
 
-// Adds the options that name the roots of two trees that are trusted, and the version of their
-// chunks.
+/// Adds the options that name the roots of two trees that are trusted, and the version of their
+/// chunks.
 fn with_roots<'a>(alloc: Global, line: Line<'a>) -> Line<'a>
     ensures { (app : App) → IfOk line.entry (HasCommandLine app)
         → IfOk result (HasCommandLine (with_roots app)) }

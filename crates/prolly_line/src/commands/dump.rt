@@ -39,10 +39,10 @@ An OUT that is a file of another kind is refused, unless --force is given.",
   prolly build tuesday.prl monday.rec tuesday.rec",
 };
 
-// What OUT says of a dump.
+/// What OUT says of a dump.
 const DUMPED_FILE: &str = "The file to make; without it, it is written to standard output";
 
-// What `--text` says of a dump.
+/// What `--text` says of a dump.
 const DUMPED_TEXT: &str = "Write lines KEY, tab, VALUE of text in place of a record file";
 
 /// `dump [--text] [--hex] [--root ROOT] [--format V] [--atomic] [--sync] [--force] FILE [OUT]`

@@ -77,7 +77,7 @@ pub(crate) fn explain(alloc: Global, given: &ArgMatches<'_>) -> Result<Command, 
     }
 }
 
-// The same of lines, where the words fit.
+/// The same of lines, where the words fit.
 fn explain_lines(given: &ArgMatches<'_>) -> Command
     requires fit { DoLinesFit (rows_in given.now) }
     requires lines { GivesFlag (rows_in given.now) (codes "lines") true }
@@ -90,7 +90,7 @@ fn explain_lines(given: &ArgMatches<'_>) -> Command
     }
 }
 
-// The same of a file.
+/// The same of a file.
 fn explain_file(alloc: Global, given: &ArgMatches<'_>) -> Result<Command, ParseFault>
     requires fit { DoLinesFit (rows_in given.now) }
     requires none { GivesFlag (rows_in given.now) (codes "lines") false }

@@ -51,11 +51,11 @@ there is at each key of a file
 const USAGE: &str = "prolly get [OPTIONS] <FILE> <KEY>
        prolly get [OPTIONS] --keys <KEYS> <FILE>";
 
-// What `[KEY]` says where many keys may stand in its place.
+/// What `[KEY]` says where many keys may stand in its place.
 const KEY_OR_KEYS: &str = "The key in hexadecimal, two digits a byte, or with --text as text; at \
      most 1,024 bytes. With --keys it is left out";
 
-// What `--text` says where keys are taken and their values are printed.
+/// What `--text` says where keys are taken and their values are printed.
 const KEYS_AND_VALUES: &str = "Take keys and print values as text in place of hexadecimal";
 
 /// `get [--text] [--raw] [--root ROOT] [--format V] [--keys KEYS] FILE [KEY]`
@@ -82,7 +82,7 @@ pub(crate) fn get(alloc: Global, given: &ArgMatches<'_>) -> Result<Command, Pars
     }
 }
 
-// The same of many keys, where the words fit.
+/// The same of many keys, where the words fit.
 fn get_keys(alloc: Global, given: &ArgMatches<'_>) -> Result<Command, ParseFault>
     requires accepted { IsAccepted (codes "get", rows_in given.now) }
     requires fit { DoesKeyFit (rows_in given.now) }
@@ -102,7 +102,7 @@ fn get_keys(alloc: Global, given: &ArgMatches<'_>) -> Result<Command, ParseFault
     })
 }
 
-// The same of one key.
+/// The same of one key.
 fn get_one(alloc: Global, given: &ArgMatches<'_>) -> Result<Command, ParseFault>
     requires accepted { IsAccepted (codes "get", rows_in given.now) }
     requires fit { DoesKeyFit (rows_in given.now) }

@@ -71,7 +71,7 @@ pub(crate) fn pack_line<'a>(alloc: Global) -> Line<'a>
     with_argument(line, arguments::out_word(alloc, "The record file to make"))
 }
 
-// Adds the options that let lines come in any order.
+/// Adds the options that let lines come in any order.
 fn with_sort<'a>(alloc: Global, line: Line<'a>) -> Line<'a>
     ensures { (app : App) → IfOk line.entry (HasCommandLine app)
         → IfOk result (HasCommandLine (with_sort app)) }
@@ -93,7 +93,7 @@ pub(crate) fn pack(alloc: Global, given: &ArgMatches<'_>) -> Result<Command, Par
     }
 }
 
-// The same of lines in any order, where the words fit.
+/// The same of lines in any order, where the words fit.
 fn pack_sorted(alloc: Global, given: &ArgMatches<'_>) -> Result<Command, ParseFault>
     requires accepted { IsAccepted (codes "pack", rows_in given.now) }
     requires sort { GivesFlag (rows_in given.now) (codes "sort") true }
@@ -115,7 +115,7 @@ fn pack_sorted(alloc: Global, given: &ArgMatches<'_>) -> Result<Command, ParseFa
     })
 }
 
-// The same of lines that come in their order.
+/// The same of lines that come in their order.
 fn pack_as_they_come(alloc: Global, given: &ArgMatches<'_>) -> Result<Command, ParseFault>
     requires accepted { IsAccepted (codes "pack", rows_in given.now) }
     requires fit { DoesSortFit (rows_in given.now) }

@@ -90,7 +90,7 @@ pub(crate) fn prove(alloc: Global, given: &ArgMatches<'_>) -> Result<Command, Pa
     }
 }
 
-// The same, where the words fit.
+/// The same, where the words fit.
 fn fitting_prove(alloc: Global, given: &ArgMatches<'_>) -> Result<Command, ParseFault>
     requires accepted { IsAccepted (codes "prove", rows_in given.now) }
     requires fit { DoFit (codes "out") true (rows_in given.now) }

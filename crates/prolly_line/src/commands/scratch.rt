@@ -62,7 +62,7 @@ pub(crate) fn scratch(alloc: Global, given: &ArgMatches<'_>) -> Result<Command, 
     }
 }
 
-// The same, where the words fit.
+/// The same, where the words fit.
 fn fitting_scratch(alloc: Global, given: &ArgMatches<'_>) -> Result<Command, ParseFault>
     requires accepted { IsAccepted (codes "scratch", rows_in given.now) }
     requires fit { DoesCutFit (rows_in given.now) }

@@ -34,7 +34,7 @@ there, and --text is ignored.",
   prolly stat days.prl",
 };
 
-// What `--text` says where keys are printed.
+/// What `--text` says where keys are printed.
 const SHOWN_KEYS: &str = "Print keys as text in place of hexadecimal";
 
 /// `stat [--text] [--json] FILE`

@@ -97,7 +97,7 @@ pub(crate) fn verify(alloc: Global, given: &ArgMatches<'_>) -> Result<Command, P
     }
 }
 
-// The same, where the words fit.
+/// The same, where the words fit.
 fn fitting_verify(alloc: Global, given: &ArgMatches<'_>) -> Result<Command, ParseFault>
     requires accepted { IsAccepted (codes "verify", rows_in given.now) }
     requires fit { DoFit (codes "proof") false (rows_in given.now) }

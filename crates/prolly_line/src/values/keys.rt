@@ -91,7 +91,7 @@ pub(crate) fn place_of_last<'a>(sought: &Sought, last: &'a str) -> &'a str
     }
 }
 
-// The key that a text writes in a notation.
+/// The key that a text writes in a notation.
 fn decoded(alloc: Global, notation: Notation, text: &str) -> Result<Vec<u8>, ParseFault>
     ensures key { IfOk result (λ key. IsKeyText notation text.now key.items) }
     ensures refused { IfErr result (λ fault. (fault ≡ Memory)
@@ -105,7 +105,7 @@ fn decoded(alloc: Global, notation: Notation, text: &str) -> Result<Vec<u8>, Par
     }
 }
 
-// How a bad word for a key is told.
+/// How a bad word for a key is told.
 fn bad_key(notation: Notation) -> ParseFault
     ensures { result ≡ bad_key notation }
 {

@@ -29,7 +29,7 @@ pub(crate) fn bits_of(given: &ArgMatches<'_>) -> u8
     optional_byte_of(given, "bits").unwrap_or(12)
 }
 
-// A number of 32 bits that may be missing.
+/// A number of 32 bits that may be missing.
 fn optional_number_of(given: &ArgMatches<'_>, name: &str) -> Option<u32>
     ensures { MayReadNumber 4294967295 name.now (rows_in given.now) result }
 {

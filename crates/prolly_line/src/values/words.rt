@@ -70,7 +70,7 @@ pub(crate) fn texts_of(
     }
 }
 
-// Copies of words.
+/// Copies of words.
 fn copies_of(alloc: Global, words: &[&str]) -> Result<Vec<String>, AllocError>
     ensures { IfOk result (λ copies.
         map string_bytes copies.items ≡ map (λ word. word.now) words.now) }
