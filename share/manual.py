@@ -10,10 +10,10 @@ STATUSES = {
     0: "The command is done.",
     1: "A look-up found nothing, `diff` found a change, or `explain` a flaw.",
     2: "The words are not understood.",
-    3: "A record file or a line is at fault, or there are too many files. Of `apply` also: OLD has other --bits or another "
+    3: "A record file, a line or a list of keys is at fault, or there are too many files. Of `apply` also: OLD has other --bits or another "
     "--format than were given, or the header of OLD has other bits than the tree of ROOT.",
     4: "A chunk file or a proof is refused.",
-    5: "A file cannot be opened, read, written or replaced, or an input is too long.",
+    5: "A file cannot be opened, read, written, replaced or written over, or an input that is no chunk file is too long.",
     6: "Memory or a thread was refused, or a thread was lost.",
     7: "The tree has more levels than it may have.",
 }
