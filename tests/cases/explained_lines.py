@@ -145,6 +145,8 @@ TEXTS = {
     "long values": b"k\t" + b"v" * 65536 + b"\nk\t" + b"v" * 65537 + b"\n61 " + b"31" * 65537 + b"\n",
     "the longest lines": b"\\x61" * 1024 + b"\t" + b"\\x62" * 65536 + b"\nz\t1\n",
     "lines that are too long": b"a\t" + b"v" * LINE_LIMIT + b"\nb\t1\nc\n" + b"w" * (LINE_LIMIT + 1),
+    "a line that is too long, with more that is wrong": MARK + b"\r\\q" + b"v" * LINE_LIMIT + b"\n\r",
+    "a mark, and a carriage return": MARK + b"a\r\t\r\nb\r\t\r\n",
     "a hundred faulty lines": b"\n" * 100,
     "more than a hundred": b"61 31\n" + b"\n" * 150,
     "99 faulty lines": b"\n" * 99,
