@@ -1,7 +1,7 @@
 -- Going down from the root, from each chunk to the one that it refers to.
 use Rattle.std.proofs.Common.{◌≡◌, ℕ, List, [], ◌∷◌, ◌++◌, Option, Some, None, IfSome, ◌<◌, ◌-◌}
 use Rattle.std.proofs.Common.{length, get_or, arith, rules, refl, sym, ap, ◌∙◌, subst, Result, Ok}
-use Rattle.std.proofs.Common.{Err, Ordering, cond, false, not, take}
+use Rattle.std.proofs.Common.{Err, Ordering, cond, false, inl, not, take}
 use Rattle.std.specs.List.{AllByRecursion}
 use Rattle.std.specs.Option.{option_to_list}
 use Rattle.std.proofs.lemmas.List.{get_or_push, length-append, length-map, map-append}
@@ -30,8 +30,11 @@ use Rattle.prolly_root.specs.ProofFault.{last_level}
 use Rattle.prolly_root.specs.declared.look_up.chunk_on_way.ChunkOnWay.{ChunkOnWay}
 use Rattle.prolly_root.specs.declared.root_fault.RootFault.{RootFault}
 use Rattle.prolly_root.specs.declared.root_fault.RootFault.TheVariants.{Memory}
-use Rattle.prolly_root.specs.ChunkSource.{HasAsked}
-use Rattle.prolly_root.specs.Reader.{IsEmptied, IsReaderOf, LooksUp, ReaderView, way_of}
+use Rattle.prolly_root.specs.ChunkFile.{ChunkFile}
+use Rattle.prolly_root.specs.ChunkSource.{GoesOverStill, HasAsked}
+use Rattle.prolly_root.specs.LookUpFault.{MayTell}
+use Rattle.prolly_root.specs.Reader.{IsEmptied, IsReaderIn, IsReaderOf, LooksUp, LooksUpIn}
+use Rattle.prolly_root.specs.Reader.{ReaderView, way_of}
 use Rattle.prolly_root.specs.RootFault.{MayFail, TellsReads}
 
 -- ---- the levels
@@ -240,3 +243,51 @@ find_from key (p ∷ ps) r = by_order (find_from key ps r.1) (key_order p.key ke
     by_order rest Equal e = simp e
     by_order rest Greater e = simp e (sym (find_above ps key
         (above_more key p.key ps (greater_below p.key key e) r.0)))
+
+-- ---- what it leaves of it in a chunk file of any bytes
+
+-- where it keeps nothing, it is still one of the same file
+keeps_none_in : {T : Type 0} {stands : ChunkFile → T → ℕ → ℕ → Type 0} {file : ChunkFile}
+    {old new : ReaderView T} → IsEmptied old new → IsReaderIn stands file old →
+    IsReaderIn stands file new
+keeps_none_in left is = record { top = rw left.top is.top; levels = rw left.levels tt }
+
+module _ {S T : Type 0} {goes_over : S → ChunkFile → Type 0}
+    {stands : ChunkFile → T → ℕ → ℕ → Type 0} {before after : S} {sought : Sought}
+    {old : ReaderView T} where
+  -- a fault leaves it so
+  pub look_up_in_fails : {R : Type 0} {new : ReaderView T} (fault : RootFault)
+      (result : Result R RootFault) → IsErr result × IsErrAnd result (λ told. told ≡ fault) →
+      IsEmptied old new → ((file : ChunkFile) → goes_over before file →
+      IsReaderIn stands file old → MayTell old.version file old.root sought fault) →
+      GoesOverStill goes_over before after →
+      LooksUpIn goes_over stands before after sought old new result
+  look_up_in_fails fault result handed left may goes =
+      rw (handed_on fault result handed) (record {
+        kept = λ file over is. keeps_none_in left is;
+        tells = may;
+        goes = goes;
+      })
+
+  -- also one that `?` hands on
+  pub looks_up_in_so : {A R : Type 0} {new : ReaderView T} (fault : RootFault)
+      (result : Result R RootFault) → IsErr result × IsErrAnd result (λ told. told ≡ fault) →
+      LooksUpIn {R = A} goes_over stands before after sought old new (Err fault) →
+      LooksUpIn goes_over stands before after sought old new result
+  looks_up_in_so fault result handed looked =
+      rw (handed_on fault result handed)
+      (record { kept = looked.kept; tells = looked.tells; goes = looked.goes })
+
+  -- what was found is handed on, or there was no memory for it
+  pub hands_on_in : {A V E : Type 0} {mid new : ReaderView T} {there : A} (found : Result V E)
+      (result : Result V RootFault) → IfOk found (λ value. (result ≡ Ok value) × (new ≡ mid)) →
+      OnErr found ((result ≡ Err Memory) × IsEmptied mid new) →
+      LooksUpIn goes_over stands before after sought old mid (Ok there) →
+      LooksUpIn goes_over stands before after sought old new result
+  hands_on_in (Ok value) result ok err looked = rw (ok.0, ok.1)
+      (record { kept = looked.kept; tells = λ file over is. tt; goes = looked.goes })
+  hands_on_in {new = new} (Err refused) result ok err looked = rw err.0 (record {
+    kept = λ file over is. keeps_none_in err.1 (looked.kept file over is);
+    tells = λ file over is. inl (inl refl);
+    goes = looked.goes;
+  })

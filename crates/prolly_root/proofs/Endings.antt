@@ -1,57 +1,64 @@
 -- The last bytes of a chunk file.
-use Rattle.std.proofs.Common.{◌≡◌, ◌∙◌, ℕ, ◌-◌, ◌<◌, ◌≤◌, List, [], ◌++◌, length, take, drop}
-use Rattle.std.proofs.Common.{Result, Ok, Err, refl, sym, ap, subst, arith}
+use Rattle.std.proofs.Common.{◌≡◌, ◌∙◌, ℕ, ◌+◌, ◌-◌, ◌<◌, ◌≤◌, List, ◌++◌, length, take, drop}
+use Rattle.std.proofs.Common.{Result, Ok, Err, refl, sym, ap, subst, arith, append_assoc}
 use Rattle.std.specs.Int.{w64, to_be_bytes}
 use Rattle.std.specs.List.{flat_map}
 use Rattle.std.specs.Prelude.{IfSome, Option, Some, None, ok_or}
 use Rattle.std.proofs.Math.Seq.{drop-append_seam, take-append_seam, take-length}
-use Rattle.std.proofs.lemmas.List.{drop_all, length-drop}
-use Rattle.prolly_look_up.specs.Content.{chunks_of, Content, IsFileOf}
+use Rattle.std.proofs.lemmas.List.{length-append, length-drop}
+use Rattle.prolly_look_up.specs.Content.{Content, IsFileOf}
 use Rattle.prolly_root.specs.declared.file.named_root_fault.NamedRootFault.{NamedRootFault}
 use Rattle.prolly_root.specs.declared.file.named_root_fault.NamedRootFault.TheVariants as faults
 use Rattle.prolly_entry.specs.Cut.{sha512_cut}
 use Rattle.prolly_entry.specs.declared.reference.Ref.{Ref}
 use Rattle.prolly_io.specs.EndRecord.{IsNoEnd, NamesRoot}
-use Rattle.prolly_io.specs.Frame.{framed}
 use Rattle.prolly_tree.specs.Chunk.{chunks}
-use Rattle.prolly_tree.specs.File.{root_reference}
+use Rattle.prolly_tree.specs.File.{end_record, frame, header, root_reference}
 use Rattle.prolly_root.specs.NamedRoot.{NamesRootOf, TellsRoot, last_bytes}
-use Rattle.prolly_root.proofs.Walking.{apart, behind, ending, front, front_length, how_long}
 use Rattle.prolly_root.proofs.Walking.{root_length}
 
 module _ {bytes : List ℕ} {content : Content} (f : IsFileOf bytes content) where
   abbrev root : List ℕ
   root = root_reference (sha512_cut content.bits) content.version content.pairs
 
-  abbrev last : ℕ
-  last = length (chunks_of content)
-
-  none_left : drop last (chunks_of content) ≡ []
-  none_left = drop_all last (chunks_of content) (omega arith)
-
-  -- behind the frames stands the end record
-  is_ending : behind f last ≡ ending f last
-  is_ending = ap (λ cs. flat_map framed cs ++ ending f last) none_left
-
   abbrev count : List ℕ
   count = to_be_bytes w64 (length (chunks (sha512_cut content.bits) content.version content.pairs))
 
+  abbrev ending : List ℕ
+  ending = end_record root (length (chunks (sha512_cut content.bits) content.version content.pairs))
+
+  abbrev before : List ℕ
+  before = header content.version content.bits ++
+      flat_map frame (chunks (sha512_cut content.bits) content.version content.pairs)
+
+  apart : bytes ≡ before ++ ending
+  apart = f.is ∙ simp append_assoc
+
+  how_long : length bytes ≡ length before + 29
+  how_long = omega (
+    arith,
+    ap length apart,
+    length-append before ending,
+    length-append root count,
+    root_length content,
+  )
+
   -- there is room for a header and an end record
   pub has_room : length bytes < 35 → ⊥
-  has_room short = omega (arith, short, how_long f 0)
+  has_room short = omega (
+    arith,
+    short,
+    how_long,
+    length-append (header content.version content.bits)
+        (flat_map frame (chunks (sha512_cut content.bits) content.version content.pairs)),
+  )
 
-  last_is : last_bytes bytes ≡ ending f last
-  last_is = ap (λ n. drop n bytes) before ∙
-      ap (drop (length (front f last))) (apart f last) ∙
-      drop-append_seam (front f last) (behind f last) ∙ is_ending
+  last_is : last_bytes bytes ≡ ending
+  last_is = ap (λ n. drop n bytes) start ∙ ap (drop (length before)) apart ∙
+      drop-append_seam before ending
     where
-      before : length bytes - 29 ≡ length (front f last)
-      before = omega (
-        arith,
-        how_long f last,
-        front_length f last,
-        ap (λ cs. length (flat_map framed cs)) none_left,
-      )
+      start : length bytes - 29 ≡ length before
+      start = omega (arith, how_long)
 
   -- they are an end record with the root
   names : NamesRoot root (last_bytes bytes)

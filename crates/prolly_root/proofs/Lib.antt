@@ -14,3 +14,7 @@ pub mod LawfulSteps
 pub mod Subtrees
 -- Counting the chunks of each level on the way to the root.
 pub mod Marking
+-- What a source over the frames of a file keeps between two calls.
+pub mod Sources
+-- Going down in a chunk file of any bytes, from where a look-up stands to where it stands next.
+pub mod FaultSteps

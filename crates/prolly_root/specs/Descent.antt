@@ -12,6 +12,8 @@ use Rattle.prolly_look_up.specs.declared.step.Due.{Due}
 use Rattle.prolly_entry.specs.Reference.{reference_of}
 use Rattle.prolly_entry.specs.declared.version.Version.{Version}
 use Rattle.prolly_tree.specs.Tree.{Tree, bytes_of}
+use Rattle.prolly_root.specs.ChunkFile.{ChunkFile, nth_in}
+use Rattle.prolly_root.specs.LookUpFault.{Standing, StepsTo}
 use Rattle.prolly_root.specs.declared.look_up.chunk_on_way.ChunkOnWay.{ChunkOnWay}
 use Rattle.prolly_root.specs.declared.look_up.chunk_on_way.Onward.{Onward}
 use Rattle.prolly_root.specs.declared.look_up.chunk_on_way.Onward.TheVariants.{End, Below}
@@ -86,3 +88,34 @@ abbrev pub StepsDown : {T : Type 0} →
 StepsDown is_place content End = Unit {0}
 StepsDown is_place content (Below due place) =
     StandsBelow is_place content due.reference.0 due.above place
+
+-- ---- in a chunk file of any bytes
+
+-- The chunk stands in its place in the file.
+pub record IsKeptOf {T : Type 0} (stands : ChunkFile → T → ℕ → ℕ → Type 0) (file : ChunkFile)
+    (chunk : ChunkOnWay T) : Type 0 where
+  pub number : ℕ
+  pub from : ℕ
+  pub stands_there : stands file chunk.place number from
+  pub is : chunk.chunk.items ≡ nth_in file number
+
+-- It is the chunk at which the look-up stands.
+pub record IsAt {T : Type 0} (stands : ChunkFile → T → ℕ → ℕ → Type 0) (file : ChunkFile)
+    (at : Standing) (chunk : ChunkOnWay T) : Type 0 where
+  pub stands_there : stands file chunk.place at.number at.from
+  pub is : chunk.chunk.items ≡ nth_in file at.number
+
+-- The look-up stands there in the file, and the chunk that is due is to be in this place.
+pub record IsDueAt {T : Type 0} (stands : ChunkFile → T → ℕ → ℕ → Type 0) (file : ChunkFile)
+    (due : Due) (place : T) (at : Standing) : Type 0 where
+  pub reference : at.reference ≡ due.reference.0
+  pub above : at.above ≡ due.above
+  pub sought : at.sought ≡ sought_of due.sought
+  pub stands_there : stands file place at.number at.from
+
+-- The look-up ends there, or goes one step down.
+abbrev pub GoesOnAt : {T : Type 0} → (ChunkFile → T → ℕ → ℕ → Type 0) → Version → ChunkFile →
+    Standing → Onward T → Type 0
+GoesOnAt stands version file at End = Unit {0}
+GoesOnAt stands version file at (Below due place) =
+    (next : Standing) × StepsTo version file at next × IsDueAt stands file due place next

@@ -6,6 +6,8 @@ pub mod ProofFault
 pub mod RootFault
 -- What gives the chunks of a tree.
 pub mod ChunkSource
+-- A chunk file of any bytes, and what is wrong with it before a chunk is read.
+pub mod ChunkFile
 -- Going over the frames of a chunk file on a device.
 pub mod Walk
 -- Places that are remembered while the root is sought.
@@ -14,6 +16,8 @@ pub mod Marks
 pub mod Descent
 -- Trees in a chunk file on a device.
 pub mod Subtree
+-- Why a look-up in a chunk file of any bytes finds no answer.
+pub mod LookUpFault
 -- Leaves of a chunk file that are read before they are asked for.
 pub mod ReadAhead
 -- The root that a chunk file names.

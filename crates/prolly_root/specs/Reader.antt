@@ -1,12 +1,16 @@
 -- A reader that looks up by the root again and again.
-use Rattle.std.specs.Prelude.{◌≡◌, ℕ, List, [], take, IfErr, OnErr, Result}
+use Rattle.std.specs.Prelude.{◌≡◌, ℕ, ◌-◌, List, [], length, take, IfErr, OnErr, Result}
 use Rattle.std.specs.List.{AllByRecursion}
 use Rattle.prolly_look_up.specs.Content.{Content}
 use Rattle.prolly_look_up.specs.ScanWay.{IsScanWay}
+use Rattle.prolly_look_up.specs.Sought.{Sought}
 use Rattle.prolly_entry.specs.Pair.{Pair}
 use Rattle.prolly_entry.specs.declared.version.Version.{Version}
 use Rattle.prolly_tree.specs.Tree.{Tree}
-use Rattle.prolly_root.specs.Descent.{StandsAt, StandsInPlace, chunks_on_way}
+use Rattle.prolly_root.specs.ChunkFile.{ChunkFile}
+use Rattle.prolly_root.specs.ChunkSource.{GoesOverStill}
+use Rattle.prolly_root.specs.Descent.{IsKeptOf, StandsAt, StandsInPlace, chunks_on_way}
+use Rattle.prolly_root.specs.LookUpFault.{MayTell}
 use Rattle.prolly_root.specs.RootFault.{MayFail, TellsReads}
 use Rattle.prolly_root.specs.declared.look_up.chunk_on_way.ChunkOnWay.{ChunkOnWay}
 use Rattle.prolly_root.specs.declared.root_fault.RootFault.{RootFault}
@@ -52,6 +56,23 @@ pub record LooksUp {S T R : Type 0} (has : S → Content → Type 0) (failures :
       IfErr result MayFail
   pub keeps : (content : Content) → has before content → has after content
   pub reads : TellsReads (failures before) (failures after) result
+
+-- What the reader keeps stands in this file.
+pub record IsReaderIn {T : Type 0} (stands : ChunkFile → T → ℕ → ℕ → Type 0) (file : ChunkFile)
+    (reader : ReaderView T) : Type 0 where
+  pub top : stands file reader.top (length file.chunks - 1) 0
+  pub levels : AllByRecursion (IsKeptOf stands file) reader.levels
+
+-- A look-up in a source that goes over a chunk file of any bytes tells the first fault on its way
+-- down, but for want of memory or a failed read. The reader is still one of the file.
+pub record LooksUpIn {S T R : Type 0} (goes_over : S → ChunkFile → Type 0)
+    (stands : ChunkFile → T → ℕ → ℕ → Type 0) (before after : S) (sought : Sought)
+    (old new : ReaderView T) (result : Result R RootFault) : Type 0 where
+  pub kept : (file : ChunkFile) → goes_over before file → IsReaderIn stands file old →
+      IsReaderIn stands file new
+  pub tells : (file : ChunkFile) → goes_over before file → IsReaderIn stands file old →
+      IfErr result (MayTell old.version file old.root sought)
+  pub goes : GoesOverStill goes_over before after
 
 -- These are the first pairs, at most so many, of those that a look-up of the key from the root of
 -- this reference finds by these chunks.

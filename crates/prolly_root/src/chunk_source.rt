@@ -1,9 +1,11 @@
 //! What gives the chunks of a tree.
-ghost use Rattle.std.specs.Prelude.{◌≡◌, ◌-◌, ℕ, suc, List};
+ghost use Rattle.std.specs.Prelude.{◌≡◌, ◌↔◌, ◌-◌, ℕ, suc, IsTrue, List};
 ghost use Rattle.prolly_look_up.specs.Content.{Content};
+ghost use Rattle.prolly_look_up.specs.Way.{level_of};
+ghost use Rattle.prolly_root.specs.ChunkFile.{ChunkFile, nth_in};
 ghost use Rattle.prolly_root.specs.RootFault.{IsOrFails, MayFail, OnlyRead};
-ghost use Rattle.prolly_root.specs.ChunkSource.{HasAsked, IsChildNumber, IsLawful, root_level};
-ghost use Rattle.prolly_root.specs.ChunkSource.{root_tree};
+ghost use Rattle.prolly_root.specs.ChunkSource.{FindsChild, FindsRoot, GoesOverStill, HasAsked};
+ghost use Rattle.prolly_root.specs.ChunkSource.{IsChildNumber, IsLawful, root_level, root_tree};
 ghost use Rattle.prolly_tree.specs.Tree.{Tree, bytes_of};
 
 use crate::given_chunk::GivenChunk;
@@ -17,7 +19,8 @@ use std::alloc::Global;
 /// Nothing that a source gives is believed. Who asks compares each chunk with the reference in the
 /// one above it, and the first with the root; a [`GivenChunk`] tells its reference only where it was
 /// hashed. So whatever a source gives, what is answered is right. What the contracts say here is
-/// for one thing alone: that the tree of a source that has it is never refused.
+/// for two things alone: that the tree of a source that has it is never refused; and which fault a
+/// look-up tells, where the source goes over the frames of a chunk file of any bytes.
 pub trait ChunkSource {
     /// Where a chunk stands, and what was found below it so far.
     type Place: Copy + Drop;
@@ -31,10 +34,24 @@ pub trait ChunkSource {
     /// In the tree of the content the place is that of the top of this tree.
     ghost is_place: { Content → (level : ℕ) → Tree level → Self.Place → Type 0 };
 
+    /// It goes over the frames of this file, one behind another. A source that goes over none may say
+    /// so of no file.
+    ghost goes_over: { Self → ChunkFile → Type 0 };
+
+    /// The chunk of this number of the file stands there, and the frames below it begin with that of
+    /// the chunk `from`. Both are counted from 0.
+    ghost stands: { ChunkFile → Self.Place → (number from : ℕ) → Type 0 };
+
+    /// The two places are one.
+    ghost are_one: { Self.Place → Self.Place → Type 0 };
+
     /// The place of the root, of a tree whose chunks are of this version.
     fn root(&mut self, version: Version) -> Result<Self::Place, RootFault>
         ensures place { (content : Content) → has self.old content → version ≡ content.version →
             IsOrFails (is_place content (root_level content) (root_tree content)) OnlyRead result }
+        ensures finds { (file : ChunkFile) → goes_over self.old file →
+            FindsRoot stands version file result }
+        ensures goes { GoesOverStill goes_over self.old self.new }
         ensures asked { HasAsked has failures self.old self.new result };
 
     /// The place of the child of this number below a node. The children are of this level, and
@@ -50,6 +67,13 @@ pub trait ChunkSource {
             IsChildNumber level ts number t → IsOrFails (is_place content level t) OnlyRead result }
         ensures node { (content : Content) (ts : List (Tree level)) → has self.old content →
             is_place content (suc level) ts node.old → is_place content (suc level) ts node.new }
+        ensures finds { (file : ChunkFile) (n from : ℕ) → goes_over self.old file →
+            stands file node.old n from → level ≡ level_of (nth_in file n) - 1 →
+            FindsChild stands file level from number result }
+        ensures stays { (file : ChunkFile) (n from : ℕ) → goes_over self.old file →
+            stands file node.old n from → level ≡ level_of (nth_in file n) - 1 →
+            stands file node.new n from }
+        ensures goes { GoesOverStill goes_over self.old self.new }
         ensures asked { HasAsked has failures self.old self.new result };
 
     /// The chunk that stands there. Takes memory for it.
@@ -57,12 +81,26 @@ pub trait ChunkSource {
         ensures is { (content : Content) (l : ℕ) (t : Tree l) → has self.old content →
             is_place content l t place.now →
             IsOrFails (λ chunk. chunk ≡ bytes_of content.version l t) MayFail result }
+        ensures gives { (file : ChunkFile) (n from : ℕ) → goes_over self.old file →
+            stands file place.now n from →
+            IsOrFails (λ chunk. chunk ≡ nth_in file n) MayFail result }
+        ensures goes { GoesOverStill goes_over self.old self.new }
         ensures asked { HasAsked has failures self.old self.new result };
 
     /// The number by which faults name the chunk that stands there.
-    fn number(place: &Self::Place) -> u64;
+    fn number(place: &Self::Place) -> u64
+        ensures { (file : ChunkFile) (n from : ℕ) → stands file place.now n from → result ≡ n };
+
+    /// Whether two places are one, as those are at which two look-ups came to one chunk.
+    fn is_same(place: &Self::Place, other: &Self::Place) -> bool
+        ensures { IsTrue result ↔ are_one place.now other.now };
 
     /// The pairs of a content that a source has are lawful and rise, and no two of its chunks have
     /// one reference.
     ghost lawful: { (source : Self) (content : Content) → has source content → IsLawful content };
+
+    /// At one place one chunk stands.
+    ghost one: { (file : ChunkFile) (place other : Self.Place) (n from m below : ℕ) →
+        are_one place other → stands file place n from → stands file other m below →
+        (n ≡ m) × (from ≡ below) };
 }

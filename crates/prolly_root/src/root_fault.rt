@@ -45,10 +45,12 @@ pub enum RootFault {
 impl RootFault {
     ghost use Rattle.prolly_entry.specs.FaultTexts.{shown_text};
     ghost use Rattle.prolly_root.specs.FaultTexts.{root_fault_text};
+    ghost use Rattle.prolly_root.specs.LookUpFault.{fault_of_flaw};
 
     /// The fault that the chunk of this number has.
     pub(crate) fn of_flaw(flaw: ChunkFlaw, chunk: u64) -> RootFault
-        ensures { result ≡ RootFault.Read → ⊥ }
+        ensures is { result ≡ fault_of_flaw flaw chunk }
+        ensures read { result ≡ RootFault.Read → ⊥ }
     {
         match flaw {
             ChunkFlaw::Reference => RootFault::Reference { chunk },
@@ -88,6 +90,7 @@ impl RootFault {
 impl Display for RootFault {
     ghost use Rattle.std.specs.Prelude.{Some};
     ghost use Rattle.prolly_root.specs.FaultTexts.{root_fault_text};
+    ghost use Rattle.prolly_root.specs.LookUpFault.{fault_of_flaw};
 
     ghost output = { λ fault. Some (root_fault_text fault) };
 

@@ -1,10 +1,12 @@
 //! Reading a chunk of which nothing is believed.
-ghost use Rattle.std.specs.Prelude.{◌≡◌, IfOk, IfErr, IsOk, OnOk};
+ghost use Rattle.std.specs.Prelude.{◌≡◌, ◌⊎◌, ℕ, IfOk, IfErr, IsOk, OnOk};
 ghost use Rattle.prolly_look_up.specs.Content.{Content};
 ghost use Rattle.prolly_look_up.specs.Way.{FallsTo, IsNamed, IsOrdered};
 ghost use Rattle.prolly_entry.specs.Reference.{reference_of};
-ghost use Rattle.prolly_root.specs.ChunkSource.{HasAsked};
+ghost use Rattle.prolly_root.specs.ChunkFile.{ChunkFile, nth_in};
+ghost use Rattle.prolly_root.specs.ChunkSource.{GoesOverStill, HasAsked};
 ghost use Rattle.prolly_root.specs.Descent.{StandsBelow};
+ghost use Rattle.prolly_root.specs.LookUpFault.{IsFaultOfChunk};
 ghost use Rattle.prolly_root.specs.RootFault.{IsOrFails, MayFail};
 ghost use Rattle.prolly_tree.specs.Tree.{bytes_of};
 
@@ -35,6 +37,13 @@ pub fn tested_chunk<S: ChunkSource>(
     ensures lawful { (content : Content) → S.has source.old content → version ≡ content.version →
         (due : StandsBelow S.is_place content reference.now.0 above place.now) → IsOrFails (λ chunk.
         chunk.items ≡ bytes_of content.version due.at.level due.at.t) MayFail result }
+
+    // Of a file of any bytes it is told what is wrong first with the chunk that stands there.
+    ensures tells { (file : ChunkFile) (n from : ℕ) → S.goes_over source.old file →
+        S.stands file place.now n from → IsOrFails (λ chunk. chunk.items ≡ nth_in file n)
+        (λ fault. MayFail fault ⊎
+        IsFaultOfChunk version reference.now.0 above (nth_in file n) n fault) result }
+    ensures goes { GoesOverStill S.goes_over source.old source.new }
     ensures asked { HasAsked S.has S.failures source.old source.new result }
 {
     // By this law the chunk of a lawful tree can be read.
@@ -64,6 +73,8 @@ fn test(
     ensures falls { OnOk result (FallsTo above chunk.now) }
     ensures fits { reference_of chunk.now ≡ reference.now.0 → IsOrdered version chunk.now →
         FallsTo above chunk.now → IsOk result }
+    ensures fault { IfErr result
+        (IsFaultOfChunk version reference.now.0 above chunk.now number) }
     ensures read { IfErr result (λ fault. fault ≡ RootFault.Read → ⊥) }
 {
     match test_chunk(version, chunk, reference, above) {

@@ -1,10 +1,9 @@
 //! Leaves of a chunk file that are read before they are asked for.
-ghost use Rattle.std.specs.Prelude.{◌≡◌, IfOk, IfErr, IfSome};
+ghost use Rattle.std.specs.Prelude.{◌≡◌, true, IfOk, IfErr, IfSome};
 ghost use Rattle.std.specs.List.{AllByRecursion};
-ghost use Rattle.prolly_look_up.specs.Content.{Content};
-ghost use Rattle.prolly_root.specs.ReadAhead.{IsPartOf, file_of};
+ghost use Rattle.prolly_root.specs.ReadAhead.{IsPartOf};
 ghost use Rattle.prolly_root.specs.RootFault.{OnlyRead};
-ghost use Rattle.prolly_root.specs.Walk.{HasRead, HoldsFile};
+ghost use Rattle.prolly_root.specs.Walk.{HasRead};
 
 use crate::file::file_chunks::read_chunk;
 use crate::file::walk::{Frame, Walk};
@@ -35,8 +34,8 @@ pub(crate) fn fetch_leaves<D: Device>(
     bytes: usize,
 ) -> Result<Vec<Fetched>, RootFault>
     ensures read { HasRead (D.seen device.old) (D.seen device.new) result }
-    ensures leaves { (content : Content) → HoldsFile (D.seen device.old) content →
-        IfOk result (λ leaves. AllByRecursion (IsPartOf (file_of content)) leaves.items) }
+    ensures leaves { (D.seen device.old).is_honest ≡ true → IfOk result (λ leaves.
+        AllByRecursion (IsPartOf (D.seen device.old).bytes) leaves.items) }
     ensures fault { IfErr result OnlyRead }
 {
     let mut leaves = fetch_in_order(alloc, device, walk, bytes)?;
@@ -52,8 +51,8 @@ fn fetch_in_order<D: Device>(
     bytes: usize,
 ) -> Result<Vec<Fetched>, RootFault>
     ensures read { HasRead (D.seen device.old) (D.seen device.new) result }
-    ensures leaves { (content : Content) → HoldsFile (D.seen device.old) content →
-        IfOk result (λ leaves. AllByRecursion (IsPartOf (file_of content)) leaves.items) }
+    ensures leaves { (D.seen device.old).is_honest ≡ true → IfOk result (λ leaves.
+        AllByRecursion (IsPartOf (D.seen device.old).bytes) leaves.items) }
     ensures fault { IfErr result OnlyRead }
 {
     let mut leaves = Vec::new(alloc);
@@ -83,8 +82,8 @@ fn fetch_leaf<D: Device>(
     room: usize,
 ) -> Result<Option<Fetched>, RootFault>
     ensures read { HasRead (D.seen device.old) (D.seen device.new) result }
-    ensures leaf { (content : Content) → HoldsFile (D.seen device.old) content →
-        IfOk result (λ leaf. IfSome leaf (IsPartOf (file_of content))) }
+    ensures leaf { (D.seen device.old).is_honest ≡ true →
+        IfOk result (λ leaf. IfSome leaf (IsPartOf (D.seen device.old).bytes)) }
 {
     let frame = walk.next_of_level(device, LEAF)?;
     if frame.len > room as u64 {

@@ -1,10 +1,12 @@
 //! The chunks of a file, of which no more is read than is asked for.
 ghost use Rattle.std.specs.Prelude.{◌≡◌, ℕ, drop, take, true, IfOk, IfSome, List, None};
 ghost use Rattle.std.specs.List.{AllByRecursion};
-ghost use Rattle.prolly_look_up.specs.Content.{Content, nth_chunk};
+ghost use Rattle.prolly_look_up.specs.Content.{Content};
+ghost use Rattle.prolly_root.specs.ChunkFile.{ChunkFile, HoldsChunks, nth_in};
 ghost use Rattle.prolly_root.specs.ReadAhead.{IsPartOf};
 ghost use Rattle.prolly_root.specs.RootFault.{IsOrFails, MayFail};
-ghost use Rattle.prolly_root.specs.Walk.{HasRead, HoldsFile, IsFrame};
+ghost use Rattle.prolly_root.specs.Walk.{HasRead, HoldsFile, IsFrame, IsWalk};
+ghost use Rattle.prolly_root.specs.declared.file.walk.Walk.{Walk};
 
 use crate::chunk_source::ChunkSource;
 use crate::file::fetched::{Fetched, fetch_leaves, test_leaves};
@@ -57,6 +59,8 @@ impl<D: Device> FileChunks<D> {
             (D.seen device).failures }
         ensures has { (content : Content) → HoldsFile (D.seen device) content →
             ⟦<FileChunks<D> as ChunkSource>⟧.has result content }
+        ensures goes { (file : ChunkFile) → HoldsChunks (D.seen device) file →
+            ⟦<FileChunks<D> as ChunkSource>⟧.goes_over result file }
     {
         FileChunks {
             device,
@@ -73,6 +77,8 @@ impl<D: Device> FileChunks<D> {
             ⟦<FileChunks<D> as ChunkSource>⟧.failures self }
         ensures has { (content : Content) → ⟦<FileChunks<D> as ChunkSource>⟧.has self content →
             HoldsFile (D.seen result) content }
+        ensures goes { (file : ChunkFile) → ⟦<FileChunks<D> as ChunkSource>⟧.goes_over self file →
+            HoldsChunks (D.seen result) file }
     {
         self.device
     }
@@ -114,24 +120,39 @@ impl<D: Device> FileChunks<D> {
 
 impl<D: Device> ChunkSource for FileChunks<D> {
     ghost use Rattle.std.specs.List.{AllByRecursion};
+    ghost use Rattle.std.proofs.Common.{sym, ◌∙◌};
     ghost use Rattle.std.specs.Prelude.{IfSome};
-    ghost use Rattle.prolly_root.specs.ReadAhead.{IsPartOf, file_of};
-    ghost use Rattle.prolly_root.specs.Subtree.{HasChunksOf, IsSubtree};
+    ghost use Rattle.prolly_root.specs.ChunkFile.{chunk_file};
+    ghost use Rattle.prolly_root.specs.ReadAhead.{IsPartOf};
+    ghost use Rattle.prolly_root.specs.Subtree.{AreOnePlace, HasChunksOf, IsSubtree, StandsThere};
+    ghost use Rattle.prolly_root.specs.Walk.{HoldsFile};
 
     type Place = Subtree;
 
-    ghost failures = { λ file. (D.seen file.device).failures };
+    ghost failures = { λ source. (D.seen source.device).failures };
 
-    ghost has = { λ file content. HasChunksOf (D.seen file.device) file.marks content ×
-        IfSome file.ahead (λ ahead. AllByRecursion (IsPartOf (file_of content)) ahead.items) };
+    ghost goes_over = { λ source file. HasChunksOf (D.seen source.device) source.marks file ×
+        IfSome source.ahead (λ ahead. AllByRecursion (IsPartOf file.bytes) ahead.items) };
+
+    ghost has = { λ source content. HoldsFile (D.seen source.device) content ×
+        (HasChunksOf (D.seen source.device) source.marks (chunk_file content) ×
+        IfSome source.ahead
+        (λ ahead. AllByRecursion (IsPartOf (chunk_file content).bytes) ahead.items)) };
 
     ghost is_place = { IsSubtree };
 
-    ghost lawful = { λ file content has. record {
-      lawful = has.0.0.is.lawful;
-      rising = has.0.0.is.rising;
-      apart = has.0.0.is.apart;
+    ghost stands = { StandsThere };
+
+    ghost are_one = { AreOnePlace };
+
+    ghost lawful = { λ source content has. record {
+      lawful = has.0.is.lawful;
+      rising = has.0.is.rising;
+      apart = has.0.is.apart;
     } };
+
+    ghost one = { λ file place other n from m below same here there.
+        (sym here.number_is ∙ same.0 ∙ there.number_is, sym here.from_is ∙ same.1 ∙ there.from_is) };
 
     fn root(&mut self, version: Version) -> Result<Subtree, RootFault> {
         let below = Walk::begin(&mut self.device, version)?;
@@ -158,6 +179,11 @@ impl<D: Device> ChunkSource for FileChunks<D> {
 
     fn number(place: &Subtree) -> u64 {
         place.top.frame.number
+    }
+
+    fn is_same(place: &Subtree, other: &Subtree) -> bool {
+        place.top.frame.number == other.top.frame.number
+            && place.top.below.number == other.top.below.number
     }
 }
 
@@ -191,9 +217,9 @@ pub(crate) fn read_chunk<D: Device>(
     ensures read { HasRead (D.seen device.old) (D.seen device.new) result }
     ensures there { (D.seen device.old).is_honest ≡ true → IfOk result (λ chunk.
         chunk.items ≡ take frame.now.len (drop frame.now.start (D.seen device.old).bytes)) }
-    ensures is { (content : Content) → HoldsFile (D.seen device.old) content →
-        IsFrame content frame.now →
-        IsOrFails (λ chunk. chunk.items ≡ nth_chunk content frame.now.number) MayFail result }
+    ensures is { (file : ChunkFile) (walk : Walk) → HoldsChunks (D.seen device.old) file →
+        IsWalk file walk → IsFrame file frame.now →
+        IsOrFails (λ chunk. chunk.items ≡ nth_in file frame.now.number) MayFail result }
 {
     if frame.len > CHUNK_LIMIT as u64 {
         return Err(RootFault::Memory);

@@ -1,6 +1,6 @@
 //! Places that are remembered while the root is sought, and from which look-ups set out.
 ghost use Rattle.std.specs.Prelude.{◌≡◌, ◌≤◌, ◌+◌, ◌<◌, IfSome, true};
-ghost use Rattle.prolly_look_up.specs.Content.{Content};
+ghost use Rattle.prolly_root.specs.ChunkFile.{ChunkFile};
 ghost use Rattle.prolly_root.specs.Marks.{AreMarks, AreRuns, IsPlaceMark};
 ghost use Rattle.prolly_root.specs.Walk.{IsBehind, IsFrame, IsWalk};
 
@@ -68,8 +68,8 @@ pub(crate) struct Marks {
 impl Marks {
     /// Nothing is remembered but where the frames begin.
     pub(crate) fn begin(walk: Walk) -> Marks
-        ensures runs { (content : Content) → AreRuns content walk.number result.runs }
-        ensures marks { (content : Content) → IsWalk content walk → AreMarks content result }
+        ensures runs { (file : ChunkFile) → AreRuns file walk.number result.runs }
+        ensures marks { (file : ChunkFile) → IsWalk file walk → AreMarks file result }
     {
         let run = Run {
             from: walk.number,
@@ -88,12 +88,12 @@ impl Marks {
 
     /// Goes over this frame, to the boundary behind it.
     pub(crate) fn go_over(&mut self, frame: Frame, behind: Walk)
-        ensures runs { (content : Content) → IsFrame content frame →
-            behind.number ≡ frame.number + 1 → AreRuns content frame.number self.old.runs →
-            AreRuns content behind.number self.new.runs }
-        ensures marks { (content : Content) → IsFrame content frame →
-            behind.number ≡ frame.number + 1 → AreRuns content frame.number self.old.runs →
-            IsWalk content behind → AreMarks content self.old → AreMarks content self.new }
+        ensures runs { (file : ChunkFile) → IsFrame file frame →
+            behind.number ≡ frame.number + 1 → AreRuns file frame.number self.old.runs →
+            AreRuns file behind.number self.new.runs }
+        ensures marks { (file : ChunkFile) → IsFrame file frame →
+            behind.number ≡ frame.number + 1 → AreRuns file frame.number self.old.runs →
+            IsWalk file behind → AreMarks file self.old → AreMarks file self.new }
     {
         if let Some(run) = self.count(frame, behind.number) {
             self.keep(Mark {
@@ -111,9 +111,9 @@ impl Marks {
     /// frames of the first one begin at `first`.
     pub(crate) fn nearest(&self, level: u8, first: Walk, number: u64) -> Reached
         ensures near { result.count ≤ number }
-        ensures reached { (content : Content) → AreMarks content self.now → IsWalk content first →
-            IsWalk content result.walk ×
-            IsBehind content level first.number result.count result.walk.number }
+        ensures reached { (file : ChunkFile) → AreMarks file self.now → IsWalk file first →
+            IsWalk file result.walk ×
+            IsBehind file level first.number result.count result.walk.number }
     {
         let mut nearest = Reached {
             count: 0,
@@ -131,11 +131,11 @@ impl Marks {
     /// none where its level is not counted.
     fn count(&mut self, frame: Frame, next: u64) -> Option<Run>
         ensures marks { self.new.marks ≡ self.old.marks }
-        ensures runs { (content : Content) → IsFrame content frame → next ≡ frame.number + 1 →
-            AreRuns content frame.number self.old.runs → AreRuns content next self.new.runs }
-        ensures behind { (content : Content) → IsFrame content frame → next ≡ frame.number + 1 →
-            AreRuns content frame.number self.old.runs →
-            IfSome result (λ run. IsBehind content frame.level run.from run.count next) }
+        ensures runs { (file : ChunkFile) → IsFrame file frame → next ≡ frame.number + 1 →
+            AreRuns file frame.number self.old.runs → AreRuns file next self.new.runs }
+        ensures behind { (file : ChunkFile) → IsFrame file frame → next ≡ frame.number + 1 →
+            AreRuns file frame.number self.old.runs →
+            IfSome result (λ run. IsBehind file frame.level run.from run.count next) }
     {
         let level = frame.level as usize;
         for lower in 0..level.min(LEVELS) {
@@ -156,8 +156,8 @@ impl Marks {
     /// Remembers the boundary in its part of the file, unless one behind a higher chunk is there.
     fn keep(&mut self, mark: Mark)
         ensures runs { self.new.runs ≡ self.old.runs }
-        ensures marks { (content : Content) → IsPlaceMark content mark →
-            AreMarks content self.old → AreMarks content self.new }
+        ensures marks { (file : ChunkFile) → IsPlaceMark file mark →
+            AreMarks file self.old → AreMarks file self.new }
     {
         let part = mark.reached.walk.part(PARTS);
         if self.marks[part].level <= mark.level {

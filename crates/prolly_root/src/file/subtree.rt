@@ -33,7 +33,7 @@ pub(crate) struct LastChild {
 }
 
 impl Subtree {
-    ghost use Rattle.prolly_look_up.specs.Content.{Content};
+    ghost use Rattle.prolly_root.specs.ChunkFile.{ChunkFile};
     ghost use Rattle.prolly_root.specs.Marks.{AreMarks};
     ghost use Rattle.prolly_root.specs.Subtree.{FindsNth, HasChunksOf, KeepsLastChild};
     ghost use Rattle.prolly_root.specs.Walk.{HasRead, IsBehind, IsWalk};
@@ -51,13 +51,13 @@ impl Subtree {
     ) -> Result<Place, RootFault>
         ensures read { HasRead (D.seen device.old) (D.seen device.new) result }
         ensures top { self.new.top ≡ self.old.top }
-        ensures keeps { (content : Content) → HasChunksOf (D.seen device.old) marks.now content →
-            KeepsLastChild content level self.old.top.below self.old.last →
-            KeepsLastChild content level self.new.top.below self.new.last }
-        ensures place { (content : Content) → HasChunksOf (D.seen device.old) marks.now content →
-            KeepsLastChild content level self.old.top.below self.old.last →
-            IsWalk content self.old.top.below →
-            FindsNth content level self.old.top.below.number number result }
+        ensures keeps { (file : ChunkFile) → HasChunksOf (D.seen device.old) marks.now file →
+            KeepsLastChild file level self.old.top.below self.old.last →
+            KeepsLastChild file level self.new.top.below self.new.last }
+        ensures place { (file : ChunkFile) → HasChunksOf (D.seen device.old) marks.now file →
+            KeepsLastChild file level self.old.top.below self.old.last →
+            IsWalk file self.old.top.below →
+            FindsNth file level self.old.top.below.number number result }
     {
         if let Some(passed) = self.last {
             if passed.number == number {
@@ -86,10 +86,10 @@ impl Subtree {
     /// Where it is nearest to the child of this number, and not behind it.
     fn nearest(&self, marks: &Option<Marks>, level: u8, number: u64) -> Reached
         ensures near { result.count ≤ number }
-        ensures reached { (content : Content) → IfSome marks.now (AreMarks content) →
-            KeepsLastChild content level self.now.top.below self.now.last →
-            IsWalk content self.now.top.below → IsWalk content result.walk ×
-            IsBehind content level self.now.top.below.number result.count result.walk.number }
+        ensures reached { (file : ChunkFile) → IfSome marks.now (AreMarks file) →
+            KeepsLastChild file level self.now.top.below self.now.last →
+            IsWalk file self.now.top.below → IsWalk file result.walk ×
+            IsBehind file level self.now.top.below.number result.count result.walk.number }
     {
         match (self.last, marks) {
             (Some(passed), _) if passed.number < number => Reached {

@@ -1,6 +1,7 @@
 //! The frames of a chunk file on a device, one after another.
-ghost use Rattle.std.specs.Prelude.{◌≡◌, ◌+◌, ◌-◌, ◌^◌, ◌<◌, ◌≤◌, ℕ, [], ◌∷◌, ◌++◌, List, length};
-ghost use Rattle.std.specs.Prelude.{drop, Ok, None, OnOk, IfOk, IfErr, IsOk, IfSome};
+ghost use Rattle.std.specs.Prelude.{◌≡◌, ◌+◌, ◌^◌, ◌<◌, ◌≤◌, ◌⊎◌, ℕ, All, [], ◌∷◌, ◌++◌, List};
+ghost use Rattle.std.specs.Prelude.{length, drop, Ok, Err, None, OnOk, IfOk, IfErr, IfSome};
+ghost use Rattle.prolly_entry.specs.Byte.{IsByte};
 ghost use Rattle.prolly_io.specs.Frame.{frame_start};
 
 use crate::file::header::named_header;
@@ -8,8 +9,8 @@ use crate::file::marks::Marks;
 use crate::root_fault::RootFault;
 use prolly_entry::Version;
 use prolly_io::{
-    Device, END_LETTER, END_SIZE, FRAME_FRONT, FRAME_START, FrameFault, FrameStart, HEADER_SIZE,
-    read_start,
+    Device, END_LETTER, END_SIZE, FRAME_FRONT, FRAME_LETTER, FRAME_START, FrameFault, FrameStart,
+    HEADER_SIZE, read_start,
 };
 
 /// A chunk of a file, of which the level was read.
@@ -36,18 +37,16 @@ pub(crate) struct Walk {
 }
 
 impl Walk {
-    ghost use Rattle.prolly_look_up.specs.Content.{chunks_of, Content};
-    ghost use Rattle.prolly_root.specs.Marks.{AreMarks};
-    ghost use Rattle.prolly_root.specs.RootFault.{IsOrFails, OnlyRead};
-    ghost use Rattle.prolly_root.specs.Walk.{GoesOver, GoesToLevel, HasRead, HoldsFile, IsFrame};
+    ghost use Rattle.prolly_root.specs.ChunkFile.{ChunkFile, HoldsChunks};
+    ghost use Rattle.prolly_root.specs.Marks.{FindsLast};
+    ghost use Rattle.prolly_root.specs.Walk.{BeginsWalk, GoesOver, GoesToLevel, HasRead};
     ghost use Rattle.prolly_root.specs.Walk.{IsStartOf, IsWalk};
 
     /// The boundary before the first frame of a chunk file of this version.
     pub(crate) fn begin<D: Device>(device: &mut D, version: Version) -> Result<Walk, RootFault>
         ensures read { HasRead (D.seen device.old) (D.seen device.new) result }
-        ensures begins { (content : Content) → HoldsFile (D.seen device.old) content →
-            IsOrFails (λ walk. (walk.number ≡ 0) × IsWalk content walk)
-            (λ fault. version ≡ content.version → OnlyRead fault) result }
+        ensures begins { (file : ChunkFile) → HoldsChunks (D.seen device.old) file →
+            BeginsWalk version file result }
     {
         if named_header(device)?.version != version {
             return Err(RootFault::Version);
@@ -74,8 +73,8 @@ impl Walk {
         ensures size { self.new.size ≡ self.old.size }
         ensures forward { IfOk result (λ next. IfSome next (λ frame.
             (self.old.offset < self.new.offset) × (self.new.offset ≤ self.new.size))) }
-        ensures goes { (content : Content) → HoldsFile (D.seen device.old) content →
-            IsWalk content self.old → GoesOver content self.old.number self.new result }
+        ensures goes { (file : ChunkFile) → HoldsChunks (D.seen device.old) file →
+            IsWalk file self.old → GoesOver file self.old.number self.new result }
     {
         match self.start(device)? {
             FrameStart::End => self.end(),
@@ -90,8 +89,8 @@ impl Walk {
         level: u8,
     ) -> Result<Frame, RootFault>
         ensures read { HasRead (D.seen device.old) (D.seen device.new) result }
-        ensures goes { (content : Content) → HoldsFile (D.seen device.old) content →
-            IsWalk content self.old → GoesToLevel content level self.old.number self.new result }
+        ensures goes { (file : ChunkFile) → HoldsChunks (D.seen device.old) file →
+            IsWalk file self.old → GoesToLevel file level self.old.number self.new result }
     {
         loop {
             match self.next(device)? {
@@ -106,10 +105,8 @@ impl Walk {
     /// are remembered on the way to it.
     pub(crate) fn last<D: Device>(mut self, device: &mut D) -> Result<(Frame, Marks), RootFault>
         ensures read { HasRead (D.seen device.old) (D.seen device.new) result }
-        ensures last { (content : Content) → HoldsFile (D.seen device.old) content →
-            IsWalk content self → IsOrFails (λ last. IsFrame content last.0 ×
-            (last.0.number ≡ length (chunks_of content) - 1) × AreMarks content last.1)
-            (λ fault. self.number ≡ 0 → OnlyRead fault) result }
+        ensures last { (file : ChunkFile) → HoldsChunks (D.seen device.old) file →
+            IsWalk file self → self.number ≡ 0 → FindsLast file result }
     {
         let mut marks = Marks::begin(self);
         let mut last = None;
@@ -136,8 +133,9 @@ impl Walk {
     /// What begins here.
     fn start<D: Device>(&self, device: &mut D) -> Result<FrameStart, RootFault>
         ensures read { HasRead (D.seen device.old) (D.seen device.new) result }
-        ensures is { (content : Content) → HoldsFile (D.seen device.old) content →
-            IsWalk content self.now → IsStartOf (drop self.now.number (chunks_of content)) result }
+        ensures is { (file : ChunkFile) → HoldsChunks (D.seen device.old) file →
+            IsWalk file self.now →
+            IsStartOf self.now.number (drop self.now.number file.chunks) file.rest result }
     {
         let mut start = [0; FRAME_FRONT];
         let count = device.read_at(self.offset, &mut start)?;
@@ -146,9 +144,11 @@ impl Walk {
 
     /// None, where the end record, which begins here, ends where the file does.
     fn end(&self) -> Result<Option<Frame>, RootFault>
-        ensures none { IfOk result (λ next. next ≡ None) }
-        ensures end { self.now.offset + END_SIZE ≡ self.now.size → result ≡ Ok None }
-        ensures read { IfErr result (λ fault. fault ≡ RootFault.Read → ⊥) }
+        ensures none { IfOk result (λ next.
+            (next ≡ None) × (self.now.offset + END_SIZE ≡ self.now.size)) }
+        ensures fault { IfErr result (λ fault.
+            ((fault ≡ RootFault.Truncated) × (self.now.size < self.now.offset + END_SIZE)) ⊎
+            ((fault ≡ RootFault.Trailing) × (self.now.offset + END_SIZE < self.now.size))) }
     {
         let left = self.size.saturating_sub(self.offset);
         if left < END_SIZE as u64 {
@@ -169,8 +169,11 @@ impl Walk {
             OnOk result (self.new.number ≡ self.old.number + 1) }
         ensures frame { IfOk result (λ frame. (frame.number ≡ self.old.number) ×
             (frame.start ≡ self.old.offset + 9) × (frame.len ≡ len) × (frame.level ≡ level)) }
-        ensures fits { 0 < len → self.old.offset + 9 + len ≤ self.old.size → IsOk result }
-        ensures read { IfErr result (λ fault. fault ≡ RootFault.Read → ⊥) }
+        ensures fits { OnOk result ((0 < len) × (self.old.offset + 9 + len ≤ self.old.size)) }
+        ensures fault { IfErr result (λ fault.
+            ((fault ≡ RootFault.Chunk self.old.number) × (len ≡ 0)) ⊎
+            ((fault ≡ RootFault.Truncated) × (0 < len) ×
+            (self.old.size < self.old.offset + 9 + len))) }
     {
         if len == 0 {
             return Err(RootFault::Chunk { chunk: self.number });
@@ -199,7 +202,14 @@ fn start_in(bytes: &[u8], number: u64) -> Result<FrameStart, RootFault>
     ensures end { (more : List ℕ) → bytes.now ≡ END_LETTER ∷ more → result ≡ Ok FrameStart.End }
     ensures chunk { (len level : ℕ) → len < 2 ^ 64 → bytes.now ≡ frame_start len ++ level ∷ [] →
         result ≡ Ok (FrameStart.Chunk len level) }
+    ensures empty { bytes.now ≡ [] → result ≡ Err RootFault.Truncated }
+    ensures cut { (more : List ℕ) → bytes.now ≡ FRAME_LETTER ∷ more → length more < FRAME_START →
+        result ≡ Err RootFault.Truncated }
+    ensures other { (letter : ℕ) (more : List ℕ) → bytes.now ≡ letter ∷ more →
+        (letter ≡ END_LETTER → ⊥) → (letter ≡ FRAME_LETTER → ⊥) →
+        result ≡ Err (RootFault.Frame number) }
     ensures read { IfErr result (λ fault. fault ≡ RootFault.Read → ⊥) }
+    ensures bytes { All IsByte bytes.now }
 {
     match read_start(bytes) {
         Ok(start) => Ok(start),

@@ -6,9 +6,12 @@ ghost use Rattle.prolly_look_up.specs.Kinds.{kind_of};
 ghost use Rattle.prolly_look_up.specs.PairsFrom.{IsLeft, pairs_from};
 ghost use Rattle.prolly_look_up.specs.Sought.{EndsAt, IsChildOf, IsMark, sought_of};
 ghost use Rattle.prolly_look_up.specs.Way.{FallsTo};
-ghost use Rattle.prolly_root.specs.ChunkSource.{HasAsked};
+ghost use Rattle.prolly_root.specs.ChunkFile.{ChunkFile};
+ghost use Rattle.prolly_root.specs.ChunkSource.{GoesOverStill, HasAsked};
 ghost use Rattle.prolly_root.specs.Descent.{IsAtDue, IsTested, IsOnward, StandsBelow};
 ghost use Rattle.prolly_root.specs.Descent.{StandsInPlace, StepsDown};
+ghost use Rattle.prolly_root.specs.Descent.{GoesOnAt, IsAt, IsDueAt, IsKeptOf};
+ghost use Rattle.prolly_root.specs.LookUpFault.{HasDue, MayStop, Standing};
 ghost use Rattle.prolly_root.specs.RootFault.{IsOrFails, MayFail};
 
 use crate::chunk_source::ChunkSource;
@@ -57,6 +60,10 @@ impl<T: Copy> ChunkOnWay<T> {
             version ≡ content.version →
             StandsBelow S.is_place content due.now.reference.0 due.now.above place →
             IsOrFails (StandsInPlace S.is_place content) MayFail result }
+        ensures tells { (file : ChunkFile) (at : Standing) → S.goes_over source.old file →
+            IsDueAt S.stands file due.now place at →
+            IsOrFails (IsAt S.stands file at) (MayStop version file at) result }
+        ensures goes { GoesOverStill S.goes_over source.old source.new }
         ensures asked { HasAsked S.has S.failures source.old source.new result }
     {
         let reference = due.reference;
@@ -129,6 +136,11 @@ impl<T: Copy> ChunkOnWay<T> {
             version ≡ content.version → StandsInPlace S.is_place content self.old →
             StandsInPlace S.is_place content self.new ×
             IsOrFails (StepsDown S.is_place content) MayFail result }
+        ensures tells { (file : ChunkFile) (at : Standing) → S.goes_over source.old file →
+            IsAt S.stands file at self.old → HasDue version file at →
+            at.sought ≡ sought_of sought.entry → IsAt S.stands file at self.new ×
+            IsOrFails (GoesOnAt S.stands version file at) (MayStop version file at) result }
+        ensures goes { GoesOverStill S.goes_over source.old source.new }
         ensures asked { HasAsked S.has S.failures source.old source.new result }
     {
         // By this law the children of a chunk of a lawful tree are the trees below it.
@@ -161,17 +173,21 @@ pub(crate) fn chunk_at<T: Copy + Drop, S: ChunkSource<Place = T>>(
     requires { IfSome kept (IsTested version) }
     ensures is { IfOk result (IsAtDue version due.now) }
 
-    // What was kept is not read again.
+    // What was kept of this place is not read again.
     ensures again { IfSome kept (λ chunk. IsAtDue version due.now chunk →
-        (result ≡ Ok chunk) × (source.new ≡ source.old)) }
+        S.are_one chunk.place place → (result ≡ Ok chunk) × (source.new ≡ source.old)) }
     ensures lawful { (content : Content) → S.has source.old content → version ≡ content.version →
         IfSome kept (StandsInPlace S.is_place content) →
         StandsBelow S.is_place content due.now.reference.0 due.now.above place →
         IsOrFails (StandsInPlace S.is_place content) MayFail result }
+    ensures tells { (file : ChunkFile) (at : Standing) → S.goes_over source.old file →
+        IfSome kept (IsKeptOf S.stands file) → IsDueAt S.stands file due.now place at →
+        IsOrFails (IsAt S.stands file at) (MayStop version file at) result }
+    ensures goes { GoesOverStill S.goes_over source.old source.new }
     ensures asked { HasAsked S.has S.failures source.old source.new result }
 {
     match kept {
-        Some(chunk) if chunk.is_due(due) => Ok(chunk),
+        Some(chunk) if chunk.is_due(due) && S::is_same(&chunk.place, &place) => Ok(chunk),
         _another => ChunkOnWay::read(alloc, source, version, due, place),
     }
 }

@@ -1,11 +1,13 @@
 //! Going down by the root, from each chunk to the one that it refers to.
-ghost use Rattle.std.specs.Prelude.{◌≡◌, [], ◌∷◌, ◌++◌, map, IfOk, OnOk};
+ghost use Rattle.std.specs.Prelude.{◌≡◌, ◌-◌, [], ◌∷◌, ◌++◌, length, map, IfOk, OnOk};
 ghost use Rattle.std.specs.List.{AllByRecursion};
 ghost use Rattle.prolly_look_up.specs.Content.{Content};
 ghost use Rattle.prolly_look_up.specs.Sought.{sought_of};
-ghost use Rattle.prolly_root.specs.ChunkSource.{HasAsked};
-ghost use Rattle.prolly_root.specs.Descent.{IsDescent, IsTested, StandsAt};
+ghost use Rattle.prolly_root.specs.ChunkFile.{ChunkFile};
+ghost use Rattle.prolly_root.specs.ChunkSource.{GoesOverStill, HasAsked};
+ghost use Rattle.prolly_root.specs.Descent.{IsDescent, IsKeptOf, IsTested, StandsAt};
 ghost use Rattle.prolly_root.specs.Descent.{StandsInPlace, chunks_on_way};
+ghost use Rattle.prolly_root.specs.LookUpFault.{MayTell};
 ghost use Rattle.prolly_root.specs.RootFault.{IsOrFails, MayFail};
 
 use crate::chunk_source::ChunkSource;
@@ -59,6 +61,12 @@ pub(crate) fn go_down<'a, T: Copy + Drop, S: ChunkSource<Place = T>>(
         StandsAt S.is_place content root.now.0 top →
         AllByRecursion (StandsInPlace S.is_place content) kept.items → IsOrFails (λ descent.
         AllByRecursion (StandsInPlace S.is_place content) descent.levels.items) MayFail result }
+    ensures tells { (file : ChunkFile) → S.goes_over source.old file →
+        S.stands file top (length file.chunks - 1) 0 →
+        AllByRecursion (IsKeptOf S.stands file) kept.items → IsOrFails (λ descent.
+        AllByRecursion (IsKeptOf S.stands file) descent.levels.items)
+        (MayTell version file root.now.0 (sought_of sought.entry)) result }
+    ensures goes { GoesOverStill S.goes_over source.old source.new }
     ensures asked { HasAsked S.has S.failures source.old source.new result }
 {
     let mut kept = kept.into_iter();

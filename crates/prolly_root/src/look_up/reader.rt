@@ -1,20 +1,23 @@
 //! Looking up by the root again and again, in a tree of which no more is read than that wants.
-ghost use Rattle.std.specs.Prelude.{◌≡◌, ◌<◌, ℕ, [], ◌∷◌, ◌++◌, List, length, option_map, IfOk};
-ghost use Rattle.std.specs.Prelude.{Err, IfErr, Ok, OnErr, OnOk};
+ghost use Rattle.std.specs.Prelude.{◌≡◌, ◌<◌, ◌⊎◌, ℕ, [], ◌∷◌, ◌++◌, List, length, option_map, IfOk};
+ghost use Rattle.std.specs.Prelude.{Err, IfErr, None, Ok, OnErr, OnOk, Some};
 ghost use Rattle.std.specs.List.{AllByRecursion};
 ghost use Rattle.prolly_look_up.specs.Content.{Content};
 ghost use Rattle.prolly_look_up.specs.HeldPairs.{pairs_held};
 ghost use Rattle.prolly_look_up.specs.PairsFrom.{pairs_from};
 ghost use Rattle.prolly_look_up.specs.Sought.{sought_of};
-ghost use Rattle.prolly_look_up.specs.Sought.Sought.{Key};
+ghost use Rattle.prolly_look_up.specs.Sought.Sought.{Key, Number};
 ghost use Rattle.prolly_look_up.specs.Way.{IsCountWay, IsWay, IsWayTo};
 ghost use Rattle.prolly_entry.specs.Cut.{sha512_cut};
 ghost use Rattle.prolly_entry.specs.declared.version.Version.TheVariants.{Two};
 ghost use Rattle.prolly_io.specs.Frame.{IsSmall};
+ghost use Rattle.prolly_root.specs.ChunkFile.{ChunkFile, file_fault};
+ghost use Rattle.prolly_root.specs.ChunkSource.{GoesOverStill};
 ghost use Rattle.prolly_root.specs.Descent.{IsWayDown};
 ghost use Rattle.prolly_root.specs.ProofFile.{IsSomeProof, proof_file};
-ghost use Rattle.prolly_root.specs.RootFault.{OnlyRead, TellsReads};
-ghost use Rattle.prolly_root.specs.Reader.{AreFirstFound, IsEmptied, IsReaderOf, LooksUp, way_of};
+ghost use Rattle.prolly_root.specs.RootFault.{IsOrFails, OnlyRead, TellsReads};
+ghost use Rattle.prolly_root.specs.Reader.{AreFirstFound, IsEmptied, IsReaderIn, IsReaderOf};
+ghost use Rattle.prolly_root.specs.Reader.{LooksUp, LooksUpIn, way_of};
 ghost use Rattle.prolly_tree.specs.File.{root_reference};
 
 use crate::chunk_source::ChunkSource;
@@ -100,6 +103,12 @@ impl<T: Copy + Drop> Reader<T> {
             version ≡ content.version →
             root.now.0 ≡ root_reference (sha512_cut content.bits) content.version content.pairs →
             IfErr result OnlyRead }
+
+        // Of a file of any bytes it is told what is wrong first with its header or its frames.
+        ensures tells { (file : ChunkFile) → S.goes_over source.old file →
+            IsOrFails (λ reader. (file_fault version file ≡ None) × IsReaderIn S.stands file reader)
+            (λ fault. OnlyRead fault ⊎ (file_fault version file ≡ Some fault)) result }
+        ensures goes { GoesOverStill S.goes_over source.old source.new }
         ensures keeps { (content : Content) → S.has source.old content → S.has source.new content }
         ensures reads { TellsReads (S.failures source.old) (S.failures source.new) result }
     {
@@ -125,6 +134,8 @@ impl<T: Copy + Drop> Reader<T> {
             (way_of self.new) (option_map (λ v. v.items) value)) }
         ensures looked { LooksUp S.has S.failures S.is_place source.old source.new self.old
             self.new result }
+        ensures tells { LooksUpIn S.goes_over S.stands source.old source.new (Key key.now)
+            self.old self.new result }
     {
         self.descend(alloc, source, Sought::Key(key))?;
         let value = first_value(alloc, &self.leaf_from(key), key);
@@ -143,6 +154,8 @@ impl<T: Copy + Drop> Reader<T> {
         ensures found { IfOk result (IsCountWay self.old.root n (way_of self.new)) }
         ensures looked { LooksUp S.has S.failures S.is_place source.old source.new self.old
             self.new result }
+        ensures tells { LooksUpIn S.goes_over S.stands source.old source.new (Number n)
+            self.old self.new result }
     {
         let there = self.descend(alloc, source, Sought::Number(n))?;
         // From the empty key on there are all pairs.
@@ -164,6 +177,8 @@ impl<T: Copy + Drop> Reader<T> {
             from.now most (way_of self.new) pairs.items) }
         ensures looked { LooksUp S.has S.failures S.is_place source.old source.new self.old
             self.new result }
+        ensures tells { LooksUpIn S.goes_over S.stands source.old source.new (Key from.now)
+            self.old self.new result }
     {
         self.descend(alloc, source, Sought::Key(from))?;
         let pairs = first_pairs(alloc, self.leaf_from(from), most);
@@ -183,6 +198,8 @@ impl<T: Copy + Drop> Reader<T> {
             IsSomeProof self.old.version self.old.root key.now proof.items) }
         ensures looked { LooksUp S.has S.failures S.is_place source.old source.new self.old
             self.new result }
+        ensures tells { LooksUpIn S.goes_over S.stands source.old source.new (Key key.now)
+            self.old self.new result }
     {
         self.descend(alloc, source, Sought::Key(key))?;
         let proof = self.proof(alloc);
@@ -201,6 +218,8 @@ impl<T: Copy + Drop> Reader<T> {
             (IsWayTo self.old.version self.old.root (Key key.now) (way_of self.new)) }
         ensures looked { LooksUp S.has S.failures S.is_place source.old source.new self.old
             self.new result }
+        ensures tells { LooksUpIn S.goes_over S.stands source.old source.new (Key key.now)
+            self.old self.new result }
     {
         self.descend(alloc, source, Sought::Key(key))?;
         Ok(())
@@ -219,6 +238,8 @@ impl<T: Copy + Drop> Reader<T> {
             (IsWayTo self.old.version self.old.root (Key key.now) (way_of self.new)) }
         ensures looked { LooksUp S.has S.failures S.is_place source.old source.new self.old
             self.new result }
+        ensures tells { LooksUpIn S.goes_over S.stands source.old source.new (Key key.now)
+            self.old self.new result }
     {
         if self.goes_below(key) {
             if let Err(fault) = source.read_ahead(hasher, alloc, self.version) {
@@ -258,6 +279,8 @@ impl<T: Copy + Drop> Reader<T> {
     ) -> Result<Sought<'a>, RootFault>
         ensures looked { LooksUp S.has S.failures S.is_place source.old source.new self.old
             self.new result }
+        ensures tells { LooksUpIn S.goes_over S.stands source.old source.new (sought_of sought.entry)
+            self.old self.new result }
         ensures found { IfOk result (λ there. IsWayDown self.old.version self.old.root
             (sought_of sought.entry) (way_of self.new) (sought_of there)) }
     {

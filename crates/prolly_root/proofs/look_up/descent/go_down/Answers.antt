@@ -3,10 +3,13 @@ use Rattle.std.specs.List.{AllByRecursion}
 use Rattle.prolly_look_up.specs.Sought.{sought_of}
 use Rattle.prolly_look_up.specs.Way.{IsNamed}
 use Rattle.prolly_entry.specs.lemmas.Lists.{all_append}
-use Rattle.prolly_root.specs.Descent.{IsOnward, IsTested, StandsInPlace, StepsDown, chunks_on_way}
+use Rattle.prolly_root.specs.Descent.{GoesOnAt, IsKeptOf, IsOnward, IsTested, StandsInPlace}
+use Rattle.prolly_root.specs.Descent.{StepsDown, chunks_on_way}
+use Rattle.prolly_root.specs.LookUpFault.{at_root}
 use Rattle.prolly_root.specs.declared.root_fault.RootFault.TheVariants.{Memory}
 use Rattle.prolly_root.proofs.Descending.{Descended, asked_on, handed_on, less_room, next_kept}
 use Rattle.prolly_root.proofs.Descending.{one_more, one_passed, way_ends}
+use Rattle.prolly_root.proofs.FaultSteps.{at_kept, comes_on, has_due, stops}
 use Rattle.prolly_root.proofs.look_up.descent.go_down.Goals as goal
 
 pub chunk_at-requires : goal.chunk_at-requires
@@ -24,6 +27,13 @@ returns-in_err-chunk g c =
           c.in_err-chunk.ensures.lawful content (before.asked.0 content has) same
           (next_kept (StandsInPlace g.S.ChunkSource.is_place content)
           _ _ _ c.next.ensures.items on.left).0 on.at;
+      tells = λ file goes top keeps.
+          let come = before.tells file goes top keeps in
+          stops g.S.ChunkSource.stands c.args.version file _ _ come
+          (c.in_err-chunk.ensures.tells file come.at (before.goes file goes)
+          (next_kept (IsKeptOf g.S.ChunkSource.stands file) _ _ _ c.next.ensures.items
+          come.kept_there).0 come.due_at);
+      goes = λ file goes. c.in_err-chunk.ensures.goes file (before.goes file goes);
       asked = asked_on {T = Unit {0}} g.S.ChunkSource.has g.S.ChunkSource.failures (Err fault) before.asked
           c.in_err-chunk.ensures.asked;
     })
@@ -45,6 +55,17 @@ returns-in_err-onward g c =
           (next_kept (StandsInPlace g.S.ChunkSource.is_place content)
           _ _ _ c.next.ensures.items on.left).0 on.at in
           (stepped.lawful content (at.asked.0 content (before.asked.0 content h)) same kept).1;
+      tells = λ file goes top keeps.
+          let stands = g.S.ChunkSource.stands in
+          let come = before.tells file goes top keeps in
+          let there = at.tells file come.at (before.goes file goes)
+          (next_kept (IsKeptOf stands file) _ _ _ c.next.ensures.items come.kept_there).0
+          come.due_at in
+          let due = has_due stands c.args.version file _ _ come at.is there in
+          stops stands c.args.version file _ _ come
+          (stepped.tells file come.at (at.goes file (before.goes file goes)) there due
+          come.due_at.sought).1;
+      goes = λ file goes. stepped.goes file (at.goes file (before.goes file goes));
       asked = asked_on {T = Unit {0}} has failures (Err fault)
           (asked_on {T = Unit {0}} has failures (Ok tt) before.asked at.asked) stepped.asked;
     })
@@ -57,6 +78,9 @@ returns-in_err-keep g c =
     c.from_residual-in_err-keep.ensures) (record {
       found = tt;
       lawful = λ content h same top keeps. inl refl;
+      tells = λ file goes top keeps. inl (inl refl);
+      goes = λ file goes. c.in_ok-onward.ensures.goes file (c.in_ok-chunk.ensures.goes file
+          (c.loop-levels.invariant.goes file goes));
       asked = asked_on {T = Unit {0}} has failures (Ok tt) (asked_on {T = Unit {0}} has failures (Ok tt)
           c.loop-levels.invariant.asked c.in_ok-chunk.ensures.asked) c.in_ok-onward.ensures.asked;
     })
@@ -98,6 +122,26 @@ returns-in-End-clause-lawful g c content has same top keeps =
     subst (AllByRecursion P) (sym c.in_ok-keep.ensures)
     (all_append P c.loop-levels.levels.items (c.step.new.self ∷ []) on.met (later.0, tt))
 
+pub returns-in-End-clause-tells : goal.returns-in-End-clause-tells
+returns-in-End-clause-tells g c file goes top keeps =
+    let stands = g.S.ChunkSource.stands in
+    let P = IsKeptOf stands file in
+    let before = c.loop-levels.invariant in
+    let at = c.in_ok-chunk.ensures in
+    let come = before.tells file goes top keeps in
+    let there = at.tells file come.at (before.goes file goes)
+    (next_kept P _ _ _ c.next.ensures.items come.kept_there).0 come.due_at in
+    let due = has_due stands c.args.version file _ _ come at.is there in
+    let later = c.in_ok-onward.ensures.tells file come.at (at.goes file (before.goes file goes)) there
+    due come.due_at.sought in
+    subst (AllByRecursion P) (sym c.in_ok-keep.ensures)
+    (all_append P c.loop-levels.levels.items (c.step.new.self ∷ []) come.met_there
+    (at_kept later.0, tt))
+
+pub returns-in-End-clause-goes : goal.returns-in-End-clause-goes
+returns-in-End-clause-goes g c file goes = c.in_ok-onward.ensures.goes file
+    (c.in_ok-chunk.ensures.goes file (c.loop-levels.invariant.goes file goes))
+
 pub loop-levels-preserved : goal.loop-levels-preserved
 loop-levels-preserved g c =
     let version = c.args.version in
@@ -138,6 +182,22 @@ loop-levels-preserved g c =
                 (all_append P above (c.step.new.self ∷ []) on.met (down.0, tt));
             left = next.1;
           };
+      goes = λ file goes. stepped.goes file (c.in_ok-chunk.ensures.goes file
+          (before.goes file goes));
+      tells = λ file goes top keeps.
+          let stands = g.S.ChunkSource.stands in
+          let P = IsKeptOf stands file in
+          let at = c.in_ok-chunk.ensures in
+          let come = before.tells file goes top keeps in
+          let next = next_kept P _ _ _ c.next.ensures.items come.kept_there in
+          let there = at.tells file come.at (before.goes file goes) next.0 come.due_at in
+          let due = has_due stands version file _ _ come at.is there in
+          let later = stepped.tells file come.at (at.goes file (before.goes file goes)) there due
+          come.due_at.sought in
+          comes_on stands version file _ _ come
+          (subst (GoesOnAt stands version file come.at) c.in-Below.is later.1)
+          (subst (AllByRecursion P) (sym more) (all_append P above (c.step.new.self ∷ [])
+          come.met_there (at_kept later.0, tt))) next.1;
     }
 
 pub loop-levels-init : goal.loop-levels-init
@@ -148,6 +208,15 @@ loop-levels-init g c = rw (c.new-levels.ensures.items, c.into_iter-kept.ensures.
   asked = (λ content has. has, refl);
   lawful = λ content has same top keeps.
       record { at = record { at = top; falls = tt }; met = tt; left = keeps };
+  goes = λ file goes. goes;
+  tells = λ file goes top keeps. record {
+    steps = [];
+    at = at_root file c.args.root.now.0 (sought_of c.args.sought);
+    leads = refl;
+    due_at = record { reference = refl; above = refl; sought = refl; stands_there = top };
+    met_there = tt;
+    kept_there = keeps;
+  };
 })
 
 pub loop-levels-smaller : goal.loop-levels-smaller

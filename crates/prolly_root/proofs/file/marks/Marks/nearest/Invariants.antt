@@ -1,5 +1,5 @@
 use Rattle.std.proofs.Common.{◌≤◌}
-use Rattle.prolly_look_up.specs.Content.{Content}
+use Rattle.prolly_root.specs.ChunkFile.{ChunkFile}
 use Rattle.prolly_root.specs.Marks.{AreMarks}
 use Rattle.prolly_root.specs.Walk.{IsBehind, IsWalk}
 use Rattle.prolly_root.proofs.file.marks.Marks.nearest.Given as goal
@@ -7,7 +7,7 @@ use Rattle.prolly_root.proofs.file.marks.Marks.nearest.Given as goal
 abbrev pub invariant-loop-mark : goal.invariant-loop-mark
 invariant-loop-mark l = record {
   near : l.nearest.count ≤ l.number;
-  reached : (content : Content) → AreMarks content l.self →
-      IsWalk content l.first → IsWalk content l.nearest.walk ×
-      IsBehind content l.level l.first.number l.nearest.count l.nearest.walk.number;
+  reached : (file : ChunkFile) → AreMarks file l.self →
+      IsWalk file l.first → IsWalk file l.nearest.walk ×
+      IsBehind file l.level l.first.number l.nearest.count l.nearest.walk.number;
 }

@@ -1,5 +1,5 @@
 use Rattle.std.proofs.Common.{◌≤◌, ◌-◌, Ok}
-use Rattle.prolly_look_up.specs.Content.{Content}
+use Rattle.prolly_root.specs.ChunkFile.{ChunkFile}
 use Rattle.prolly_root.specs.Subtree.{HasChunksOf, KeepsLastChild}
 use Rattle.prolly_root.specs.Walk.{HasRead, IsBehind, IsWalk}
 use Rattle.prolly_root.proofs.file.subtree.Subtree.child.Given as goal
@@ -8,12 +8,12 @@ abbrev pub invariant-loop-count : goal.invariant-loop-count
 invariant-loop-count g l = record {
   near : l.count ≤ l.number;
   read : HasRead (g.D.Device.seen l.initial.device) (g.D.Device.seen l.device) (Ok (tt {0}));
-  reached : (content : Content) →
-      HasChunksOf (g.D.Device.seen l.initial.device) l.marks content →
-      KeepsLastChild content l.level l.initial.self.top.below l.initial.self.last →
-      IsWalk content l.initial.self.top.below →
-      IsWalk content l.walk ×
-      IsBehind content l.level l.initial.self.top.below.number l.count l.walk.number;
+  reached : (file : ChunkFile) →
+      HasChunksOf (g.D.Device.seen l.initial.device) l.marks file →
+      KeepsLastChild file l.level l.initial.self.top.below l.initial.self.last →
+      IsWalk file l.initial.self.top.below →
+      IsWalk file l.walk ×
+      IsBehind file l.level l.initial.self.top.below.number l.count l.walk.number;
 }
 
 abbrev pub decreases-loop-count : goal.decreases-loop-count

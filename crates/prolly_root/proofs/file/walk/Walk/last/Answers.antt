@@ -1,28 +1,36 @@
-use Rattle.std.proofs.Common.{◌≡◌, length, Ok, refl, arith, subst}
-use Rattle.prolly_look_up.specs.Content.{chunks_of}
+use Rattle.std.proofs.Common.{◌∙◌, Ok, inl, inr, refl, subst, sym}
 use Rattle.prolly_root.specs.Walk.{GoesOver}
-use Rattle.prolly_root.proofs.Walking.{CameTo, holds_still, some_chunk}
+use Rattle.prolly_root.proofs.Descending.{handed_on}
+use Rattle.prolly_root.proofs.Walking.{CameTo, end_told, holds_chunks_still, no_chunk}
 use Rattle.prolly_root.proofs.file.walk.Walk.last.Goals as goal
 
 pub loop-frame-init : goal.loop-frame-init
 loop-frame-init g c = record {
   read = (λ honest. (honest, refl), refl);
-  came = λ content holds at. (
+  came = λ file holds at first. (
     at,
-    refl,
-    c.begin-marks.ensures.runs content,
-    c.begin-marks.ensures.marks content at,
+    first,
+    c.begin-marks.ensures.runs file,
+    c.begin-marks.ensures.marks file at,
   );
 }
 
+pub returns-in_err-frame-clause-last : goal.returns-in_err-frame-clause-last
+returns-in_err-frame-clause-last g c file holds at first =
+    let before = c.loop-frame.invariant in
+    let came = before.came file holds at first in
+    rw (handed_on c.in_err-frame.field-0.0 c.from_residual.result c.from_residual.ensures)
+    (elim (c.in_err-frame.ensures.goes file (holds_chunks_still before.read.0 holds) came.0) [
+      | inl only ↦ inl only
+      | inr told ↦ inr (end_told file told.1)
+    ])
+
 pub returns-in-None-clause-last : goal.returns-in-None-clause-last
-returns-in-None-clause-last g c content holds at first =
-    let from = c.args.self.number in
-    let number = c.loop-frame.self.number in
-    let came = c.loop-frame.invariant.came content holds at in
-    let none : number ≡ from = subst (CameTo content from number) c.in-None.is came.1 in
-    let all : number ≡ length (chunks_of content) =
-    subst (λ next. GoesOver content number c.next.new.self (Ok next)) c.in_default.is
-    (c.in_ok-frame.ensures.goes content (holds_still
-    c.loop-frame.invariant.read.0 holds) came.0) in
-    absurd (omega (arith, some_chunk content, none, all, first))
+returns-in-None-clause-last g c file holds at first =
+    let before = c.loop-frame.invariant in
+    let came = before.came file holds at first in
+    let none = subst (CameTo file c.loop-frame.self.number) c.in-None.is came.1 in
+    let ends = subst (λ next. GoesOver file c.loop-frame.self.number c.next.new.self (Ok next))
+    c.in_default.is (c.in_ok-frame.ensures.goes file (holds_chunks_still before.read.0 holds)
+    came.0) in
+    inr (no_chunk file (sym none ∙ ends.0) ends.1)
