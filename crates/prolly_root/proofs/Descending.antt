@@ -285,7 +285,7 @@ module _ {S T : Type 0} {goes_over : S → ChunkFile → Type 0}
       LooksUpIn goes_over stands before after sought old mid (Ok there) →
       LooksUpIn goes_over stands before after sought old new result
   hands_on_in (Ok value) result ok err looked = rw (ok.0, ok.1)
-      (record { kept = looked.kept; tells = λ file over is. tt; goes = looked.goes })
+      (record { kept = looked.kept; tells = looked.tells; goes = looked.goes })
   hands_on_in {new = new} (Err refused) result ok err looked = rw err.0 (record {
     kept = λ file over is. keeps_none_in err.1 (looked.kept file over is);
     tells = λ file over is. inl (inl refl);

@@ -4,7 +4,7 @@ use Rattle.std.proofs.Common.{Ok, Err, refl, sym, ap, subst}
 use Rattle.std.specs.List.{AllByRecursion}
 use Rattle.prolly_look_up.specs.Kinds.{Entries, kind_of}
 use Rattle.prolly_look_up.specs.Kinds.Entries.{Leaf, Node}
-use Rattle.prolly_look_up.specs.Sought.{Sought, IsChildOf, child_sought, sought_of}
+use Rattle.prolly_look_up.specs.Sought.{EndsAt, Sought, IsChildOf, child_sought, sought_of}
 use Rattle.prolly_look_up.specs.Way.{FallsTo, IsNamed, level_of}
 use Rattle.prolly_look_up.specs.declared.sought.ChildSought.{ChildSought}
 use Rattle.prolly_look_up.specs.declared.step.Due.{Due}
@@ -12,7 +12,7 @@ use Rattle.prolly_entry.specs.declared.version.Version.{Version}
 use Rattle.prolly_root.specs.ChunkFile.{ChunkFile}
 use Rattle.prolly_root.specs.ChunkSource.{FindsChild}
 use Rattle.prolly_root.specs.Descent.{GoesOnAt, IsAt, IsAtDue, IsDueAt, IsKeptOf}
-use Rattle.prolly_root.specs.LookUpFault.{GoesOnIn, HasDue, LeadsTo, MayStop, MayTell, Standing}
+use Rattle.prolly_root.specs.LookUpFault.{ComesToEnd, GoesOnIn, HasDue, LeadsTo, MayStop, MayTell, Standing}
 use Rattle.prolly_root.specs.LookUpFault.{StepsTo, at_root, chunk_of}
 use Rattle.prolly_root.specs.Walk.{IsBehind, IsNth}
 use Rattle.prolly_root.specs.declared.look_up.chunk_on_way.ChunkOnWay.{ChunkOnWay}
@@ -141,6 +141,20 @@ module _ {T : Type 0} (stands : ChunkFile → T → ℕ → ℕ → Type 0) (ver
           (subst (IsNamed version chunk.reference.0) there.is is.is.named);
       falls = subst (λ above. FallsTo above (chunk_of file c.at)) (sym c.due_at.above)
           (subst (FallsTo due.above) there.is is.falls);
+    }
+
+    -- at which it ends
+    pub comes_to_end : HasDue version file c.at → {chunk : ChunkOnWay T} →
+        IsAt stands file c.at chunk →
+        EndsAt (sought_of due.sought) (kind_of version chunk.chunk.items) →
+        ComesToEnd version file root sought
+    comes_to_end due_there {chunk = chunk} there ends = record {
+      steps = c.steps;
+      last = c.at;
+      leads = c.leads;
+      due = due_there;
+      ends = subst (λ s. EndsAt s (kind_of version (chunk_of file c.at))) (sym c.due_at.sought)
+          (subst (λ chunk. EndsAt (sought_of due.sought) (kind_of version chunk)) there.is ends);
     }
 
     -- one step further

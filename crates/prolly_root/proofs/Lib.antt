@@ -18,3 +18,7 @@ pub mod Marking
 pub mod Sources
 -- Going down in a chunk file of any bytes, from where a look-up stands to where it stands next.
 pub mod FaultSteps
+-- That any bytes are cut into frames in one way.
+pub mod OneCut
+-- That a look-up in a chunk file has one fault, and none where it comes to an end.
+pub mod OneFault

@@ -2,10 +2,11 @@
 -- it before a chunk is read. (This project's format.)
 use Rattle.std.specs.Int.{w64, from_be_bytes}
 use Rattle.std.specs.List.{AllByRecursion, flat_map}
-use Rattle.std.specs.Prelude.{◌≡◌, ℕ, ◌^◌, ◌<◌, ◌&&◌, ◌==◌, not, nat_lt, true, List, [], ◌∷◌, ◌++◌}
+use Rattle.std.specs.Prelude.{◌≡◌, All, ℕ, ◌^◌, ◌<◌, ◌&&◌, ◌==◌, not, nat_lt, true, List, [], ◌∷◌, ◌++◌}
 use Rattle.std.specs.Prelude.{drop, get_or, length, take, slice_index, option_map, unwrap_or, Option}
 use Rattle.std.specs.Prelude.{Some, None, if◌then◌else◌}
 use Rattle.prolly_look_up.specs.Content.{chunks_of, Content}
+use Rattle.prolly_entry.specs.Byte.{IsByte}
 use Rattle.prolly_entry.specs.Cut.{sha512_cut}
 use Rattle.prolly_entry.specs.Overlay.{or_else}
 use Rattle.prolly_entry.specs.declared.version.Version.{Version}
@@ -119,3 +120,12 @@ file_fault version file = or_else (header_or_version_fault version file) (frames
 -- What is told where a chunk is looked for behind the last one.
 abbrev pub fault_behind : ChunkFile → RootFault
 fault_behind file = unwrap_or (fault_at_end file) roots.Missing
+
+-- ---- that any bytes are cut into frames
+
+-- Law: any bytes, fewer than 2 ^ 64, are those of a file that is cut into its frames, and of one only.
+pub record FilesAreCut : Type 0 where
+  pub some : (bytes : List ℕ) → All IsByte bytes → length bytes < 2 ^ 64 →
+      (file : ChunkFile) × (file.bytes ≡ bytes) × IsCut file
+  pub one : (file other : ChunkFile) → IsCut file → IsCut other → file.bytes ≡ other.bytes →
+      file ≡ other

@@ -1,9 +1,10 @@
 -- Why a look-up in a chunk file of any bytes finds no answer. (This project's rules.)
 use Rattle.std.specs.Prelude.{◌≡◌, ◌-◌, ◌⊎◌, ℕ, List, [], ◌∷◌, ◌++◌, length, Option, Some, None}
+use Rattle.std.specs.Prelude.{MatchResult, Result}
 use Rattle.prolly_look_up.specs.Entries.{Child}
 use Rattle.prolly_look_up.specs.Kinds.{kind_of}
 use Rattle.prolly_look_up.specs.Kinds.Entries.{Node}
-use Rattle.prolly_look_up.specs.Sought.{Sought, child_sought}
+use Rattle.prolly_look_up.specs.Sought.{EndsAt, Sought, child_sought}
 use Rattle.prolly_look_up.specs.Step.{IsFlawedChunk}
 use Rattle.prolly_look_up.specs.Way.{FallsTo, IsNamed, level_of}
 use Rattle.prolly_look_up.specs.declared.step.ChunkFlaw.{ChunkFlaw}
@@ -121,7 +122,33 @@ pub record IsLookUpFault (version : Version) (file : ChunkFile) (root : List ℕ
   pub leads : LeadsTo version file (at_root file root sought) steps last
   pub stops : StopsWith version file last fault
 
+-- The look-up comes down to a chunk at which it ends.
+pub record ComesToEnd (version : Version) (file : ChunkFile) (root : List ℕ) (sought : Sought)
+    : Type 0 where
+  pub steps : List Standing
+  pub last : Standing
+  pub leads : LeadsTo version file (at_root file root sought) steps last
+  pub due : HasDue version file last
+  pub ends : EndsAt last.sought (kind_of version (chunk_of file last))
+
 -- Or memory was refused, or a read failed.
 abbrev pub MayTell : Version → ChunkFile → List ℕ → Sought → RootFault → Type 0
 MayTell version file root sought fault =
     MayFail fault ⊎ IsLookUpFault version file root sought fault
+
+-- A look-up has an answer where it comes to an end, and else tells its fault.
+abbrev pub TellsWay : {R : Type 0} → Version → ChunkFile → List ℕ → Sought → Result R RootFault →
+    Type 0
+TellsWay version file root sought result = MatchResult result
+    (λ value. ComesToEnd version file root sought) (MayTell version file root sought)
+
+-- ---- that it is one
+
+-- Law: a look-up in a file has one fault, and none where it comes to an end.
+pub record LookUpsTellOne : Type 0 where
+  pub one : (version : Version) (file : ChunkFile) (root : List ℕ) (sought : Sought)
+      (fault other : RootFault) → IsLookUpFault version file root sought fault →
+      IsLookUpFault version file root sought other → fault ≡ other
+  pub none : (version : Version) (file : ChunkFile) (root : List ℕ) (sought : Sought)
+      (fault : RootFault) → ComesToEnd version file root sought →
+      IsLookUpFault version file root sought fault → ⊥

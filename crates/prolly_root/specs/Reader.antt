@@ -10,7 +10,7 @@ use Rattle.prolly_tree.specs.Tree.{Tree}
 use Rattle.prolly_root.specs.ChunkFile.{ChunkFile}
 use Rattle.prolly_root.specs.ChunkSource.{GoesOverStill}
 use Rattle.prolly_root.specs.Descent.{IsKeptOf, StandsAt, StandsInPlace, chunks_on_way}
-use Rattle.prolly_root.specs.LookUpFault.{MayTell}
+use Rattle.prolly_root.specs.LookUpFault.{TellsWay}
 use Rattle.prolly_root.specs.RootFault.{MayFail, TellsReads}
 use Rattle.prolly_root.specs.declared.look_up.chunk_on_way.ChunkOnWay.{ChunkOnWay}
 use Rattle.prolly_root.specs.declared.root_fault.RootFault.{RootFault}
@@ -63,15 +63,16 @@ pub record IsReaderIn {T : Type 0} (stands : ChunkFile → T → ℕ → ℕ →
   pub top : stands file reader.top (length file.chunks - 1) 0
   pub levels : AllByRecursion (IsKeptOf stands file) reader.levels
 
--- A look-up in a source that goes over a chunk file of any bytes tells the first fault on its way
--- down, but for want of memory or a failed read. The reader is still one of the file.
+-- A look-up in a source that goes over a chunk file of any bytes has an answer where it comes to an
+-- end, and else tells the first fault on its way down, but for want of memory or a failed read. The
+-- reader is still one of the file.
 pub record LooksUpIn {S T R : Type 0} (goes_over : S → ChunkFile → Type 0)
     (stands : ChunkFile → T → ℕ → ℕ → Type 0) (before after : S) (sought : Sought)
     (old new : ReaderView T) (result : Result R RootFault) : Type 0 where
   pub kept : (file : ChunkFile) → goes_over before file → IsReaderIn stands file old →
       IsReaderIn stands file new
   pub tells : (file : ChunkFile) → goes_over before file → IsReaderIn stands file old →
-      IfErr result (MayTell old.version file old.root sought)
+      TellsWay old.version file old.root sought result
   pub goes : GoesOverStill goes_over before after
 
 -- These are the first pairs, at most so many, of those that a look-up of the key from the root of

@@ -1,5 +1,7 @@
-//! Laws of proofs. Each is the contract of a function that does nothing: to call it is to know the
+//! Laws of proofs, and of which fault is told. Each is the contract of a function that does nothing: to call it is to know the
 //! law, and to prove the crate is to prove it.
+ghost use Rattle.prolly_root.specs.ChunkFile.{FilesAreCut};
+ghost use Rattle.prolly_root.specs.LookUpFault.{LookUpsTellOne};
 ghost use Rattle.prolly_root.specs.ProofFile.{ProofsAreOne, ProofsAreRight, ProofsSayOne};
 
 use prolly_look_up::laws::ways_are_right;
@@ -14,3 +16,10 @@ pub fn proofs_are_right()
 {
     ways_are_right();
 }
+
+/// Any bytes are a chunk file that is cut into frames in one way. A look-up in it has one fault, and
+/// none where it comes to an end.
+pub fn faults_are_one()
+    ensures cut { FilesAreCut }
+    ensures told { LookUpsTellOne }
+{}

@@ -7,7 +7,7 @@ ghost use Rattle.prolly_root.specs.ChunkFile.{ChunkFile};
 ghost use Rattle.prolly_root.specs.ChunkSource.{GoesOverStill, HasAsked};
 ghost use Rattle.prolly_root.specs.Descent.{IsDescent, IsKeptOf, IsTested, StandsAt};
 ghost use Rattle.prolly_root.specs.Descent.{StandsInPlace, chunks_on_way};
-ghost use Rattle.prolly_root.specs.LookUpFault.{MayTell};
+ghost use Rattle.prolly_root.specs.LookUpFault.{ComesToEnd, MayTell};
 ghost use Rattle.prolly_root.specs.RootFault.{IsOrFails, MayFail};
 
 use crate::chunk_source::ChunkSource;
@@ -64,7 +64,8 @@ pub(crate) fn go_down<'a, T: Copy + Drop, S: ChunkSource<Place = T>>(
     ensures tells { (file : ChunkFile) → S.goes_over source.old file →
         S.stands file top (length file.chunks - 1) 0 →
         AllByRecursion (IsKeptOf S.stands file) kept.items → IsOrFails (λ descent.
-        AllByRecursion (IsKeptOf S.stands file) descent.levels.items)
+        AllByRecursion (IsKeptOf S.stands file) descent.levels.items ×
+        ComesToEnd version file root.now.0 (sought_of sought.entry))
         (MayTell version file root.now.0 (sought_of sought.entry)) result }
     ensures goes { GoesOverStill S.goes_over source.old source.new }
     ensures asked { HasAsked S.has S.failures source.old source.new result }

@@ -9,7 +9,7 @@ use Rattle.prolly_root.specs.LookUpFault.{at_root}
 use Rattle.prolly_root.specs.declared.root_fault.RootFault.TheVariants.{Memory}
 use Rattle.prolly_root.proofs.Descending.{Descended, asked_on, handed_on, less_room, next_kept}
 use Rattle.prolly_root.proofs.Descending.{one_more, one_passed, way_ends}
-use Rattle.prolly_root.proofs.FaultSteps.{at_kept, comes_on, has_due, stops}
+use Rattle.prolly_root.proofs.FaultSteps.{at_kept, comes_on, comes_to_end, has_due, stops}
 use Rattle.prolly_root.proofs.look_up.descent.go_down.Goals as goal
 
 pub chunk_at-requires : goal.chunk_at-requires
@@ -133,10 +133,14 @@ returns-in-End-clause-tells g c file goes top keeps =
     (next_kept P _ _ _ c.next.ensures.items come.kept_there).0 come.due_at in
     let due = has_due stands c.args.version file _ _ come at.is there in
     let later = c.in_ok-onward.ensures.tells file come.at (at.goes file (before.goes file goes)) there
-    due come.due_at.sought in
-    subst (AllByRecursion P) (sym c.in_ok-keep.ensures)
-    (all_append P c.loop-levels.levels.items (c.step.new.self ∷ []) come.met_there
-    (at_kept later.0, tt))
+    due come.due_at.sought in (
+      subst (AllByRecursion P) (sym c.in_ok-keep.ensures)
+          (all_append P c.loop-levels.levels.items (c.step.new.self ∷ []) come.met_there
+          (at_kept later.0, tt)),
+      comes_to_end stands c.args.version file _ _ come due there
+          (subst (IsOnward c.args.version (sought_of c.loop-levels.due.sought)
+          c.in_ok-chunk.chunk.chunk.items) c.in-End.is c.in_ok-onward.ensures.is),
+    )
 
 pub returns-in-End-clause-goes : goal.returns-in-End-clause-goes
 returns-in-End-clause-goes g c file goes = c.in_ok-onward.ensures.goes file

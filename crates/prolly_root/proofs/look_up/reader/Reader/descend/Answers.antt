@@ -1,7 +1,7 @@
 use Rattle.std.proofs.Common.{ap, rules, subst, sym}
 use Rattle.prolly_look_up.specs.Sought.{sought_of}
 use Rattle.prolly_root.specs.Descent.{IsWayDown, chunks_on_way}
-use Rattle.prolly_root.specs.LookUpFault.{MayTell}
+use Rattle.prolly_root.specs.LookUpFault.{ComesToEnd, MayTell}
 use Rattle.prolly_root.specs.Reader.{IsReaderIn, IsReaderOf}
 use Rattle.prolly_root.proofs.Descending.{look_up_fails, look_up_in_fails}
 use Rattle.prolly_root.proofs.look_up.reader.Reader.descend.Goals as goal
@@ -52,10 +52,14 @@ returns-clause-tells g c =
           let opened = subst (IsReaderIn g.S.ChunkSource.stands file) (sym view) reader in
           record {
             top = opened.top;
-            levels = c.in_ok-descent.ensures.tells file goes opened.top
-                (rw c.replace-kept.ensures.value opened.levels);
+            levels = (c.in_ok-descent.ensures.tells file goes opened.top
+                (rw c.replace-kept.ensures.value opened.levels)).0;
           };
-      tells = λ file goes reader. tt;
+      tells = λ file goes reader.
+          let opened = subst (IsReaderIn g.S.ChunkSource.stands file) (sym view) reader in
+          subst (λ r. ComesToEnd r.version file r.root (sought_of c.args.sought)) view
+          (c.in_ok-descent.ensures.tells file goes opened.top
+          (rw c.replace-kept.ensures.value opened.levels)).1;
       goes = c.in_ok-descent.ensures.goes;
     }
 
