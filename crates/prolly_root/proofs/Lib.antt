@@ -4,6 +4,10 @@ pub mod Passing
 pub mod OneProof
 -- Going down from the root, from each chunk to the one that it refers to.
 pub mod Descending
+-- The chunks of a tree, and the bytes of a file before and behind a frame.
+pub mod FileBytes
+-- What is told of the first bytes of a frame.
+pub mod Starts
 -- Going over the frames of a file.
 pub mod Walking
 -- The last bytes of a chunk file.

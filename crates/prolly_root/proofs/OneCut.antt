@@ -13,7 +13,7 @@ use Rattle.prolly_entry.specs.Byte.{IsByte}
 use Rattle.prolly_io.specs.Frame.{framed, IsSmall}
 use Rattle.prolly_io.specs.FrameLaws.{one_front}
 use Rattle.prolly_root.specs.ChunkFile.{BeginsNoFrame, ChunkFile, IsCut, IsSome}
-use Rattle.prolly_root.proofs.Walking.{IsBytes, all_bytes, bytes_taken, few_in_eight}
+use Rattle.prolly_root.proofs.Starts.{IsBytes, all_bytes, bytes_taken, few_in_eight}
 
 -- ---- in one way
 

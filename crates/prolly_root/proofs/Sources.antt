@@ -22,7 +22,8 @@ use Rattle.prolly_root.specs.declared.file.marks.Marks.{Marks}
 use Rattle.prolly_root.specs.declared.file.subtree.Place.{Place}
 use Rattle.prolly_root.specs.declared.file.subtree.Subtree.{Subtree}
 use Rattle.prolly_root.specs.declared.root_fault.RootFault.{RootFault}
-use Rattle.prolly_root.proofs.Walking.{holds_chunks_still, no_frames_fault, root_length, some_chunk}
+use Rattle.prolly_root.proofs.FileBytes.{root_length, some_chunk}
+use Rattle.prolly_root.proofs.Walking.{holds_chunks_still, no_frames_fault}
 
 -- ---- a lawful file
 

@@ -21,8 +21,7 @@ use Rattle.prolly_root.specs.Walk.{chunks_of_tree, IsFrame, IsWalk}
 use Rattle.prolly_root.specs.declared.file.subtree.Place.{Place}
 use Rattle.prolly_root.specs.declared.root_fault.RootFault.{RootFault}
 use Rattle.prolly_root.specs.lemmas.Places.{level_is}
-use Rattle.prolly_root.proofs.Walking.{IsLower, all_lower, top_last, apart, behind, front}
-use Rattle.prolly_root.proofs.Walking.{front_length}
+use Rattle.prolly_root.proofs.FileBytes.{IsLower, all_lower, top_last, apart, behind, front, front_length}
 use Rattle.prolly_io.specs.Frame.{framed}
 use Rattle.prolly_root.specs.ChunkSource.{IsChildNumber, root_level, root_tree}
 use Rattle.prolly_root.specs.declared.file.walk.Frame.{Frame}

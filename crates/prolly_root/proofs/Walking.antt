@@ -1,43 +1,37 @@
 -- Going over the frames of a file.
 use Rattle.std.proofs.Common.{◌≡◌, ℕ, zero, suc, ◌+◌, ◌^◌, ◌<◌, ◌≤◌, List, [], ◌∷◌, ◌++◌, length}
-use Rattle.std.proofs.Common.{take, drop, map, get_or, inl, inr, ◌⊎◌, Result, Ok, Err, refl, sym, ap}
+use Rattle.std.proofs.Common.{take, drop, get_or, inl, inr, ◌⊎◌, Result, Ok, Err, refl, sym, ap}
 use Rattle.std.proofs.Common.{◌∙◌, subst, arith, append_assoc, Option, Some, None, take-append-drop}
 use Rattle.std.specs.Int.{w64, from_be_bytes, to_be_bytes}
 use Rattle.std.specs.List.{AllByRecursion, flat_map}
-use Rattle.std.proofs.Math.Seq.{drop-append_seam, drop-cons}
-use Rattle.std.proofs.lemmas.Bool.{cases_eq, cases_lt, eq-eqb, le-ltb, lt-ltb, ne_eqb}
-use Rattle.std.proofs.lemmas.List.{drop_all, get_or-take, get_or_past, length-append, length-take}
-use Rattle.std.proofs.lemmas.List.{length-take-le, map-append, take-take, take_all, take_more}
-use Rattle.std.proofs.lemmas.Nat.{be_bytes_8, from_be_bytes-to_be_bytes_8}
+use Rattle.std.proofs.Math.Seq.{drop-cons}
+use Rattle.std.proofs.lemmas.Bool.{cases_lt, eq-eqb, le-ltb, lt-ltb, ne_eqb}
+use Rattle.std.proofs.lemmas.List.{drop_all, length-append}
+use Rattle.std.proofs.lemmas.List.{length-take-le, take_more}
+use Rattle.std.proofs.lemmas.Nat.{from_be_bytes-to_be_bytes_8}
 use Rattle.std.proofs.lemmas.List.Elements.{All-from_recursion}
 use Rattle.std.proofs.lemmas.List.Concat.{flat_map-append}
-use Rattle.prolly_look_up.specs.Content.{chunks_of, Content, IsFileOf}
+use Rattle.prolly_look_up.specs.Content.{Content, IsFileOf}
 use Rattle.prolly_look_up.specs.Way.{level_of}
-use Rattle.prolly_entry.specs.Cut.{sha512_cut}
-use Rattle.prolly_entry.specs.declared.version.Version.{Version}
-use Rattle.prolly_entry.specs.lemmas.Lists.{all_append, all_back}
-use Rattle.prolly_entry.specs.lemmas.Spellings.{reference_length}
+use Rattle.prolly_entry.specs.lemmas.Lists.{all_back}
 use Rattle.prolly_io.specs.Frame.{framed}
-use Rattle.prolly_io.specs.FrameLaws.{frames_bytes}
 use Rattle.prolly_io.specs.declared.format.frame.FrameStart.{FrameStart}
 use Rattle.prolly_io.specs.declared.format.frame.FrameStart.TheVariants.{Chunk as ChunkStart, End}
-use Rattle.prolly_tree.specs.Chunk.{Chunk, chunk_of, chunks, post_order}
-use Rattle.prolly_tree.specs.File.{root_reference}
-use Rattle.prolly_tree.specs.Tree.{Tree, bytes_of, tree_of}
 use Rattle.prolly_io.specs.Device.{DeviceView}
 use Rattle.prolly_root.specs.ChunkFile.{ChunkFile, HoldsChunks, IsCut, IsSome, nth_in}
-use Rattle.prolly_root.specs.ChunkFile.{chunk_file, end_fault, fault_at_end, frames_fault}
+use Rattle.prolly_root.specs.ChunkFile.{end_fault, fault_at_end, frames_fault}
 use Rattle.prolly_root.specs.ChunkFile.{no_chunk_fault}
-use Rattle.prolly_entry.specs.Byte.{IsByte}
 use Rattle.prolly_entry.specs.Overlay.{or_else}
-use Rattle.std.specs.Prelude.{All, IfErr, IfOk}
+use Rattle.std.specs.Prelude.{IfErr, IfOk}
 use Rattle.prolly_root.specs.Walk.{GoesOver, HoldsFile, IsFrame, IsStartOf, IsWalk, NoneBetween}
-use Rattle.prolly_root.specs.Walk.{StartsAs, StaysSame, chunks_below, chunks_of_tree, offset_of}
+use Rattle.prolly_root.specs.Walk.{StartsAs, StaysSame, offset_of}
 use Rattle.prolly_root.specs.RootFault.{OnlyRead}
 use Rattle.prolly_root.specs.declared.root_fault.RootFault.{RootFault}
 use Rattle.prolly_root.specs.declared.root_fault.RootFault.TheVariants as roots
 use Rattle.prolly_root.specs.declared.file.walk.Frame.{Frame}
 use Rattle.prolly_root.specs.declared.file.walk.Walk.{Walk}
+use Rattle.prolly_root.proofs.FileBytes.{how_long, behind, there}
+use Rattle.prolly_root.proofs.Starts.{TellsStart, starts_as}
 
 -- ---- a device between two calls
 
@@ -71,224 +65,6 @@ reads_on old mid new tells read more = (
       (later.0, later.1 ∙ kept.1),
   subst tells read.1 more.1,
 )
-
--- ---- the chunks of a tree
-
-abbrev pub bytes_in : List Chunk → List (List ℕ)
-bytes_in cs = map (λ c. c.bytes) cs
-
--- the top is the last of them
-pub top_last : (version : Version) (level : ℕ) (t : Tree level) → chunks_of_tree version level t ≡
-    chunks_below version level t ++ bytes_of version level t ∷ []
-top_last version zero leaf = refl
-top_last version (suc level) ts = map-append (λ c. c.bytes) (flat_map (post_order version level) ts)
-    (chunk_of version (suc level) ts ∷ [])
-
--- a chunk that has a level, not above this one
-pub record StandsUpTo (level : ℕ) (chunk : List ℕ) : Type 0 where
-  pub some : 0 < length chunk
-  pub up_to : level_of chunk ≤ level
-
-top_up_to : (version : Version) (level : ℕ) (t : Tree level) →
-    StandsUpTo level (bytes_of version level t)
-top_up_to version zero t = record { some = omega arith; up_to = omega arith }
-top_up_to version (suc level) t = record { some = omega arith; up_to = omega arith }
-
-all_weaker : (P Q : List ℕ → Type 0) → ((c : List ℕ) → P c → Q c) → (cs : List (List ℕ)) →
-    AllByRecursion P cs → AllByRecursion Q cs
-all_weaker P Q f [] h = tt
-all_weaker P Q f (c ∷ cs) h = (f c h.0, all_weaker P Q f cs h.1)
-
-module _ (version : Version) where
-  abbrev AllUpTo : ℕ → List Chunk → Type 0
-  AllUpTo level cs = AllByRecursion (StandsUpTo level) (bytes_in cs)
-
-  all_trees : (level : ℕ) →
-      ((t : Tree level) → AllUpTo level (post_order version level t)) →
-      (ts : List (Tree level)) → AllUpTo level (flat_map (post_order version level) ts)
-  all_trees level each [] = tt
-  all_trees level each (t ∷ ts) =
-      let own = post_order version level t in
-      let rest = flat_map (post_order version level) ts in
-      subst (AllByRecursion (StandsUpTo level)) (sym (map-append (λ c. c.bytes) own rest))
-      (all_append (StandsUpTo level) (bytes_in own) (bytes_in rest) (each t)
-      (all_trees level each ts))
-
-  tree_up_to : (level : ℕ) (t : Tree level) → AllUpTo level (post_order version level t)
-  tree_up_to zero t = (top_up_to version zero t, tt)
-  tree_up_to (suc level) ts =
-      let below = flat_map (post_order version level) ts in
-      subst (AllByRecursion (StandsUpTo (suc level)))
-      (sym (map-append (λ c. c.bytes) below (chunk_of version (suc level) ts ∷ [])))
-      (all_append (StandsUpTo (suc level)) (bytes_in below) (bytes_of version (suc level) ts ∷ [])
-      (all_weaker (StandsUpTo level) (StandsUpTo (suc level))
-      (λ c h. record { some = h.some; up_to = omega (arith, h.up_to) }) (bytes_in below)
-      (all_trees level (tree_up_to level) ts))
-      (top_up_to version (suc level) ts, tt))
-
-  -- the chunks below the top stand lower
-  abbrev pub IsLower : ℕ → List ℕ → Type 0
-  IsLower level chunk = level_of chunk < level
-
-  pub all_lower : (level : ℕ) (t : Tree level) →
-      AllByRecursion (IsLower level) (chunks_below version level t)
-  all_lower zero t = tt
-  all_lower (suc level) ts = all_weaker (StandsUpTo level) (IsLower (suc level))
-      (λ c h. omega (arith, h.up_to)) (bytes_in (flat_map (post_order version level) ts))
-      (all_trees level (tree_up_to level) ts)
-
--- no chunk is empty
-all_some : (content : Content) → AllByRecursion (λ c. 0 < length c) (chunks_of content)
-all_some content =
-    let tree = tree_of (sha512_cut content.bits) content.version content.pairs in
-    all_weaker (StandsUpTo tree.level) (λ c. 0 < length c) (λ c h. h.some) (chunks_of content)
-    (tree_up_to content.version tree.level tree.tree)
-
-pub root_length : (content : Content) →
-    length (root_reference (sha512_cut content.bits) content.version content.pairs) ≡ 20
-root_length content =
-    let tree = tree_of (sha512_cut content.bits) content.version content.pairs in
-    reference_length (bytes_of content.version tree.level tree.tree)
-
--- ---- the bytes of a file
-
--- the file of a content is cut into its chunks
-pub is_cut : {bytes : List ℕ} {content : Content} → IsFileOf bytes content →
-    length bytes < 2 ^ 64 → IsCut (chunk_file content)
-is_cut {content = content} f small = record {
-  is = ap (λ x. x ++ (chunk_file content).rest)
-      (frames_bytes (chunks (sha512_cut content.bits) content.version content.pairs));
-  some = all_some content;
-  last = λ chunk more some few is.
-      absurd (omega (arith, ap (λ bytes. get_or bytes 0 0) is));
-  short = subst (λ bytes. length bytes < 2 ^ 64) f.is small;
-}
-
-pub holds_chunks : {device : DeviceView} {content : Content} → HoldsFile device content →
-    HoldsChunks device (chunk_file content)
-holds_chunks holds = record {
-  honest = holds.honest;
-  are = holds.is.is;
-  cut = is_cut holds.is holds.short;
-}
-
-module _ {file : ChunkFile} (f : IsCut file) (n : ℕ) where
-  -- those before the frame of the chunk of the number, and those from there on
-  abbrev pub front : List ℕ
-  front = take 6 file.bytes ++ flat_map framed (take n file.chunks)
-
-  abbrev pub behind : List ℕ
-  behind = flat_map framed (drop n file.chunks) ++ file.rest
-
-  pub apart : file.bytes ≡ front ++ behind
-  apart = sym (take-append-drop 6 file.bytes) ∙ ap (λ x. take 6 file.bytes ++ x)
-      (f.is ∙ ap (λ x. x ++ file.rest) (ap (flat_map framed) (sym (take-append-drop n file.chunks)) ∙
-      flat_map-append framed (take n file.chunks) (drop n file.chunks))) ∙ simp append_assoc
-
-  module _ (header : 6 ≤ length file.bytes) where
-    pub front_length : length front ≡ offset_of file n
-    front_length = omega (
-      arith,
-      header,
-      length-append (take 6 file.bytes) (flat_map framed (take n file.chunks)),
-      length-take-le 6 file.bytes header,
-    )
-
-    -- how much that is
-    pub how_long : length file.bytes ≡
-        offset_of file n + (length (flat_map framed (drop n file.chunks)) + length file.rest)
-    how_long = omega (
-      arith,
-      ap length apart,
-      length-append front behind,
-      front_length,
-      length-append (flat_map framed (drop n file.chunks)) file.rest,
-    )
-
-    pub there : {offset : ℕ} → offset ≡ offset_of file n → drop offset file.bytes ≡ behind
-    there {offset = offset} at = ap (λ p. drop p file.bytes) (at ∙ sym front_length) ∙
-        ap (drop (length front)) apart ∙ drop-append_seam front behind
-
--- ---- what is told of the first bytes of a frame
-
-abbrev pub IsBytes : List ℕ → Type 0
-IsBytes bytes = (i : ℕ) → get_or bytes i 0 < 256
-
-pub bytes_taken : (n : ℕ) (bytes : List ℕ) → IsBytes bytes → IsBytes (take n bytes)
-bytes_taken n bytes h i =
-    elim (cases_lt i n) [
-      | inl lt ↦ rw (get_or-take n bytes i 0 lt) (h i)
-      | inr le ↦ rw (get_or_past (take n bytes) i 0 (omega (arith, length-take n bytes)))
-          (omega arith)
-    ]
-
-pub all_bytes : (bytes : List ℕ) → All IsByte bytes → IsBytes bytes
-all_bytes bytes all i =
-    elim (cases_lt i (length bytes)) [
-      | inl lt ↦ all i 0 lt
-      | inr le ↦ rw (get_or_past bytes i 0 le) (omega arith)
-    ]
-
-pub few_in_eight : (bytes : List ℕ) → IsBytes bytes → from_be_bytes w64 bytes < 2 ^ 64
-few_in_eight bytes h = omega (arith, h 0, h 1, h 2, h 3, h 4, h 5, h 6, h 7)
-
--- what ten bytes tell
-pub record TellsStart (number : ℕ) (bytes : List ℕ) (result : Result FrameStart RootFault) : Type 0
-  where
-    pub are : IsBytes bytes
-    pub ends : (more : List ℕ) → bytes ≡ 0x45 ∷ more → result ≡ Ok End
-    pub begins : (len level : ℕ) → len < 2 ^ 64 →
-        bytes ≡ 0x43 ∷ (to_be_bytes w64 len ++ level ∷ []) → result ≡ Ok (ChunkStart len level)
-    pub empty : bytes ≡ [] → result ≡ Err roots.Truncated
-    pub cut : (more : List ℕ) → bytes ≡ 0x43 ∷ more → length more < 9 →
-        result ≡ Err roots.Truncated
-    pub other : (letter : ℕ) (more : List ℕ) → bytes ≡ letter ∷ more → (letter ≡ 0x45 → ⊥) →
-        (letter ≡ 0x43 → ⊥) → result ≡ Err (roots.Frame number)
-
-module _ {number : ℕ} {result : Result FrameStart RootFault} where
-  -- so much is told of the first ten
-  pub starts_as : (there : List ℕ) → TellsStart number (take 10 there) result →
-      StartsAs number there result
-  starts_as [] tells = subst (StartsAs number []) (sym (tells.empty refl)) (inr refl)
-  starts_as (b ∷ more) tells = by_letter (cases_eq b 0x43) (cases_eq b 0x45)
-    where
-      by_length : b ≡ 0x43 → (length more < 9) ⊎ (9 ≤ length more) →
-          StartsAs number (b ∷ more) result
-      by_length is (inl less) =
-          let all = ap length (take_all 9 more (omega (arith, less))) in
-          subst (StartsAs number (b ∷ more)) (sym (tells.cut (take 9 more)
-          (ap (λ b. b ∷ take 9 more) is) (omega (arith, all, less))))
-          (inr (rw (eq-eqb b 0x43 is, le-ltb 8 (length more) (omega (arith, less))) refl))
-      by_length is (inr enough) =
-          let len = from_be_bytes w64 (take 8 more) in
-          let level = get_or more 8 0 in
-          let eight : to_be_bytes w64 len ≡ take 8 more =
-          be_bytes_8 (take 8 more) len (length-take-le 8 more (omega (arith, enough)))
-          first_eight refl in
-          let nine : take 9 more ≡ to_be_bytes w64 len ++ level ∷ [] =
-          take_more more 8 0 (omega (arith, enough)) ∙ ap (λ x. x ++ level ∷ []) (sym eight) in
-          let all : more ≡ (to_be_bytes w64 len ++ level ∷ []) ++ drop 9 more =
-          sym (take-append-drop 9 more) ∙ ap (λ x. x ++ drop 9 more) nine in
-          subst (StartsAs number (b ∷ more)) (sym (tells.begins len level few
-          (ap (λ b. b ∷ take 9 more) is ∙ ap (λ x. 0x43 ∷ x) nine)))
-          (drop 9 more, few, ap (λ b. b ∷ more) is ∙ ap (λ x. 0x43 ∷ x) (all ∙ simp append_assoc))
-        where
-          first_eight : IsBytes (take 8 more)
-          first_eight = subst IsBytes (take-take 8 9 more (omega arith))
-              (bytes_taken 8 (take 9 more) (λ i. tells.are (suc i)))
-
-          few : from_be_bytes w64 (take 8 more) < 2 ^ 64
-          few = few_in_eight (take 8 more) first_eight
-
-      by_letter : (b ≡ 0x43) ⊎ (b ≡ 0x43 → ⊥) → (b ≡ 0x45) ⊎ (b ≡ 0x45 → ⊥) →
-          StartsAs number (b ∷ more) result
-      by_letter (inl is) end = by_length is (cases_lt (length more) 9)
-      by_letter (inr other) (inl is) = subst (StartsAs number (b ∷ more))
-          (sym (tells.ends (take 9 more) (ap (λ b. b ∷ take 9 more) is)))
-          (more, ap (λ b. b ∷ more) is)
-      by_letter (inr other) (inr none) = subst (StartsAs number (b ∷ more))
-          (sym (tells.other b (take 9 more) refl none other))
-          (inr (rw (ne_eqb b 0x43 other, ne_eqb b 0x45 none) refl))
 
 -- ---- over a frame
 
@@ -602,16 +378,6 @@ no_frames_fault file some ends = by_chunks file.chunks some
 pub end_told : (file : ChunkFile) {fault : RootFault} → fault_at_end file ≡ Some fault →
     frames_fault file ≡ Some fault
 end_told file is = rw is refl
-
--- a file has a chunk
-pub some_chunk : (content : Content) → 0 < length (chunks_of content)
-some_chunk content =
-    let tree = tree_of (sha512_cut content.bits) content.version content.pairs in omega (
-      arith,
-      ap length (top_last content.version tree.level tree.tree),
-      length-append (chunks_below content.version tree.level tree.tree)
-          (bytes_of content.version tree.level tree.tree ∷ []),
-    )
 
 -- ---- to a level
 

@@ -1,4 +1,4 @@
-use Rattle.prolly_root.proofs.Walking.{holds_chunks}
+use Rattle.prolly_root.proofs.FileBytes.{holds_chunks}
 use Rattle.prolly_root.proofs.file.file_chunks.FileChunks.new.Goals as goal
 
 pub returns-clause-has : goal.returns-clause-has

@@ -1,5 +1,6 @@
 use Rattle.std.proofs.Common.{take, drop, ap, subst, ◌∙◌}
-use Rattle.prolly_root.proofs.Walking.{TellsStart, all_bytes, begins_there}
+use Rattle.prolly_root.proofs.Starts.{TellsStart, all_bytes}
+use Rattle.prolly_root.proofs.Walking.{begins_there}
 use Rattle.prolly_root.proofs.file.walk.Walk.start.Goals as goal
 
 pub returns-clause-is : goal.returns-clause-is
