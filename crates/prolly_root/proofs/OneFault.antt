@@ -15,7 +15,7 @@ use Rattle.prolly_entry.specs.Keys.{KeyBelow, Rising, RisingFrom}
 use Rattle.prolly_entry.specs.declared.version.Version.{Version}
 use Rattle.prolly_entry.specs.lemmas.Orders.{less_self, order_trans}
 use Rattle.prolly_root.specs.ChunkFile.{ChunkFile}
-use Rattle.prolly_root.specs.LookUpFault.{ComesToEnd, GoesOnIn, HasDue, IsLookUpFault}
+use Rattle.prolly_root.specs.LookUpFault.{ComesToEnd, GoesOnIn, HasDue, IsFirstFault, IsLookUpFault}
 use Rattle.prolly_root.specs.LookUpFault.{LeadsTo, Standing, StepsTo, StopsWith, chunk_of}
 use Rattle.prolly_root.specs.LookUpFault.{fault_of_flaw}
 use Rattle.prolly_root.specs.Walk.{IsBehind, IsNth}
@@ -214,12 +214,24 @@ module _ (version : Version) (file : ChunkFile) where
       (subst (λ s. LeadsTo version file s others end) (one_step at t s lead.0 leads.0) lead.1)
       stops due ends
 
-pub one_fault : (version : Version) (file : ChunkFile) (root : List ℕ) (sought : Sought)
+some_none : {A : Type 0} {x : A} → Some x ≡ None → ⊥
+some_none e = cc
+
+one_on_way : (version : Version) (file : ChunkFile) (root : List ℕ) (sought : Sought)
     (fault other : RootFault) → IsLookUpFault version file root sought fault →
     IsLookUpFault version file root sought other → fault ≡ other
-one_fault version file root sought fault other f g =
+one_on_way version file root sought fault other f g =
     stops_once version file _ f.steps g.steps f.last g.last fault other f.leads g.leads f.stops
     g.stops
+
+pub one_fault : (version : Version) (file : ChunkFile) (root : List ℕ) (sought : Sought)
+    (fault other : RootFault) → IsFirstFault version file root sought fault →
+    IsFirstFault version file root sought other → fault ≡ other
+one_fault version file root sought fault other (inl f) (inl g) = one_same fault other (sym f ∙ g)
+one_fault version file root sought fault other (inl f) (inr g) = absurd (some_none (sym f ∙ g.0))
+one_fault version file root sought fault other (inr f) (inl g) = absurd (some_none (sym g ∙ f.0))
+one_fault version file root sought fault other (inr f) (inr g) =
+    one_on_way version file root sought fault other f.1 g.1
 
 pub no_fault : (version : Version) (file : ChunkFile) (root : List ℕ) (sought : Sought)
     (fault : RootFault) → ComesToEnd version file root sought →

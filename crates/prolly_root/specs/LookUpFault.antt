@@ -10,7 +10,7 @@ use Rattle.prolly_look_up.specs.Way.{FallsTo, IsNamed, level_of}
 use Rattle.prolly_look_up.specs.declared.step.ChunkFlaw.{ChunkFlaw}
 use Rattle.prolly_look_up.specs.declared.step.ChunkFlaw.TheVariants as flaws
 use Rattle.prolly_entry.specs.declared.version.Version.{Version}
-use Rattle.prolly_root.specs.ChunkFile.{ChunkFile, fault_behind, nth_in}
+use Rattle.prolly_root.specs.ChunkFile.{ChunkFile, fault_behind, file_fault, nth_in}
 use Rattle.prolly_root.specs.RootFault.{MayFail}
 use Rattle.prolly_root.specs.Subtree.{HasNoNth}
 use Rattle.prolly_root.specs.Walk.{IsBehind, IsNth}
@@ -142,13 +142,19 @@ abbrev pub TellsWay : {R : Type 0} → Version → ChunkFile → List ℕ → So
 TellsWay version file root sought result = MatchResult result
     (λ value. ComesToEnd version file root sought) (MayTell version file root sought)
 
+-- What is wrong first with a file for a look-up from the root with this reference: with its header or
+-- its frames, or else on the way.
+abbrev pub IsFirstFault : Version → ChunkFile → List ℕ → Sought → RootFault → Type 0
+IsFirstFault version file root sought fault = (file_fault version file ≡ Some fault) ⊎
+    ((file_fault version file ≡ None) × IsLookUpFault version file root sought fault)
+
 -- ---- that it is one
 
--- Law: a look-up in a file has one fault, and none where it comes to an end.
+-- Law: one fault is the first for a look-up in a file, and none is where it comes to an end.
 pub record LookUpsTellOne : Type 0 where
   pub one : (version : Version) (file : ChunkFile) (root : List ℕ) (sought : Sought)
-      (fault other : RootFault) → IsLookUpFault version file root sought fault →
-      IsLookUpFault version file root sought other → fault ≡ other
+      (fault other : RootFault) → IsFirstFault version file root sought fault →
+      IsFirstFault version file root sought other → fault ≡ other
   pub none : (version : Version) (file : ChunkFile) (root : List ℕ) (sought : Sought)
       (fault : RootFault) → ComesToEnd version file root sought →
       IsLookUpFault version file root sought fault → ⊥
