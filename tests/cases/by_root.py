@@ -369,6 +369,20 @@ def are_of_another_level(place):
             place.answers(answer, refusal(wrong_level(0)))
 
 
+def stand_twice(place):
+    """One chunk stands in two places, and was changed in one of them: who looks up there is told so, whatever was looked up
+    before."""
+    a, changed = leaf(ABC[0]), leaf(ABC[1])
+    root = node(1, (b"a", a), (b"c", a))
+    place.lay(in_prl=assembled([a, changed, root], bytes(20)), first=b"61\n", both=b"61\n63\n")
+    asked = ["get", "--root", reference_text(reference(root)), "in.prl"]
+    found = place.run(*asked, "--keys", "first")
+    place.answers(found, (0, b"61 31\n", b""))
+    status, _, why = refusal(another(1))
+    place.answers(place.run(*asked, "63"), (status, b"", why))
+    place.answers(place.run(*asked, "--keys", "both"), (status, b"61 31\n", why))
+
+
 def fail_to_read(place, call, version):
     """Each call of a kind fails in turn: that is told behind the pairs of the leaves that were read before."""
     kind = Kind(FAR, 0, version)
@@ -561,6 +575,7 @@ def placed_tests():
             yield f"read little, --bits {bits}, format {version}", partial(read_little, bits=bits, version=version)
     for test in (
         are_of_another_level,
+        stand_twice,
         take_no_longer_for_many_children,
         print_as_they_go,
         are_fifos,

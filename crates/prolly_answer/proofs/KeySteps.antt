@@ -1,7 +1,8 @@
 -- Looking up key after key, and writing the line of each.
 use Rattle.std.proofs.Common.{◌≡◌, ℕ, ◌+◌, ◌<◌, ◌≤◌, inl, inr, true, List, [], ◌∷◌, ◌++◌, length}
 use Rattle.std.proofs.Common.{map, take, drop, Option, Ok, Err, refl, sym, ap, ◌∙◌, subst}
-use Rattle.std.proofs.Common.{append_assoc, append-nil, get_or}
+use Rattle.std.proofs.Common.{append_assoc, append-nil, get_or, suc}
+use Rattle.std.proofs.Math.Seq.{drop-cons}
 use Rattle.std.proofs.lemmas.List.{drop_all, map-append, take-append-drop, take_more}
 use Rattle.std.proofs.lemmas.List.Concat.{flat_map-append}
 use Rattle.prolly_entry.specs.Pair.{Pair}
@@ -166,7 +167,8 @@ module _ {W : Type 0} (seen : W → SinkView) (version : Version) (root : List �
     took = took_none seen old;
   }
 
-  module _ (may : RootFault → Type 0) (i : ℕ) (old mid : W) (a : IsAsking i old mid) where
+  module _ (may : List (List ℕ) → RootFault → Type 0) (i : ℕ) (old mid : W)
+      (a : IsAsking i old mid) where
     abbrev Told : W → Outcome → Type 0
     Told new outcome =
         AreFoundByRoot may version root notation (map f xs) (TakesFor seen old new) outcome
@@ -174,15 +176,19 @@ module _ {W : Type 0} (seen : W → SinkView) (version : Version) (root : List �
     behind_first : map f xs ≡ keys_of a.records ++ map f (drop i xs)
     behind_first = keys_split f xs i ∙ ap (λ ks. ks ++ map f (drop i xs)) (sym a.keys_are)
 
-    -- a look-up has a fault
-    pub asking_fails : (fault : RootFault) → may fault → Told mid (Err (Root fault))
-    asking_fails fault lawful = record {
+    -- the look-up of the next key has a fault
+    pub asking_fails : (x : X) → i < length xs → x ≡ get_or xs i x → (key : List ℕ) → key ≡ f x →
+        (fault : RootFault) → ((left : List (List ℕ)) → may (key ∷ left) fault) →
+        Told mid (Err (Root fault))
+    asking_fails x within is key key_is fault lawful = record {
       records = a.records;
       ways = a.ways;
       found = a.found;
       left = map f (drop i xs);
       keys_are = behind_first;
-      fits = lawful;
+      fits = subst (λ keys. may keys fault) (ap (λ k. k ∷ map f (drop (suc i) xs))
+          (key_is ∙ ap f is) ∙ ap (map f) (sym (drop-cons xs i x within)))
+          (lawful (map f (drop (suc i) xs)));
       took = a.took.all;
     }
 
@@ -246,17 +252,17 @@ way_found now begun at root key again way value shown v r k s found =
     (subst (λ x. IsWay now at x way shown) k (subst (IsWay now at key way) s found)))
 
 -- what fits by one account of faults does by another
-fits_may : (may also : RootFault → Type 0) (left : List (List ℕ)) (outcome : Outcome) →
-    ((fault : RootFault) → may fault → also fault) → FitsKeys may left outcome →
-    FitsKeys also left outcome
+fits_may : (may also : List (List ℕ) → RootFault → Type 0) (left : List (List ℕ))
+    (outcome : Outcome) → ((fault : RootFault) → may left fault → also left fault) →
+    FitsKeys may left outcome → FitsKeys also left outcome
 fits_may may also left (Ok done) so fits = fits
 fits_may may also left (Err (Root fault)) so fits = so fault fits
 fits_may may also left (Err (Output fault)) so fits = tt
 
 module _ {W : Type 0} (seen : W → SinkView) (version : Version) (root : List ℕ) (notation : Notation)
-    (keys : List (List ℕ)) (may : RootFault → Type 0) where
+    (keys : List (List ℕ)) (may : List (List ℕ) → RootFault → Type 0) where
   -- the root is not found
-  pub keys_refused : (fault : RootFault) (old : W) → may fault →
+  pub keys_refused : (fault : RootFault) (old : W) → may keys fault →
       AreFoundByRoot may version root notation keys (TakesAllFor seen old old) (Err (Root fault))
   keys_refused fault old lawful = record {
     records = [];
@@ -274,13 +280,13 @@ module _ {W : Type 0} (seen : W → SinkView) (version : Version) (root : List �
   }
 
   -- what was written is flushed, and told of the version and the root of the reader
-  pub keys_told : (by : RootFault → Type 0) (v : Version) (r : List ℕ) (old mid new : W)
+  pub keys_told : (by : List (List ℕ) → RootFault → Type 0) (v : Version) (r : List ℕ) (old mid new : W)
       (outcome told : Outcome) →
       AreFoundByRoot by v r notation keys (TakesFor seen old mid) outcome →
       (v ≡ version) × (r ≡ root) →
       ((seen old).is_keeping ≡ true → (seen mid).is_keeping ≡ true) →
       IsSettledAs seen (Output outputs.Write) mid new outcome told →
-      ((fault : RootFault) → by fault → may fault) →
+      ((left : List (List ℕ)) (fault : RootFault) → by left fault → may left fault) →
       AreFoundByRoot may version root notation keys (TakesAllFor seen old new) told
   keys_told by v r old mid new outcome told d is keeping settled so =
       subst (λ v. AreFoundByRoot may v root notation keys (TakesAllFor seen old new) told) is.0
@@ -292,7 +298,7 @@ module _ {W : Type 0} (seen : W → SinkView) (version : Version) (root : List �
         left = d.left;
         keys_are = d.keys_are;
         fits = so_told seen (Output outputs.Write) mid new outcome told settled
-            (FitsKeys may d.left) (fits_may by may d.left outcome so d.fits) tt;
+            (FitsKeys may d.left) (fits_may by may d.left outcome (so d.left) d.fits) tt;
         took = taken_told seen old mid new keeping (found_lines notation d.records) outcome told
             settled d.took;
       }))

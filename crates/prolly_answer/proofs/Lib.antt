@@ -46,3 +46,5 @@ mod ChunkSizes
 mod Sampling
 -- Looking at one source after another.
 mod Peeking
+-- Which fault is told of a chunk file of any bytes: by a reader, and by who opened it.
+pub mod RootFaultSteps

@@ -44,7 +44,7 @@ use Rattle.prolly_answer.specs.declared.answers.diff.ChangeCounts.{ChangeCounts}
 use Rattle.prolly_fault.specs.OutputFault.{told}
 use Rattle.prolly_fault.specs.declared.output_fault.OutputFault.{OutputFault}
 use Rattle.prolly_fault.specs.declared.output_fault.OutputFault.TheVariants as outputs
-use Rattle.prolly_answer.specs.RootOutcomes.{RefusesNone}
+use Rattle.prolly_answer.specs.RootFaults.{RefusesNone}
 use Rattle.prolly_fault.specs.declared.fault.Fault.{Fault}
 use Rattle.prolly_fault.specs.declared.fault.Fault.TheVariants as faults
 use Rattle.prolly_answer.proofs.Counting.{line_is}

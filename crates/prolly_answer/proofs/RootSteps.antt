@@ -28,14 +28,14 @@ use Rattle.prolly_tree.specs.Tree.{last_key}
 use Rattle.prolly_answer.specs.Outputs.{IsSettledAs, TookAll, TookBytes, TookPart, TookUntil}
 use Rattle.prolly_answer.specs.RootDumps.{written_pairs}
 use Rattle.prolly_answer.specs.RootOutcomes.{FitsOutcome, IsWrittenByRoot, Outcome}
-use Rattle.prolly_answer.specs.RootOutcomes.{Scanned, TakesAllFor, TakesFor}
+use Rattle.prolly_answer.specs.RootOutcomes.{Scanned, TakesAllFor, TakesFor, behind}
 use Rattle.prolly_fault.specs.declared.output_fault.OutputFault.{OutputFault}
 use Rattle.prolly_fault.specs.declared.output_fault.OutputFault.TheVariants.{Memory, Write}
 use Rattle.prolly_fault.specs.declared.root_output_fault.RootOutputFault.TheVariants.{Output}
 use Rattle.prolly_fault.specs.declared.root_output_fault.RootOutputFault.TheVariants.{Root}
 use Rattle.prolly_answer.proofs.DumpSteps.{put_of, record_files_are_dumped}
 use Rattle.prolly_answer.proofs.KeyRanks.{AreBytes, less_room_above, room_above}
-use Rattle.prolly_answer.proofs.ScanSteps.{all_flushed, all_unflushed, behind, behind_more}
+use Rattle.prolly_answer.proofs.ScanSteps.{all_flushed, all_unflushed, behind_more}
 use Rattle.prolly_answer.proofs.ScanSteps.{ends_empty, ends_full, joined_more, prefix_flushed}
 use Rattle.prolly_answer.proofs.ScanSteps.{prefix_unflushed, scanned_more, so_told, took_also}
 use Rattle.prolly_answer.proofs.ScanSteps.{until_also}
@@ -178,7 +178,7 @@ module _ {W : Type 0} (seen : W → SinkView) (version : Version) (root from : L
     }
 
     -- Memory is wanted before anything is sought.
-    pub wants_first : (may : RootFault → Type 0) (old : W) → bytes [] ≡ [] →
+    pub wants_first : (may : List ℕ → RootFault → Type 0) (old : W) → bytes [] ≡ [] →
         IsWrittenByRoot may version root from enough bytes (TakesFor seen old old)
         (Err (Output Memory))
     wants_first may old none = record {
@@ -191,16 +191,16 @@ module _ {W : Type 0} (seen : W → SinkView) (version : Version) (root from : L
 
     module _ (next : List ℕ) (old mid : W) (d : IsUnderWay next old mid) where
       -- A look-up has a fault.
-      pub seek_fails : (may : RootFault → Type 0) (fault : RootFault) → may fault →
+      pub seek_fails : (may : List ℕ → RootFault → Type 0) (fault : RootFault) → may next fault →
           IsWrittenByRoot may version root from enough bytes (TakesFor seen old mid)
           (Err (Root fault))
       seek_fails may fault lawful = record {
         found = record { lists = d.lists; ways = d.ways; are = d.are };
-        fits = (d.few, lawful);
+        fits = (d.few, subst (λ key. may key fault) d.next_is lawful);
         took = d.took.all;
       }
 
-      module _ (may : RootFault → Type 0) (way : List (List ℕ)) (found : List Pair)
+      module _ (may : List ℕ → RootFault → Type 0) (way : List (List ℕ)) (found : List Pair)
           (more : IsScanWay version root next way found) (own : List ℕ)
           (text : bytes (d.lists ++ found ∷ []) ≡ bytes d.lists ++ own) where
         abbrev with_more : Scanned version root from
@@ -323,7 +323,7 @@ module _ {W : Type 0} (seen : W → SinkView) (old mid new : W)
 
 module _ {W : Type 0} (seen : W → SinkView) (version : Version) (root from : List ℕ)
     (enough : List (List Pair) → Type 0) (bytes : List (List Pair) → List ℕ)
-    (may : RootFault → Type 0) where
+    (may : List ℕ → RootFault → Type 0) where
   module _ (old : W) (none : bytes [] ≡ []) where
     nothing_taken : TookAll seen (bytes []) old old
     nothing_taken = subst (λ b. TookAll seen b old old) (sym none) (record {
@@ -343,7 +343,7 @@ module _ {W : Type 0} (seen : W → SinkView) (version : Version) (root from : L
     }
 
     -- The root is not found.
-    pub root_refused : (fault : RootFault) → ¬ (enough []) → may fault →
+    pub root_refused : (fault : RootFault) → ¬ (enough []) → may from fault →
         IsWrittenByRoot may version root from enough bytes (TakesAllFor seen old old)
         (Err (Root fault))
     root_refused fault few lawful = record {
@@ -353,13 +353,13 @@ module _ {W : Type 0} (seen : W → SinkView) (version : Version) (root from : L
     }
 
   -- What was written is flushed, and told of the version and the root of the reader.
-  pub flushed_told : (by : RootFault → Type 0) (v : Version) (r : List ℕ) (old mid new : W)
+  pub flushed_told : (by : List ℕ → RootFault → Type 0) (v : Version) (r : List ℕ) (old mid new : W)
       (outcome told : Outcome) →
       IsWrittenByRoot by v r from enough bytes (TakesFor seen old mid) outcome →
       (v ≡ version) × (r ≡ root) →
       ((seen old).is_keeping ≡ true → (seen mid).is_keeping ≡ true) →
       IsSettledAs seen (Output Write) mid new outcome told →
-      ((fault : RootFault) → by fault → may fault) →
+      ((key : List ℕ) (fault : RootFault) → by key fault → may key fault) →
       IsWrittenByRoot may version root from enough bytes (TakesAllFor seen old new) told
   flushed_told by v r old mid new outcome told d is keeping settled so =
       subst (λ v. IsWrittenByRoot may v root from enough bytes (TakesAllFor seen old new) told) is.0
@@ -367,7 +367,8 @@ module _ {W : Type 0} (seen : W → SinkView) (version : Version) (root from : L
       (record {
         found = d.found;
         fits = so_told seen (Output Write) mid new outcome told settled
-            (FitsOutcome enough may d.found.lists)
-            (fits_may enough by may d.found.lists outcome so d.fits) tt;
+            (FitsOutcome enough (may (behind from d.found.lists)) d.found.lists)
+            (fits_may enough (by (behind from d.found.lists)) (may (behind from d.found.lists))
+            d.found.lists outcome (so (behind from d.found.lists)) d.fits) tt;
         took = taken_told seen old mid new keeping (bytes d.found.lists) outcome told settled d.took;
       }))

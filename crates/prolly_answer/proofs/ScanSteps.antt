@@ -15,17 +15,13 @@ use Rattle.prolly_text.specs.declared.notation.Notation.{Notation}
 use Rattle.prolly_answer.specs.LookUps.{pair_lines, pair_text}
 use Rattle.prolly_answer.specs.Outputs.{IsSettledAs, TookAll, TookBytes, TookPart, TookPrefix}
 use Rattle.prolly_answer.specs.Outputs.{TookUntil}
+use Rattle.prolly_answer.specs.RootOutcomes.{behind}
 use Rattle.prolly_answer.specs.RootScans.{AreEnough, limited_lines}
 use Rattle.prolly_fault.specs.declared.output_fault.OutputFault.{OutputFault}
 use Rattle.prolly_fault.specs.declared.output_fault.OutputFault.TheVariants as outputs
 use Rattle.prolly_answer.proofs.Writing.{TookSoFar, flushed, unflushed}
 
 -- ---- look-ups one after another
-
--- Behind what these lists have, where the next look-up begins.
-abbrev pub behind : List ℕ → List (List Pair) → List ℕ
-behind from [] = from
-behind from (found ∷ lists) = behind (from_behind from found) lists
 
 pub behind_more : (from : List ℕ) (lists : List (List Pair)) (found : List Pair) →
     behind from (lists ++ found ∷ []) ≡ from_behind (behind from lists) found

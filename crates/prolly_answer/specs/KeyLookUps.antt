@@ -66,15 +66,16 @@ abbrev pub AreWays : Version → List ℕ → List Record → List (List (List �
 AreWays version root records ways =
     AllZip (λ found way. IsWay version root found.key way found.value) records ways
 
--- Where all is written, no key is left; where a look-up has a fault, it is one that there may be.
-abbrev pub FitsKeys : (RootFault → Type 0) → List (List ℕ) → Outcome → Type 0
+-- Where all is written, no key is left; where a look-up has a fault, it is one that there may be where
+-- these keys are left.
+abbrev pub FitsKeys : (List (List ℕ) → RootFault → Type 0) → List (List ℕ) → Outcome → Type 0
 FitsKeys may left (Ok done) = left ≡ []
-FitsKeys may left (Err (Root fault)) = may fault
+FitsKeys may left (Err (Root fault)) = may left fault
 FitsKeys may left (Err (Output fault)) = Unit {0}
 
 -- Look-ups by the root found what is at the first of the keys, with which this outcome fits; and of
 -- their lines, `takes` says what the sink took.
-pub record AreFoundByRoot (may : RootFault → Type 0) (version : Version) (root : List ℕ)
+pub record AreFoundByRoot (may : List (List ℕ) → RootFault → Type 0) (version : Version) (root : List ℕ)
     (notation : Notation) (keys : List (List ℕ)) (takes : List ℕ → Outcome → Type 0)
     (outcome : Outcome) : Type 0 where
   pub records : List Record

@@ -30,6 +30,8 @@ pub mod SetLines
 pub mod SetProofs
 -- What `diff` answers to who names the roots.
 pub mod RootDiffs
+-- Which fault a command tells that looks up in a chunk file by the root.
+pub mod RootFaults
 -- What comes of a command that goes over the pairs of a tree of which only the root is known.
 pub mod RootOutcomes
 -- What `get` and `nth` answer to who names the root.

@@ -1,18 +1,13 @@
 -- What comes of a command that goes over the pairs of a tree of which only the root is known: how it
 -- ends, what it wrote until then, and what is told of its source.
-use Rattle.std.specs.Prelude.{◌≡◌, ◌⊎◌, ℕ, List, Result, Ok, Err}
-use Rattle.prolly_look_up.specs.Content.{Content}
-use Rattle.prolly_look_up.specs.ScanWay.{AreScanned}
-use Rattle.prolly_entry.specs.Cut.{sha512_cut}
+use Rattle.std.specs.Prelude.{◌≡◌, ◌⊎◌, ℕ, List, Result, Ok, Err, [], ◌∷◌}
+use Rattle.prolly_look_up.specs.ScanWay.{AreScanned, from_behind}
 use Rattle.prolly_entry.specs.Pair.{Pair}
 use Rattle.prolly_entry.specs.declared.version.Version.{Version}
 use Rattle.prolly_io.specs.Failures.{after_failure}
 use Rattle.prolly_io.specs.Sink.{SinkView}
-use Rattle.prolly_root.specs.Reader.{IsReaderOf, ReaderView}
-use Rattle.prolly_root.specs.RootFault.{MayFail, TellsFailure}
+use Rattle.prolly_root.specs.RootFault.{TellsFailure}
 use Rattle.prolly_root.specs.declared.root_fault.RootFault.{RootFault}
-use Rattle.prolly_tree.specs.File.{root_reference}
-use Rattle.prolly_tree.specs.Tree.{Tree}
 use Rattle.prolly_fault.specs.Answers.{ShowsDone, ShowsFault}
 use Rattle.prolly_fault.specs.OutputFault.{told_stop}
 use Rattle.prolly_answer.specs.Outputs.{TookAll, TookBytes, TookUntil}
@@ -31,20 +26,10 @@ pub record Scanned (version : Version) (root from : List ℕ) : Type 0 where
   pub ways : List (List (List ℕ))
   pub are : AreScanned version root from lists ways
 
--- Where the source has a tree of this version and with this root, the fault is only want of memory,
--- or a failed read.
-abbrev pub RefusesNone : (Content → Type 0) → Version → List ℕ → RootFault → Type 0
-RefusesNone has version root fault = (content : Content) → has content →
-    version ≡ content.version →
-    root ≡ root_reference (sha512_cut content.bits) content.version content.pairs → MayFail fault
-
--- A source that has the tree of a reader's root is not refused, but for want of memory or a failed
--- read.
-abbrev pub RefusesNoneOf : {T : Type 0} →
-    (Content → (level : ℕ) → Tree level → T → Type 0) → (Content → Type 0) → ReaderView T →
-    RootFault → Type 0
-RefusesNoneOf is_place has reader fault = (content : Content) → has content →
-    IsReaderOf is_place content reader → MayFail fault
+-- Where the next look-up begins, behind what these lists have.
+abbrev pub behind : List ℕ → List (List Pair) → List ℕ
+behind from [] = from
+behind from (found ∷ lists) = behind (from_behind from found) lists
 
 -- ---- how it ends
 
@@ -75,12 +60,12 @@ TakesAllFor seen old new bytes (Err (Output fault)) = TookUntil seen fault bytes
 
 -- Look-ups by the root, one after another from the key on, found lists of pairs, with which this
 -- outcome fits, where `enough` says when no more is sought; and of the bytes that are to be written
--- for these lists `takes` says what the sink took.
-pub record IsWrittenByRoot (may : RootFault → Type 0) (version : Version) (root from : List ℕ)
+-- for these lists `takes` says what the sink took. `may` says why a look-up of a key is refused.
+pub record IsWrittenByRoot (may : List ℕ → RootFault → Type 0) (version : Version) (root from : List ℕ)
     (enough : List (List Pair) → Type 0) (bytes : List (List Pair) → List ℕ)
     (takes : List ℕ → Outcome → Type 0) (outcome : Outcome) : Type 0 where
   pub found : Scanned version root from
-  pub fits : FitsOutcome enough may found.lists outcome
+  pub fits : FitsOutcome enough (may (behind from found.lists)) found.lists outcome
   pub took : takes (bytes found.lists) outcome
 
 -- What is told of the calls of the source, whose failures were so many before and after: where one

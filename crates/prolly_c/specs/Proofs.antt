@@ -6,6 +6,9 @@ use Rattle.prolly_root.specs.ProofFault.{IsFault}
 use Rattle.prolly_root.specs.ProofFile.{IsProof, IsSomeProof}
 use Rattle.prolly_root.specs.declared.proof.fault.ProofFault.{ProofFault}
 use Rattle.prolly_root.specs.declared.proof.fault.ProofFault.TheVariants as faults
+use Rattle.prolly_look_up.specs.Sought.Sought.{Key}
+use Rattle.prolly_root.specs.ChunkFile.{ChunkFile}
+use Rattle.prolly_root.specs.LookUpFault.{IsFirstFault}
 use Rattle.prolly_root.specs.declared.root_fault.RootFault.{RootFault}
 use Rattle.prolly_root.specs.declared.root_fault.RootFault.TheVariants as rooted
 
@@ -66,4 +69,14 @@ status_of_root rooted.Read = (25, 0)
 pub record TellsFault (status chunk : ℕ) : Type 0 where
   pub fault : RootFault
   pub unread : fault ≢ rooted.Read
+  pub is : status_of_root fault ≡ (status, chunk)
+
+-- The status is that of the first fault of the file for a look-up of this key, where the version is
+-- the number of one, and this is the chunk that it names.
+pub record TellsFirstFault (version : ℕ) (file : ChunkFile) (root key : List ℕ) (status chunk : ℕ)
+    : Type 0 where
+  pub format : Version
+  pub format_is : version_byte format ≡ version
+  pub fault : RootFault
+  pub first : IsFirstFault format file root (Key key) fault
   pub is : status_of_root fault ≡ (status, chunk)

@@ -4,7 +4,8 @@ ghost use Rattle.prolly_entry.specs.Cut.{sha512_cut};
 ghost use Rattle.prolly_entry.specs.Version.{version_byte};
 ghost use Rattle.prolly_tree.specs.File.{root_reference};
 ghost use Rattle.prolly_look_up.specs.Content.{Content, IsFileOf};
-ghost use Rattle.prolly_c.specs.Proofs.{HasProof, ProvesSome, TellsFault};
+ghost use Rattle.prolly_root.specs.ChunkFile.{ChunkFile, IsCut};
+ghost use Rattle.prolly_c.specs.Proofs.{HasProof, ProvesSome, TellsFault, TellsFirstFault};
 
 use crate::prover::proof_in;
 use crate::put::put_bytes;
@@ -17,8 +18,7 @@ use std::alloc::Global;
 /// so it need not be checked: where the status is `DONE`, the bytes are a proof for this root.
 ///
 /// Where there is less room, `count` is the length that is needed, and nothing else is written.
-/// Else the status is that of a fault that is met, and `chunk` the chunk that this names. By the
-/// contract that may be any fault but a failed read.
+/// Else the status is that of the first fault that is met, and `chunk` the chunk that this names.
 ///
 /// Takes memory for the chunks of the proof. Goes over the frames of the file, and hashes the chunks
 /// of the proof.
@@ -44,6 +44,8 @@ pub extern "C" fn prolly_prove(
         (result ≡ 0) ⊎ ((result ≡ 2) ⊎ (result ≡ 3)) }
     ensures refused { (result ≡ 0) ⊎ ((result ≡ 2) ⊎ ((result ≡ 3) ⊎ ((result ≡ 6) ⊎
         TellsFault result chunk.new))) }
+    ensures first { (file : ChunkFile) → file.bytes ≡ bytes.now → IsCut file → 6 < result →
+        TellsFirstFault version file root.now key.now result chunk.new }
     ensures stays { result ≢ 0 → out.new ≡ out.old }
     ensures uncounted { result ≢ 0 → result ≢ 3 → count.new ≡ count.old }
     ensures unnamed { result ≤ 6 → chunk.new ≡ chunk.old }

@@ -1,8 +1,11 @@
 //! Making proofs out of a chunk file in memory.
-ghost use Rattle.std.specs.Prelude.{◌≡◌, ◌≢◌, IfErr, IfOk};
+ghost use Rattle.std.specs.Prelude.{◌≡◌, ◌≢◌, ◌⊎◌, IfErr, IfOk};
 ghost use Rattle.prolly_entry.specs.Cut.{sha512_cut};
 ghost use Rattle.prolly_tree.specs.File.{root_reference};
 ghost use Rattle.prolly_look_up.specs.Content.{Content, IsFileOf};
+ghost use Rattle.prolly_look_up.specs.Sought.Sought.{Key};
+ghost use Rattle.prolly_root.specs.ChunkFile.{ChunkFile, IsCut};
+ghost use Rattle.prolly_root.specs.LookUpFault.{IsFirstFault};
 ghost use Rattle.prolly_root.specs.ProofFile.{IsSomeProof};
 ghost use Rattle.prolly_root.specs.declared.root_fault.RootFault.TheVariants.{Memory, Read};
 ghost use Rattle.prolly_range.specs.KeySet.{set_of};
@@ -16,7 +19,7 @@ use prolly_root::{FileChunks, Reader, RootFault};
 use std::alloc::Global;
 
 /// The proof of what the tree of this version and root has at the key. A lawful file of that tree is
-/// refused for want of memory alone.
+/// refused for want of memory alone; of any other it is told what is wrong first.
 pub(crate) fn proof_in(
     alloc: Global,
     bytes: &[u8],
@@ -30,6 +33,9 @@ pub(crate) fn proof_in(
         content.version ≡ version →
         root.now.0 ≡ root_reference (sha512_cut content.bits) content.version content.pairs →
         IfErr result (λ fault. fault ≡ Memory) }
+    ensures first { (file : ChunkFile) → file.bytes ≡ bytes.now → IsCut file →
+        IfErr result (λ fault. (fault ≡ Memory) ⊎
+        IsFirstFault version file root.now.0 (Key key.now) fault) }
     ensures unread { IfErr result (λ fault. fault ≢ Read) }
 {
     let mut chunks = FileChunks::new(InMemory::new(bytes));

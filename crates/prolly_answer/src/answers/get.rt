@@ -1,13 +1,14 @@
 //! What `get` answers, of a checked file and by the root.
 ghost use Rattle.std.specs.Option.{option_copied};
 ghost use Rattle.std.specs.Prelude.{option_map, IfErr, IfOk};
+ghost use Rattle.prolly_look_up.specs.Sought.Sought.{Key};
 ghost use Rattle.prolly_look_up.specs.Way.{IsWay};
 ghost use Rattle.prolly_root.specs.RootFault.{TellsReads};
 ghost use Rattle.prolly_text.specs.declared.notation.Notation.TheVariants.{Hex};
 ghost use Rattle.prolly_answer.specs.LookUps.{AnswersFailedRead, AnswersLookUp, ShowsFound};
 ghost use Rattle.prolly_answer.specs.LookUps.{ShowsGet, ShowsValue};
 ghost use Rattle.prolly_answer.specs.RootLookUps.{IsFoundByRoot, IsLookUpByRoot};
-ghost use Rattle.prolly_answer.specs.RootOutcomes.{RefusesNone};
+ghost use Rattle.prolly_answer.specs.RootFaults.{MayRefuse};
 
 use prolly_check::{ChunkHasher, OneThread, check_by};
 use prolly_entry::{Ref, Version};
@@ -53,8 +54,8 @@ pub fn answer_get<S: Source>(
 }
 
 /// What `get` answers to who names the root: the value of the key in this notation; nothing, with
-/// status 1, where the tree with this root has no such key; or the line of the fault for which
-/// nothing was found out. An `Err` is want of memory for that text.
+/// status 1, where the tree with this root has no such key; or the line of the first fault of the
+/// file, or on the way to the key. An `Err` is want of memory for that text.
 ///
 /// Of the source only the chunks on the way to the key are read, each compared with the reference
 /// above it, and memory is taken for these and for the value. What a value or none says of a map
@@ -68,7 +69,7 @@ pub fn answer_get_by_root<S: ChunkSource>(
     notation: Notation,
 ) -> Result<Answer, AllocError>
     ensures { IfOk result (IsLookUpByRoot (IsWay version root.now.0 key.now) (ShowsValue notation)
-        (RefusesNone (S.has source.old) version root.now.0)
+        (MayRefuse (S.has source.old) (S.goes_over source.old) version root.now.0 (Key key.now))
         (TellsReads (S.failures source.old) (S.failures source.new))) }
 {
     let found = value_in(alloc, source, version, root, key);
@@ -85,7 +86,8 @@ pub(crate) fn value_in<S: ChunkSource>(
 ) -> Result<Option<Vec<u8>>, RootFault>
     ensures found { IfOk result (λ value. IsFoundByRoot (IsWay version root.now.0 key.now)
         (option_map (λ v. v.items) value)) }
-    ensures lawful { IfErr result (RefusesNone (S.has source.old) version root.now.0) }
+    ensures refuses { IfErr result
+        (MayRefuse (S.has source.old) (S.goes_over source.old) version root.now.0 (Key key.now)) }
     ensures reads { TellsReads (S.failures source.old) (S.failures source.new) result }
 {
     let mut reader = Reader::open(alloc, source, version, root)?;

@@ -1,12 +1,13 @@
 //! What `get --raw` answers, of a checked file and by the root.
 ghost use Rattle.std.specs.Option.{option_copied};
 ghost use Rattle.std.specs.Prelude.{IfOk};
+ghost use Rattle.prolly_look_up.specs.Sought.Sought.{Key};
 ghost use Rattle.prolly_look_up.specs.Way.{IsWay};
 ghost use Rattle.prolly_root.specs.RootFault.{TellsReads};
 ghost use Rattle.prolly_answer.specs.LookUps.{AnswersFailedRead, AnswersLookUp, ShowsFoundRaw};
 ghost use Rattle.prolly_answer.specs.LookUps.{ShowsGetRaw, ShowsRaw};
+ghost use Rattle.prolly_answer.specs.RootFaults.{MayRefuse};
 ghost use Rattle.prolly_answer.specs.RootLookUps.{IsLookUpByRoot};
-ghost use Rattle.prolly_answer.specs.RootOutcomes.{RefusesNone};
 
 use crate::answers::get::value_in;
 use prolly_check::{ChunkHasher, check_by};
@@ -44,7 +45,7 @@ pub fn answer_get_raw_by_root<S: ChunkSource>(
     key: &[u8],
 ) -> Result<Answer, AllocError>
     ensures { IfOk result (IsLookUpByRoot (IsWay version root.now.0 key.now) ShowsRaw
-        (RefusesNone (S.has source.old) version root.now.0)
+        (MayRefuse (S.has source.old) (S.goes_over source.old) version root.now.0 (Key key.now))
         (TellsReads (S.failures source.old) (S.failures source.new))) }
 {
     let found = value_in(alloc, source, version, root, key);

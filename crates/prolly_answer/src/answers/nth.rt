@@ -2,6 +2,7 @@
 ghost use Rattle.std.specs.Prelude.{◌≡◌, ◌↔◌, ℕ, List, IfErr, IfOk, IsErr, Some};
 ghost use Rattle.prolly_look_up.specs.Content.{Content, IsFileOf};
 ghost use Rattle.prolly_look_up.specs.FoundPairs.{pair_found};
+ghost use Rattle.prolly_look_up.specs.Sought.Sought.{Number};
 ghost use Rattle.prolly_look_up.specs.Way.{IsCountWay};
 ghost use Rattle.prolly_entry.specs.declared.version.Version.TheVariants.{One, Two};
 ghost use Rattle.prolly_root.specs.RootFault.{TellsReads};
@@ -9,8 +10,8 @@ ghost use Rattle.prolly_text.specs.declared.notation.Notation.TheVariants.{Hex};
 ghost use Rattle.prolly_tree.specs.LookUp.{nth};
 ghost use Rattle.prolly_answer.specs.LookUps.{AnswersFailedRead, AnswersLookUp, ShowsPlace};
 ghost use Rattle.prolly_answer.specs.LookUps.{ShowsFoundPair, ShowsPair};
+ghost use Rattle.prolly_answer.specs.RootFaults.{MayRefuse};
 ghost use Rattle.prolly_answer.specs.RootLookUps.{IsFoundByRoot, IsNthByRoot};
-ghost use Rattle.prolly_answer.specs.RootOutcomes.{RefusesNone};
 
 use crate::lines::append_pair_text;
 use prolly_check::{ChunkHasher, NoCounts, OneThread, check_by};
@@ -78,8 +79,9 @@ pub fn answer_nth<S: Source>(alloc: Global, source: &mut S, n: u64) -> Result<An
 
 /// What `nth` answers to who names the root: the pair of this number, counted from 0 in the order
 /// of keys, as key and value in this notation; nothing, with status 1, where the tree with this
-/// root has none; or the line of the fault for which nothing was found out. Chunks of version One
-/// have no counts, and of such a tree nothing is read. An `Err` is want of memory for that text.
+/// root has none; or the line of the first fault of the file, or on the way to the pair. Chunks of
+/// version One have no counts, and of such a tree nothing is read. An `Err` is want of memory for that
+/// text.
 ///
 /// Of the source only the chunks on the way to the pair are read, each compared with the reference
 /// above it, and memory is taken for these and for the pair. What a pair or none says of a map with
@@ -93,7 +95,7 @@ pub fn answer_nth_by_root<S: ChunkSource>(
     notation: Notation,
 ) -> Result<Answer, AllocError>
     ensures shown { IfOk result (IsNthByRoot version root.now.0 n notation
-        (RefusesNone (S.has source.old) version root.now.0)
+        (MayRefuse (S.has source.old) (S.goes_over source.old) version root.now.0 (Number n))
         (TellsReads (S.failures source.old) (S.failures source.new))) }
     ensures unread { version ≡ One → source.new ≡ source.old }
 {
@@ -115,7 +117,8 @@ fn pair_in<S: ChunkSource>(
     n: u64,
 ) -> Result<Option<Pair>, RootFault>
     ensures found { IfOk result (IsFoundByRoot (IsCountWay root.now.0 n)) }
-    ensures lawful { IfErr result (RefusesNone (S.has source.old) Two root.now.0) }
+    ensures refuses { IfErr result
+        (MayRefuse (S.has source.old) (S.goes_over source.old) Two root.now.0 (Number n)) }
     ensures reads { TellsReads (S.failures source.old) (S.failures source.new) result }
 {
     let mut reader = Reader::open(alloc, source, Version::Two, root)?;

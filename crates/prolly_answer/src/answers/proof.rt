@@ -1,5 +1,6 @@
 //! What `prove` and `verify` answer.
 ghost use Rattle.std.specs.Prelude.{◌≡◌, ◌≢◌, ◌⊎◌, true, IfErr, IfOk, OnErr};
+ghost use Rattle.prolly_look_up.specs.Sought.Sought.{Key};
 ghost use Rattle.prolly_root.specs.ProofFile.{IsSomeProof};
 ghost use Rattle.prolly_root.specs.RootFault.{TellsReads};
 ghost use Rattle.prolly_root.specs.declared.root_fault.RootFault.{RootFault as RootFaultValue};
@@ -7,7 +8,7 @@ ghost use Rattle.prolly_answer.specs.LookUps.{ShowsFailedRead};
 ghost use Rattle.prolly_answer.specs.Outputs.{TookAll, TookPart};
 ghost use Rattle.prolly_answer.specs.Proofs.{IsProve, IsProveByRoot, IsProvedOf, IsUnproved};
 ghost use Rattle.prolly_answer.specs.Proofs.{IsVerify, ProofByRoot};
-ghost use Rattle.prolly_answer.specs.RootOutcomes.{RefusesNone};
+ghost use Rattle.prolly_answer.specs.RootFaults.{MayRefuse};
 ghost use Rattle.prolly_fault.specs.Answers.{ShowsFault};
 
 use crate::answers::get::value_shown;
@@ -61,8 +62,8 @@ pub fn answer_prove<H: ChunkHasher, S: Source, W: Sink>(
 }
 
 /// What `prove` answers to who names the root: it writes the proof of what the tree with this root
-/// has at the key to the sink, and shows nothing; or it shows the line of the fault for which there
-/// is none, and writes nothing. That a key has no value is proved as a value is.
+/// has at the key to the sink, and shows nothing; or it shows the line of the first fault of the file,
+/// or on the way to the key, and writes nothing. That a key has no value is proved as a value is.
 ///
 /// Of the source only the chunks on the way to the key are read, each compared with the reference
 /// above it. What the proof is of a map with the root is said by
@@ -78,14 +79,14 @@ pub fn answer_prove_by_root<S: ChunkSource, W: Sink>(
     sink: &mut W,
 ) -> Result<Answer, AllocError>
     ensures ok { IfOk result (IsProveByRoot
-        (RefusesNone (S.has source.old) version root.now.0)
+        (MayRefuse (S.has source.old) (S.goes_over source.old) version root.now.0 (Key key.now))
         (TellsReads (S.failures source.old) (S.failures source.new)) version root.now.0 key.now
         (λ proof. TookAll W.seen proof sink.old sink.new)
         (λ proof. TookPart W.seen proof sink.old sink.new)
         (sink.new ≡ sink.old)) }
     ensures err { OnErr result (ProofByRoot version root.now.0 key.now
         (λ proof. TookPart W.seen proof sink.old sink.new) ⊎ ((fault : RootFaultValue) × IsUnproved
-        (RefusesNone (S.has source.old) version root.now.0)
+        (MayRefuse (S.has source.old) (S.goes_over source.old) version root.now.0 (Key key.now))
         (TellsReads (S.failures source.old) (S.failures source.new))
         (sink.new ≡ sink.old) fault)) }
 {
@@ -108,7 +109,8 @@ fn proof_in<S: ChunkSource>(
     key: &[u8],
 ) -> Result<Vec<u8>, RootFault>
     ensures proves { IfOk result (λ proof. IsSomeProof version root.now.0 key.now proof.items) }
-    ensures lawful { IfErr result (RefusesNone (S.has source.old) version root.now.0) }
+    ensures refuses { IfErr result
+        (MayRefuse (S.has source.old) (S.goes_over source.old) version root.now.0 (Key key.now)) }
     ensures reads { TellsReads (S.failures source.old) (S.failures source.new) result }
 {
     let mut reader = Reader::open(alloc, source, version, root)?;

@@ -8,7 +8,7 @@ ghost use Rattle.prolly_answer.specs.Outputs.{TookAll, TookSoFar, TookUntil, Wro
 ghost use Rattle.prolly_answer.specs.RootDiffs.{Counts, IsEndedDiff, IsRootDiff, IsStoppedDiff};
 ghost use Rattle.prolly_answer.specs.RootDiffs.{TellsDiffReads, TellsNumbers, WroteIn};
 ghost use Rattle.prolly_answer.specs.RootDiffs.{fault_of, record_of};
-ghost use Rattle.prolly_answer.specs.RootOutcomes.{RefusesNone};
+ghost use Rattle.prolly_answer.specs.RootFaults.{RefusesNone};
 ghost use Rattle.prolly_fault.specs.declared.fault.Fault.{Fault as FaultValue};
 ghost use Rattle.prolly_fault.specs.declared.fault.Fault.TheVariants.{Memory, RootNew, RootOld};
 ghost use Rattle.prolly_fault.specs.declared.output_fault.OutputFault.TheVariants.{Write};

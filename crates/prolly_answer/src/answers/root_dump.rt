@@ -1,11 +1,12 @@
 //! The command `dump` of a file of which only the root is believed.
 ghost use Rattle.std.specs.Prelude.{◌≡◌, true, Err, IfErr, IfOk, OnErr, OnOk};
+ghost use Rattle.prolly_look_up.specs.Sought.Sought.{Key};
 ghost use Rattle.prolly_text.specs.RecordForms.{written_records};
 ghost use Rattle.prolly_tree.specs.Difference.{puts};
 ghost use Rattle.prolly_answer.specs.Outputs.{TookBytes, TookUntil};
 ghost use Rattle.prolly_answer.specs.RootDumps.{IsDumpedByRoot};
-ghost use Rattle.prolly_answer.specs.RootOutcomes.{AnswersOutcome, RefusesNone, RefusesNoneOf};
-ghost use Rattle.prolly_answer.specs.RootOutcomes.{TakesAllFor, TakesFor, TellsReadsOf};
+ghost use Rattle.prolly_answer.specs.RootFaults.{MayRefuse, MayRefuseOf};
+ghost use Rattle.prolly_answer.specs.RootOutcomes.{AnswersOutcome, TakesAllFor, TakesFor, TellsReadsOf};
 ghost use Rattle.prolly_fault.specs.declared.root_output_fault.RootOutputFault.{RootOutputFault as StopValue};
 
 use crate::answers::flushed::settled;
@@ -40,11 +41,13 @@ pub fn answer_dump_by_root<R: Threads + Sync, S: ReadAhead, W: Sink>(
     sink: &mut W,
 ) -> Result<Answer, AllocError>
     ensures ok { IfOk result (AnswersOutcome (λ outcome. IsDumpedByRoot
-        (RefusesNone (S.has source.old) version root.now.0) version root.now.0 form
+        (λ key. MayRefuse (S.has source.old) (S.goes_over source.old) version root.now.0 (Key key))
+        version root.now.0 form
         (TakesAllFor W.seen sink.old sink.new) outcome ×
         TellsReadsOf (S.failures source.old) (S.failures source.new) outcome)) }
     ensures err { OnErr result ((stop : StopValue) × IsDumpedByRoot
-        (RefusesNone (S.has source.old) version root.now.0) version root.now.0 form
+        (λ key. MayRefuse (S.has source.old) (S.goes_over source.old) version root.now.0 (Key key))
+        version root.now.0 form
         (TakesAllFor W.seen sink.old sink.new) (Err stop) ×
         TellsReadsOf (S.failures source.old) (S.failures source.new) (Err stop)) }
 {
@@ -64,8 +67,9 @@ fn write_dump<R: Threads + Sync, S: ReadAhead, W: Sink>(
     form: RecordForm,
     sink: &mut W,
 ) -> Result<(), RootOutputFault>
-    ensures dumped { IsDumpedByRoot (RefusesNone (S.has source.old) version root.now.0) version
-        root.now.0 form (TakesAllFor W.seen sink.old sink.new) result }
+    ensures dumped { IsDumpedByRoot
+        (λ key. MayRefuse (S.has source.old) (S.goes_over source.old) version root.now.0 (Key key))
+        version root.now.0 form (TakesAllFor W.seen sink.old sink.new) result }
     ensures reads { TellsReadsOf (S.failures source.old) (S.failures source.new) result }
 {
     let reader = Reader::open(alloc, source, version, root)?;
@@ -82,7 +86,8 @@ fn write_leaves<R: Threads + Sync, S: ReadAhead, W: Sink>(
     form: RecordForm,
     sink: &mut W,
 ) -> Result<(), RootOutputFault>
-    ensures dumped { IsDumpedByRoot (RefusesNoneOf S.is_place (S.has source.old) reader)
+    ensures dumped { IsDumpedByRoot (λ key. MayRefuseOf S.is_place (S.has source.old) S.stands
+        (S.goes_over source.old) reader (Key key))
         reader.version reader.root form (TakesFor W.seen sink.old sink.new) result }
     ensures keeping { (W.seen sink.old).is_keeping ≡ true → (W.seen sink.new).is_keeping ≡ true }
     ensures reads { TellsReadsOf (S.failures source.old) (S.failures source.new) result }

@@ -1,8 +1,8 @@
 //! The command `get` of many keys, of a file of which only the root is believed.
 ghost use Rattle.std.specs.Prelude.{◌≡◌, true, map, Err, IfOk, OnErr};
 ghost use Rattle.prolly_answer.specs.KeyLookUps.{AreFoundByRoot};
+ghost use Rattle.prolly_answer.specs.RootFaults.{MayRefuseFirst, MayRefuseFirstOf};
 ghost use Rattle.prolly_answer.specs.RootOutcomes.{AnswersOutcome, TakesAllFor, TakesFor, TellsReadsOf};
-ghost use Rattle.prolly_answer.specs.RootOutcomes.{RefusesNone, RefusesNoneOf};
 ghost use Rattle.prolly_fault.specs.declared.root_output_fault.RootOutputFault.{RootOutputFault as StopValue};
 
 use crate::answers::flushed::settled;
@@ -34,11 +34,13 @@ pub fn answer_get_keys_by_root<S: ChunkSource, W: Sink>(
     sink: &mut W,
 ) -> Result<Answer, AllocError>
     ensures ok { IfOk result (AnswersOutcome (λ outcome. AreFoundByRoot
-        (RefusesNone (S.has source.old) version root.now.0) version root.now.0 notation
+        (MayRefuseFirst (S.has source.old) (S.goes_over source.old) version root.now.0) version
+        root.now.0 notation
         (map (λ k. k.items) keys.now) (TakesAllFor W.seen sink.old sink.new) outcome ×
         TellsReadsOf (S.failures source.old) (S.failures source.new) outcome)) }
     ensures err { OnErr result ((stop : StopValue) × AreFoundByRoot
-        (RefusesNone (S.has source.old) version root.now.0) version root.now.0 notation
+        (MayRefuseFirst (S.has source.old) (S.goes_over source.old) version root.now.0) version
+        root.now.0 notation
         (map (λ k. k.items) keys.now) (TakesAllFor W.seen sink.old sink.new) (Err stop) ×
         TellsReadsOf (S.failures source.old) (S.failures source.new) (Err stop)) }
 {
@@ -58,7 +60,8 @@ fn write_keys<S: ChunkSource, W: Sink>(
     notation: Notation,
     sink: &mut W,
 ) -> Result<(), RootOutputFault>
-    ensures found { AreFoundByRoot (RefusesNone (S.has source.old) version root.now.0) version
+    ensures found { AreFoundByRoot
+        (MayRefuseFirst (S.has source.old) (S.goes_over source.old) version root.now.0) version
         root.now.0 notation (map (λ k. k.items) keys.now) (TakesAllFor W.seen sink.old sink.new)
         result }
     ensures reads { TellsReadsOf (S.failures source.old) (S.failures source.new) result }
@@ -77,7 +80,8 @@ fn write_each<S: ChunkSource, W: Sink>(
     notation: Notation,
     sink: &mut W,
 ) -> Result<(), RootOutputFault>
-    ensures found { AreFoundByRoot (RefusesNoneOf S.is_place (S.has source.old) reader)
+    ensures found { AreFoundByRoot (MayRefuseFirstOf S.is_place (S.has source.old) S.stands
+        (S.goes_over source.old) reader)
         reader.version reader.root notation (map (λ k. k.items) keys.now)
         (TakesFor W.seen sink.old sink.new) result }
     ensures keeping { (W.seen sink.old).is_keeping ≡ true → (W.seen sink.new).is_keeping ≡ true }

@@ -2,11 +2,12 @@
 ghost use Rattle.std.specs.Prelude.{◌≡◌, ◌-◌, ◌<◌, true, length, take, All, Err, IfErr, IfOk};
 ghost use Rattle.std.specs.Prelude.{OnErr, OnOk};
 ghost use Rattle.prolly_look_up.specs.ScanWay.{next_key};
+ghost use Rattle.prolly_look_up.specs.Sought.Sought.{Key};
 ghost use Rattle.prolly_entry.specs.Byte.{IsByte};
 ghost use Rattle.prolly_answer.specs.LookUps.{pair_lines};
 ghost use Rattle.prolly_answer.specs.Outputs.{TookBytes, TookUntil};
-ghost use Rattle.prolly_answer.specs.RootOutcomes.{AnswersOutcome, RefusesNone, RefusesNoneOf};
-ghost use Rattle.prolly_answer.specs.RootOutcomes.{TakesAllFor, TakesFor, TellsReadsOf};
+ghost use Rattle.prolly_answer.specs.RootFaults.{MayRefuse, MayRefuseOf};
+ghost use Rattle.prolly_answer.specs.RootOutcomes.{AnswersOutcome, TakesAllFor, TakesFor, TellsReadsOf};
 ghost use Rattle.prolly_answer.specs.RootScans.{IsScannedByRoot};
 ghost use Rattle.prolly_fault.specs.declared.root_output_fault.RootOutputFault.{RootOutputFault as StopValue};
 
@@ -56,13 +57,13 @@ pub fn answer_scan_by_root<R: Threads + Sync, S: ReadAhead, W: Sink>(
     sink: &mut W,
 ) -> Result<Answer, AllocError>
     ensures ok { IfOk result (AnswersOutcome (λ outcome. IsScannedByRoot
-        (RefusesNone (S.has source.old) scan.now.version scan.now.root.now.0) scan.now.version
-        scan.now.root.now.0 scan.now.from.now scan.now.limit scan.now.notation
+        (λ key. MayRefuse (S.has source.old) (S.goes_over source.old) scan.now.version
+        scan.now.root.now.0 (Key key)) scan.now.version scan.now.root.now.0 scan.now.from.now scan.now.limit scan.now.notation
         (TakesAllFor W.seen sink.old sink.new) outcome ×
         TellsReadsOf (S.failures source.old) (S.failures source.new) outcome)) }
     ensures err { OnErr result ((stop : StopValue) × IsScannedByRoot
-        (RefusesNone (S.has source.old) scan.now.version scan.now.root.now.0) scan.now.version
-        scan.now.root.now.0 scan.now.from.now scan.now.limit scan.now.notation
+        (λ key. MayRefuse (S.has source.old) (S.goes_over source.old) scan.now.version
+        scan.now.root.now.0 (Key key)) scan.now.version scan.now.root.now.0 scan.now.from.now scan.now.limit scan.now.notation
         (TakesAllFor W.seen sink.old sink.new) (Err stop) ×
         TellsReadsOf (S.failures source.old) (S.failures source.new) (Err stop)) }
 {
@@ -81,8 +82,8 @@ fn write_scan<R: Threads + Sync, S: ReadAhead, W: Sink>(
     sink: &mut W,
 ) -> Result<(), RootOutputFault>
     ensures scanned { IsScannedByRoot
-        (RefusesNone (S.has source.old) scan.now.version scan.now.root.now.0) scan.now.version
-        scan.now.root.now.0 scan.now.from.now scan.now.limit scan.now.notation
+        (λ key. MayRefuse (S.has source.old) (S.goes_over source.old) scan.now.version
+        scan.now.root.now.0 (Key key)) scan.now.version scan.now.root.now.0 scan.now.from.now scan.now.limit scan.now.notation
         (TakesAllFor W.seen sink.old sink.new) result }
     ensures reads { TellsReadsOf (S.failures source.old) (S.failures source.new) result }
 {
@@ -104,7 +105,8 @@ fn write_leaves<R: Threads + Sync, S: ReadAhead, W: Sink>(
     sink: &mut W,
 ) -> Result<(), RootOutputFault>
     requires { 0 < scan.now.limit }
-    ensures scanned { IsScannedByRoot (RefusesNoneOf S.is_place (S.has source.old) reader)
+    ensures scanned { IsScannedByRoot (λ key. MayRefuseOf S.is_place (S.has source.old) S.stands
+        (S.goes_over source.old) reader (Key key))
         reader.version reader.root scan.now.from.now scan.now.limit scan.now.notation
         (TakesFor W.seen sink.old sink.new) result }
     ensures keeping { (W.seen sink.old).is_keeping ≡ true → (W.seen sink.new).is_keeping ≡ true }

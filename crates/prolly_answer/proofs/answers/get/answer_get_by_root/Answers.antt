@@ -3,5 +3,5 @@ use Rattle.prolly_answer.proofs.answers.get.answer_get_by_root.Goals as goal
 
 pub returns : goal.returns
 returns g c = value_shown _ _ _ _ c.args.notation c.value_in-found.result c.answer_found.result
-    c.value_in-found.ensures.found c.value_in-found.ensures.lawful c.value_in-found.ensures.reads
+    c.value_in-found.ensures.found c.value_in-found.ensures.refuses c.value_in-found.ensures.reads
     c.answer_found.ensures

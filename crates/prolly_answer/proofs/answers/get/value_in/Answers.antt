@@ -1,3 +1,5 @@
+use Rattle.prolly_look_up.specs.Sought.Sought.{Key}
+use Rattle.prolly_answer.proofs.RootFaultSteps.{refuses_so}
 use Rattle.prolly_root.specs.Reader.{way_of}
 use Rattle.prolly_answer.proofs.FoundByRoot.{value_found}
 use Rattle.prolly_answer.proofs.answers.get.value_in.Goals as goal
@@ -6,3 +8,14 @@ pub returns-clause-found : goal.returns-clause-found
 returns-clause-found g c = value_found c.in_ok-reader.reader c.args.version c.args.root.now.0
     c.in_ok-reader.ensures.of (way_of c.get.new.self) c.args.key.now c.get.result
     c.get.ensures.found
+
+pub returns-clause-refuses : goal.returns-clause-refuses
+returns-clause-refuses g c =
+    let opened = c.in_ok-reader.ensures in
+    let looked = c.get.ensures in
+    refuses_so c.in_ok-reader.reader opened.of (Key c.args.key.now) (g.S.ChunkSource.has c.args.source.now)
+    (g.S.ChunkSource.goes_over c.args.source.now) c.get.result
+    (λ content has same root. looked.looked.lawful content (opened.keeps content has)
+    (opened.kept content has same root)) (λ file goes.
+    let told = opened.tells file goes in
+    (told.0, looked.tells.tells file (opened.goes file goes) told.1))

@@ -1,7 +1,7 @@
 use Rattle.std.proofs.Common.{None, Some, ◌∙◌, subst, sym}
 use Rattle.prolly_root_diff.specs.Notes.{AreNoted}
 use Rattle.prolly_root_diff.specs.Walks.{Gives, at_roots, lefts_of}
-use Rattle.prolly_answer.specs.RootOutcomes.{RefusesNone}
+use Rattle.prolly_answer.specs.RootFaults.{RefusesNone}
 use Rattle.prolly_fault.specs.declared.fault.Fault.TheVariants.{RootNew, RootOld}
 use Rattle.prolly_answer.proofs.RootDiffSteps.{WrotePart, WroteSoFar, all_told, begins, gave_so_far}
 use Rattle.prolly_answer.proofs.RootDiffSteps.{goes_on, keeps_first, keeps_on, may_new, may_old}

@@ -1,4 +1,4 @@
-use Rattle.prolly_answer.specs.RootOutcomes.{RefusesNone}
+use Rattle.prolly_answer.specs.RootFaults.{RefusesNone}
 use Rattle.prolly_answer.proofs.RootDiffSteps.{diff_told}
 use Rattle.prolly_answer.proofs.answers.root_diff.write_diff.Goals as goal
 

@@ -1,7 +1,9 @@
 use Rattle.std.proofs.Common.{◌≡◌, []}
 use Rattle.prolly_look_up.specs.Content.{Content}
 use Rattle.prolly_look_up.specs.ScanWay.{EndsEmpty}
-use Rattle.prolly_root.specs.Reader.{IsReaderOf}
+use Rattle.prolly_root.specs.ChunkFile.{ChunkFile}
+use Rattle.prolly_root.specs.ChunkSource.{GoesOverStill}
+use Rattle.prolly_root.specs.Reader.{IsReaderIn, IsReaderOf}
 use Rattle.prolly_answer.specs.RootDumps.{written_pairs}
 use Rattle.prolly_answer.proofs.KeyRanks.{AreBytes, room_above}
 use Rattle.prolly_answer.proofs.RootSteps.{IsUnderWay}
@@ -20,6 +22,10 @@ invariant-loop-next g l = record {
   opened : (content : Content) → g.S.ChunkSource.has l.initial.source content →
       IsReaderOf g.S.ChunkSource.is_place content l.fn.reader →
       IsReaderOf g.S.ChunkSource.is_place content l.reader;
+  goes : GoesOverStill g.S.ChunkSource.goes_over l.initial.source l.source;
+  stands : (file : ChunkFile) → g.S.ChunkSource.goes_over l.initial.source file →
+      IsReaderIn g.S.ChunkSource.stands file l.fn.reader →
+      IsReaderIn g.S.ChunkSource.stands file l.reader;
 }
 
 abbrev pub decreases-loop-next : goal.decreases-loop-next

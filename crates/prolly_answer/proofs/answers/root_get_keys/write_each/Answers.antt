@@ -2,9 +2,10 @@ use Rattle.std.proofs.Common.{◌∙◌, arith, option_map, refl, sym}
 use Rattle.std.proofs.lemmas.Result.{err_from_is_err_and}
 use Rattle.std.specs.Option.{option_copied}
 use Rattle.prolly_root.specs.Reader.{way_of}
-use Rattle.prolly_answer.specs.RootOutcomes.{RefusesNoneOf}
+use Rattle.prolly_answer.specs.RootFaults.{MayRefuseFirstOf}
 use Rattle.prolly_answer.proofs.KeySteps.{asking_begins, asking_cut_off, asking_fails, asks_on}
 use Rattle.prolly_answer.proofs.KeySteps.{way_found}
+use Rattle.prolly_answer.proofs.RootFaultSteps.{told_of}
 use Rattle.prolly_answer.proofs.answers.root_get_keys.write_each.Goals as goal
 
 pub loop-key-init : goal.loop-key-init
@@ -16,6 +17,8 @@ loop-key-init g c = record {
   reads = refl;
   keeps = λ content has. has;
   opened = λ content has opened. opened;
+  goes = λ file goes. goes;
+  stands = λ file goes opened. opened;
 }
 
 pub returns-in_err-value-clause-found : goal.returns-in_err-value-clause-found
@@ -24,10 +27,17 @@ returns-in_err-value-clause-found g c =
     let p = err_from_is_err_and c.from_residual.result c.from_residual.ensures.1 in
     rw (p.1, p.2) (asking_fails g.W.Sink.seen c.args.reader.version c.args.reader.root
     c.args.notation (λ k. k.items) c.args.keys.now
-    (RefusesNoneOf g.S.ChunkSource.is_place (g.S.ChunkSource.has c.args.source.now) c.args.reader)
-    c.loop-key.key-index c.args.sink.now c.loop-key.sink inv.asking c.in_err-value.field-0.0
-    (λ content has opened. c.in_err-value.ensures.looked.lawful content (inv.keeps content has)
-    (inv.opened content has opened)))
+    (MayRefuseFirstOf g.S.ChunkSource.is_place (g.S.ChunkSource.has c.args.source.now)
+    g.S.ChunkSource.stands (g.S.ChunkSource.goes_over c.args.source.now) c.args.reader)
+    c.loop-key.key-index c.args.sink.now c.loop-key.sink inv.asking c.key-item.result (omega arith)
+    c.key-item.is c.deref.result.now c.deref.ensures.value c.in_err-value.field-0.0 (λ left. (
+      λ content has opened. c.in_err-value.ensures.looked.lawful content (inv.keeps content has)
+          (inv.opened content has opened),
+      λ file goes opened. told_of c.args.reader c.loop-key.reader c.deref.result.now
+          c.deref.result.now inv.version inv.root refl file
+          (c.in_err-value.ensures.tells.tells file (inv.goes file goes)
+          (inv.stands file goes opened)),
+    )))
 
 pub returns-in_err-write_found-clause-found : goal.returns-in_err-write_found-clause-found
 returns-in_err-write_found-clause-found g c =
@@ -42,7 +52,8 @@ returns-in_err-write_found-clause-found g c =
     c.in_ok-value.ensures.found in
     rw (p.1, p.2) (asking_cut_off g.W.Sink.seen c.args.reader.version c.args.reader.root
     c.args.notation (λ k. k.items) c.args.keys.now
-    (RefusesNoneOf g.S.ChunkSource.is_place (g.S.ChunkSource.has c.args.source.now) c.args.reader)
+    (MayRefuseFirstOf g.S.ChunkSource.is_place (g.S.ChunkSource.has c.args.source.now)
+    g.S.ChunkSource.stands (g.S.ChunkSource.goes_over c.args.source.now) c.args.reader)
     c.loop-key.key-index c.args.sink.now c.loop-key.sink inv.asking c.key-item.result (omega arith)
     c.key-item.is c.deref-in-loop-key.result.now c.deref-in-loop-key.ensures.value
     (option_copied c.as_deref.result) (way_of c.get.new.self) one c.write_found.new.sink
@@ -62,7 +73,8 @@ loop-key-preserved g c =
       root = c.in_ok-value.ensures.looked.of.1 ∙ inv.root;
       asking = asks_on g.W.Sink.seen c.args.reader.version c.args.reader.root c.args.notation
           (λ k. k.items) c.args.keys.now
-          (RefusesNoneOf g.S.ChunkSource.is_place (g.S.ChunkSource.has c.args.source.now) c.args.reader)
+          (MayRefuseFirstOf g.S.ChunkSource.is_place (g.S.ChunkSource.has c.args.source.now)
+          g.S.ChunkSource.stands (g.S.ChunkSource.goes_over c.args.source.now) c.args.reader)
           c.loop-key.key-index c.args.sink.now c.loop-key.sink inv.asking c.key-item.result
           (omega arith) c.key-item.is c.deref-in-loop-key.result.now
           c.deref-in-loop-key.ensures.value (option_copied c.as_deref.result)
@@ -72,4 +84,7 @@ loop-key-preserved g c =
       keeps = λ content has. c.in_ok-value.ensures.looked.keeps content (inv.keeps content has);
       opened = λ content has opened. c.in_ok-value.ensures.looked.kept content (inv.keeps content has)
           (inv.opened content has opened);
+      goes = λ file goes. c.in_ok-value.ensures.tells.goes file (inv.goes file goes);
+      stands = λ file goes opened. c.in_ok-value.ensures.tells.kept file (inv.goes file goes)
+          (inv.stands file goes opened);
     }

@@ -1,6 +1,8 @@
 use Rattle.std.proofs.Common.{◌≡◌}
 use Rattle.prolly_look_up.specs.Content.{Content}
-use Rattle.prolly_root.specs.Reader.{IsReaderOf}
+use Rattle.prolly_root.specs.ChunkFile.{ChunkFile}
+use Rattle.prolly_root.specs.ChunkSource.{GoesOverStill}
+use Rattle.prolly_root.specs.Reader.{IsReaderIn, IsReaderOf}
 use Rattle.prolly_answer.proofs.KeySteps.{IsAsking}
 use Rattle.prolly_answer.proofs.answers.root_get_keys.write_each.Given as goal
 
@@ -16,4 +18,8 @@ invariant-loop-key g l = record {
   opened : (content : Content) → g.S.ChunkSource.has l.initial.source content →
       IsReaderOf g.S.ChunkSource.is_place content l.fn.reader →
       IsReaderOf g.S.ChunkSource.is_place content l.reader;
+  goes : GoesOverStill g.S.ChunkSource.goes_over l.initial.source l.source;
+  stands : (file : ChunkFile) → g.S.ChunkSource.goes_over l.initial.source file →
+      IsReaderIn g.S.ChunkSource.stands file l.fn.reader →
+      IsReaderIn g.S.ChunkSource.stands file l.reader;
 }
