@@ -33,6 +33,8 @@ pub enum Found {
     Pipe(FileId),
     /// A terminal, another device, a socket or a folder.
     Other,
+    /// What can't be told: a file may well be there.
+    Unseen,
 }
 
 impl Found {

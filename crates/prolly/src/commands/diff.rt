@@ -50,7 +50,7 @@ pub fn answer<T: Threads + Sync>(host: &Host<'_, T>, command: Command) -> Result
     match out {
         None => print_changes(host, &trees, stat, notation),
         Some(out) => {
-            let target = Target::look(rt, &out, OutputKind::RecordFile, mode)?;
+            let target = Target::look(rt, &out, OutputKind::RecordFile, mode);
             write_changes(host, &trees, stat, target)
         }
     }

@@ -39,7 +39,7 @@ pub fn answer<T: Threads + Sync>(host: &Host<'_, T>, command: Command) -> Result
         let tree = tree.open(rt, Stream::Output.found(rt)?)?;
         return Ok(write_pairs(host, tree, form, Patient::new(rt, rt.stdout()))?);
     };
-    let target = Target::look(rt, &out, kind_of(form), mode)?;
+    let target = Target::look(rt, &out, kind_of(form), mode);
     let tree = tree.open(rt, target.found())?;
     let mut output = Output::open(rt, target)?;
     let answer = write_pairs(host, tree, form, &mut output);

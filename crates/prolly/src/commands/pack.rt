@@ -53,7 +53,7 @@ pub fn answer<T: Wait>(host: &Host<'_, T>, command: Command) -> Result<Answer, R
 
 /// The record file of this name, which is to be written of standard input.
 fn target_of<'a>(rt: &HostRuntime, out: &'a str, mode: WriteMode) -> Result<Target<'a>, Refusal> {
-    let target = Target::look(rt, out, OutputKind::RecordFile, mode)?;
+    let target = Target::look(rt, out, OutputKind::RecordFile, mode);
     target.refuse_input(rt)?;
     refuse_printed_input(rt)?;
     Ok(target)

@@ -39,7 +39,7 @@ pub fn answer<T: Threads + Sync>(host: &Host<'_, T>, command: Command) -> Result
     };
     let rt = host.rt;
     let tree = NamedTree::of(file, root, version_of(version));
-    let target = Target::look(rt, &out, OutputKind::Proof, mode)?;
+    let target = Target::look(rt, &out, OutputKind::Proof, mode);
     let listed = keys_sought(rt, &sought, notation, target.found())?;
     let asked = Asked::of(rt, &sought, &listed)?;
     let tree = tree.open_after(rt, listed.file, target.found())?;

@@ -68,7 +68,7 @@ pub fn target_of<'a>(
     if files.len() > limit {
         return Err(Refusal::of_fault(rt, Fault::Run(RunFault::TooManyFiles)));
     }
-    let target = Target::look(rt, out, OutputKind::ChunkFile, mode)?;
+    let target = Target::look(rt, out, OutputKind::ChunkFile, mode);
     if files.is_empty() {
         target.refuse_full(rt)?;
     }

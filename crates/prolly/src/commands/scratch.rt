@@ -35,7 +35,7 @@ pub fn answer(rt: &HostRuntime, command: Command) -> Result<Answer, Refusal>
         let mut sink: Option<ToWrite<&File>> = None;
         return Ok(scratch_into(rt, bits, chunk_bytes, version, &mut sink)?);
     };
-    let target = Target::look(rt, &out, OutputKind::ChunkFile, mode)?;
+    let target = Target::look(rt, &out, OutputKind::ChunkFile, mode);
     target.refuse_input(rt)?;
     let mut output = Output::open_beside_answer(rt, target)?;
     let mut sink = Some(ToWrite::new(&mut output));

@@ -66,6 +66,7 @@ pub(crate) struct Replacement {
 impl Target<'_> {
     /// Opens or makes the file to write. What the output holds stays as it is.
     pub(crate) fn open(self, rt: &HostRuntime) -> Result<(File, Place), Refusal> {
+        self.refuse_unseen(rt)?;
         self.refuse_other_kind(rt)?;
         let is_atomic = self.mode().atomic;
         let is_whole = is_atomic || self.kind() != OutputKind::ChunkFile;
@@ -77,6 +78,14 @@ impl Target<'_> {
             Found::Regular(..) => Ok((self.open_old(rt)?, Place::Old)),
             _ if is_atomic => Err(self.refused(rt, NameFault::CannotReplace)),
             _ => Ok((self.open_stream(rt)?, Place::Stream)),
+        }
+    }
+
+    /// Refuses an output of which the system could not tell what it is.
+    fn refuse_unseen(self, rt: &HostRuntime) -> Result<(), Refusal> {
+        match self.found() {
+            Found::Unseen => Err(self.refused(rt, NameFault::CannotOpen)),
+            _ => Ok(()),
         }
     }
 

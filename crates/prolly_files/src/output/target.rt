@@ -22,25 +22,19 @@ pub struct Target<'a> {
 
 impl<'a> Target<'a> {
     /// Looks at what the name leads to, before any file is opened. Where the system can't tell, the
-    /// output is refused, since it may be a file that is to be read; and so are the empty name, which no
-    /// file has, and the number of an open file that nobody has opened.
-    pub fn look(
-        rt: &HostRuntime,
-        name: &'a str,
-        kind: OutputKind,
-        mode: WriteMode,
-    ) -> Result<Target<'a>, Refusal> {
-        match Found::at(rt, name) {
-            Ok(Found::Nothing) if is_open_number(rt, name) => {
-                Err(Refusal::of_name(rt, NameFault::CannotOpen, name))
-            }
-            Ok(found) if !name.is_empty() => Ok(Target {
-                name,
-                found,
-                kind,
-                mode,
-            }),
-            _ => Err(Refusal::of_name(rt, NameFault::CannotOpen, name)),
+    /// output can't be opened later, since it may be a file that is to be read. Nor can one of the empty
+    /// name, which no file has, or one that is the number of an open file and that nobody has opened.
+    pub fn look(rt: &HostRuntime, name: &'a str, kind: OutputKind, mode: WriteMode) -> Target<'a> {
+        let found = match Found::at(rt, name) {
+            Ok(Found::Nothing) if is_open_number(rt, name) => Found::Unseen,
+            Ok(found) if !name.is_empty() => found,
+            _ => Found::Unseen,
+        };
+        Target {
+            name,
+            found,
+            kind,
+            mode,
         }
     }
 
@@ -174,9 +168,9 @@ impl<'a> Target<'a> {
     /// Refuses where the name does not lead to this file any more: it was taken away, or another run
     /// has put its own there.
     pub(crate) fn refuse_other_file(self, rt: &HostRuntime, file: Found) -> Result<(), Refusal> {
-        let now = Target::look(rt, self.name, self.kind, self.mode)?;
+        let now = Target::look(rt, self.name, self.kind, self.mode);
         match now.found {
-            Found::Nothing => Err(self.refused(rt, NameFault::CannotOpen)),
+            Found::Nothing | Found::Unseen => Err(self.refused(rt, NameFault::CannotOpen)),
             found if found.is_same_file(file) => Ok(()),
             _ => Err(self.refused(rt, NameFault::IsBusy)),
         }
