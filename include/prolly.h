@@ -294,9 +294,9 @@ uint32_t prolly_verify(uint8_t version, const uint8_t root[20], const uint8_t *k
  *
  * PROLLY_DONE: the proof is `out[0 .. *count]`, and prolly_verify takes it. PROLLY_NO_ROOM: `*count`
  * is its length, and nothing else is written. PROLLY_USAGE: no such version. PROLLY_MEMORY: memory was
- * refused, as it is for a chunk of more than 1 GiB. Else the status is one of the faults of a chunk
- * file or of the last four, and `*chunk` the chunk that it names. The file of a tree with this root is
- * never refused so. Which fault of any other is told is not proved.
+ * refused, as it is for a chunk of more than 1 GiB. Else the status is that of the first fault that a
+ * look-up of the key finds in the file, one of a chunk file or of the last four, and `*chunk` the chunk
+ * that it names. The file of a tree with this root is never refused so.
  *
  * Cost: goes over the frames of the file, and hashes one chunk a level. Takes memory for these. */
 uint32_t prolly_prove(const uint8_t *bytes, size_t len, uint8_t version, const uint8_t root[20],
@@ -327,7 +327,8 @@ uint32_t prolly_verify_range(uint8_t version, const uint8_t root[20], const uint
                              uint64_t *chunk);
 
 /* The proof of what the tree of version 1 or 2 with this root has in a range, out of its chunk file,
- * which need not be checked. Else as prolly_prove; prolly_verify_range takes what is written.
+ * which need not be checked. Else as prolly_prove, but that it is not proved which fault is told;
+ * prolly_verify_range takes what is written.
  *
  * Cost: goes over the frames of the file, and hashes the chunks of the proof. Takes memory for the
  * proof. */

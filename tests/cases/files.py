@@ -658,6 +658,19 @@ def is_a_link(place):
         place.holds(out=TREE, real=TREE, **files)
 
 
+def is_told_behind_the_inputs(place):
+    """An output whose name can't be looked at is refused when it would be opened: behind an input that can't be opened."""
+    place.lay(a_rec=A)
+    place.path("loop").symlink_to("loop")
+    for name in ("", "a.rec/out", "o" * 256, "loop"):
+        for flags in ([], ["--atomic"], ["--force"]):
+            place.answers(place.run("build", *flags, name, "none.rec"), refusal(b"cannot open none.rec"))
+            place.answers(place.run("dump", *flags, "none.prl", name), refusal(b"cannot open none.prl"))
+            place.answers(place.run("build", *flags, name, "a.rec"), refusal(b"cannot open " + name.encode()))
+    place.path("loop").unlink()
+    place.holds(a_rec=A)
+
+
 def is_read_only(place):
     """A file that may not be written, and one that may not be read."""
     place.lay(a_rec=A, out=OLD_TREE)
@@ -731,7 +744,7 @@ def tests():
     yield from in_part()
     alone = [is_a_device, is_told_early, needs_its_folder, one_of_two, is_not_on_the_disk, has_few_files, has_few_threads]
     alone += [is_checked_without_threads, has_little_room, is_a_pipe, comes_meanwhile, is_in_an_odd_folder, needs_to_read_its_folder]
-    alone += [is_no_open_file, is_a_link, is_read_only, is_shown_escaped, is_process_substitution, grows]
+    alone += [is_no_open_file, is_told_behind_the_inputs, is_a_link, is_read_only, is_shown_escaped, is_process_substitution, grows]
     for test in alone:
         yield test.__name__.replace("_", " "), test
     for name in ("folder", "pipe", "/dev/null"):
