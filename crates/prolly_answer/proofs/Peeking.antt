@@ -1,5 +1,5 @@
 -- Looking at one source after another.
-use Rattle.std.proofs.Common.{◌≡◌, ℕ, List, [], ◌∷◌, ◌++◌, length, map, take, true, refl, sym, ap, subst}
+use Rattle.std.proofs.Common.{◌≡◌, ℕ, List, [], ◌∷◌, ◌++◌, length, take, true, refl, sym, ap, subst}
 use Rattle.std.proofs.Common.{◌∙◌, ◌≢◌, suc}
 use Rattle.std.proofs.lemmas.List.{append-nil, append_assoc, map-append}
 use Rattle.prolly_entry.specs.lemmas.Lists.{all_back, all_front}

@@ -15,6 +15,9 @@ use Rattle.prolly_io.specs.Sink.{IsSettled, SinkView}
 use Rattle.prolly_root.specs.RootFault.{TellsFailure}
 use Rattle.prolly_root.specs.declared.root_fault.RootFault.{RootFault}
 use Rattle.prolly_root.specs.declared.root_fault.RootFault.TheVariants as roots
+use Rattle.prolly_root.specs.ChunkFile.{ChunkFile}
+use Rattle.prolly_root.specs.ChunkSource.{HasTree}
+use Rattle.prolly_root.specs.lemmas.LawfulFiles.{has_still}
 use Rattle.prolly_root_diff.specs.Sides.{IsAtRoot, IsSideOf}
 use Rattle.prolly_root_diff.specs.Notes.{AreNoted, TellsMissing}
 use Rattle.prolly_root_diff.specs.Walks.{BeforeIsRight, Changes, Ends, FailsAt, FoundClash, Gives}
@@ -31,7 +34,6 @@ use Rattle.prolly_root_diff.specs.lemmas.Roots.{begins_in}
 use Rattle.prolly_text.specs.RecordForms.{spelled, written_records}
 use Rattle.prolly_text.specs.declared.lines.form.RecordForm.{RecordForm}
 use Rattle.prolly_tree.specs.File.{root_reference}
-use Rattle.prolly_tree.specs.Tree.{Tree}
 use Rattle.prolly_answer.specs.Counts.{AreCounts, are_some, counts_line}
 use Rattle.prolly_answer.specs.Diff.{AreStopped, AreWritten}
 use Rattle.prolly_answer.specs.Outputs.{IsSettledAs, TookAll, TookSoFar, TookUntil}
@@ -52,63 +54,67 @@ use Rattle.prolly_answer.proofs.Writing.{flushed, took_more, took_none, took_unt
 
 -- ---- the trees
 
--- A source has what it had, no call of it failed, and what is left of its tree is so still.
-pub record KeepsTo {S T : Type 0} (has : S → Content → Type 0) (failures : S → ℕ)
-    (is_place : Content → (level : ℕ) → Tree level → T → Type 0) (version : Version)
+-- The files that a source went over it goes over still, no call of it failed, and what is left of
+-- its tree is so still.
+pub record KeepsTo {S T : Type 0} (goes_over : S → ChunkFile → Type 0) (failures : S → ℕ)
+    (stands_at : ChunkFile → T → ℕ → ℕ → Type 0) (version : Version)
     (root : List ℕ) (old new : S) (side : Side T) : Type 0 where
-  pub still : HasStill has failures old new
-  pub lawful : (content : Content) → has old content → version ≡ content.version →
+  pub still : HasStill goes_over failures old new
+  pub lawful : (content : Content) → HasTree goes_over old content → version ≡ content.version →
       root ≡ root_reference (sha512_cut content.bits) content.version content.pairs →
-      IsSideOf is_place content side
+      IsSideOf stands_at content side
 
-module _ {S T : Type 0} (has : S → Content → Type 0) (failures : S → ℕ)
-    (is_place : Content → (level : ℕ) → Tree level → T → Type 0) (version : Version)
+module _ {S T : Type 0} (goes_over : S → ChunkFile → Type 0) (failures : S → ℕ)
+    (stands_at : ChunkFile → T → ℕ → ℕ → Type 0) (version : Version)
     (root : List ℕ) (old : S) where
   pub keeps_first : (side : Side T) → IsAtRoot root side →
-      KeepsTo has failures is_place version root old old side
+      KeepsTo goes_over failures stands_at version root old old side
   keeps_first side at = record {
-    still = record { has_still = λ content h. h; failures_are = refl };
-    lawful = λ content h same is. begins_in is_place content root side at is;
+    still = record { goes_still = λ file goes. goes; failures_are = refl };
+    lawful = λ content h same is. begins_in stands_at content root side at is;
   }
 
   pub keeps_on : (walked : Version) → walked ≡ version → (mid new : S) (side later : Side T) →
-      KeepsTo has failures is_place version root old mid side →
-      GoesOn has failures is_place walked mid new side later →
-      KeepsTo has failures is_place version root old new later
+      KeepsTo goes_over failures stands_at version root old mid side →
+      GoesOn goes_over failures stands_at walked mid new side later →
+      KeepsTo goes_over failures stands_at version root old new later
   keeps_on walked same mid new side later keeps on = record {
     still = record {
-      has_still = λ content h. on.still.has_still content (keeps.still.has_still content h);
+      goes_still = λ file goes. on.still.goes_still file (keeps.still.goes_still file goes);
       failures_are = on.still.failures_are ∙ keeps.still.failures_are;
     };
-    lawful = λ content h is named. on.lawful content (keeps.still.has_still content h) (same ∙ is)
-        (keeps.lawful content h is named);
+    lawful = λ content has is named. on.lawful content (has_still keeps.still.goes_still has)
+        (same ∙ is) (keeps.lawful content has is named);
   }
 
   pub may_fail : (walked : Version) → walked ≡ version → (mid new : S) (side : Side T)
-      (fault : RootFault) → KeepsTo has failures is_place version root old mid side →
-      FailsAt has failures is_place walked mid new side fault →
-      RefusesNone (has old) version root fault
-  may_fail walked same mid new side fault keeps at content h is named =
-      at.lawful content (keeps.still.has_still content h) (same ∙ is)
-      (keeps.lawful content h is named)
+      (fault : RootFault) → KeepsTo goes_over failures stands_at version root old mid side →
+      FailsAt goes_over failures stands_at walked mid new side fault →
+      RefusesNone (goes_over old) version root fault
+  may_fail walked same mid new side fault keeps at content lawful goes is named =
+      let has : HasTree goes_over old content = record { lawful = lawful; goes = goes } in
+      at.lawful content (has_still keeps.still.goes_still has) (same ∙ is)
+      (keeps.lawful content has is named)
 
   pub may_old : (walked : Version) → walked ≡ version → (mid new : S) (side later : Side T)
-      (fault : RootDiffFault) → KeepsTo has failures is_place version root old mid side →
-      TellsOld {C = Option RootChange} has failures is_place walked mid new side later (Err fault) →
-      (f : RootFault) → fault ≡ walks.Old f → RefusesNone (has old) version root f
+      (fault : RootDiffFault) → KeepsTo goes_over failures stands_at version root old mid side →
+      TellsOld {C = Option RootChange} goes_over failures stands_at walked mid new side later
+      (Err fault) →
+      (f : RootFault) → fault ≡ walks.Old f → RefusesNone (goes_over old) version root f
   may_old walked same mid new side later fault keeps tells f is =
       may_fail walked same mid new side f keeps
-      (subst (λ x. TellsOld {C = Option RootChange} has failures is_place walked mid new side later
-      (Err x)) is tells)
+      (subst (λ x. TellsOld {C = Option RootChange} goes_over failures stands_at walked mid new
+      side later (Err x)) is tells)
 
   pub may_new : (walked : Version) → walked ≡ version → (mid new : S) (side later : Side T)
-      (fault : RootDiffFault) → KeepsTo has failures is_place version root old mid side →
-      TellsNew {C = Option RootChange} has failures is_place walked mid new side later (Err fault) →
-      (f : RootFault) → fault ≡ walks.New f → RefusesNone (has old) version root f
+      (fault : RootDiffFault) → KeepsTo goes_over failures stands_at version root old mid side →
+      TellsNew {C = Option RootChange} goes_over failures stands_at walked mid new side later
+      (Err fault) →
+      (f : RootFault) → fault ≡ walks.New f → RefusesNone (goes_over old) version root f
   may_new walked same mid new side later fault keeps tells f is =
       may_fail walked same mid new side f keeps
-      (subst (λ x. TellsNew {C = Option RootChange} has failures is_place walked mid new side later
-      (Err x)) is tells)
+      (subst (λ x. TellsNew {C = Option RootChange} goes_over failures stands_at walked mid new
+      side later (Err x)) is tells)
 
 -- ---- the sink
 
@@ -530,12 +536,13 @@ one_old f g e = cc
 one_new : (f g : RootFault) → faults.RootNew f ≡ faults.RootNew g → f ≡ g
 one_new f g e = cc
 
-module _ {S T : Type 0} (has : S → Content → Type 0) (failures : S → ℕ)
-    (is_place : Content → (level : ℕ) → Tree level → T → Type 0) (version : Version)
+module _ {S T : Type 0} (goes_over : S → ChunkFile → Type 0) (failures : S → ℕ)
+    (stands_at : ChunkFile → T → ℕ → ℕ → Type 0) (version : Version)
     (first old new : S) (before after : Side T) (same : failures old ≡ failures first)
   where
     pub walk_tells_old : (fault : RootDiffFault) →
-        TellsOld {C = Option RootChange} has failures is_place version old new before after (Err fault) →
+        TellsOld {C = Option RootChange} goes_over failures stands_at version old new before after
+        (Err fault) →
         TellsBeside faults.RootOld (failures first) (failures new) (fault_of fault)
     walk_tells_old (walks.Old f) t = own_tells faults.RootOld one_old (failures first) (failures new) f
         (subst (λ n. TellsFailure n (failures new) f) same t.told)
@@ -544,7 +551,8 @@ module _ {S T : Type 0} (has : S → Content → Type 0) (failures : S → ℕ)
     walk_tells_old walks.Stopped t = inr (λ e. cc, t.failures_are ∙ same)
 
     pub walk_tells_new : (fault : RootDiffFault) →
-        TellsNew {C = Option RootChange} has failures is_place version old new before after (Err fault) →
+        TellsNew {C = Option RootChange} goes_over failures stands_at version old new before after
+        (Err fault) →
         TellsBeside faults.RootNew (failures first) (failures new) (fault_of fault)
     walk_tells_new (walks.New f) t = own_tells faults.RootNew one_new (failures first) (failures new) f
         (subst (λ n. TellsFailure n (failures new) f) same t.told)

@@ -1,21 +1,20 @@
 -- Which fault is told of a chunk file of any bytes: by a reader, and by who opened it.
-use Rattle.std.proofs.Common.{◌≡◌, ◌⊎◌, ℕ, List, [], ◌∷◌, Some, None, Result, Ok, Err, inl, inr, refl}
-use Rattle.std.proofs.Common.{sym, ap, subst}
-use Rattle.std.specs.Prelude.{IfErr, MatchResult}
-use Rattle.prolly_look_up.specs.Content.{Content}
+use Rattle.std.proofs.Common.{◌≡◌, ◌⊎◌, ℕ, List, [], ◌∷◌, Some, None, Result, Ok, Err, inl, inr}
+use Rattle.std.proofs.Common.{subst}
+use Rattle.std.specs.Prelude.{IfErr}
 use Rattle.prolly_look_up.specs.Sought.{Sought}
 use Rattle.prolly_look_up.specs.Sought.Sought.{Key}
 use Rattle.prolly_entry.specs.Cut.{sha512_cut}
 use Rattle.prolly_entry.specs.declared.version.Version.{Version}
 use Rattle.prolly_root.specs.ChunkFile.{ChunkFile, file_fault}
-use Rattle.prolly_root.specs.LookUpFault.{IsFirstFault, MayTell, TellsWay}
-use Rattle.prolly_root.specs.Reader.{IsReaderIn, IsReaderOf, ReaderView}
-use Rattle.prolly_root.specs.RootFault.{MayFail, OnlyRead, IsOrFails}
+use Rattle.prolly_root.specs.ChunkFile.{chunk_file}
+use Rattle.prolly_root.specs.LookUpFault.{IsFirstFault, LawfulFilesAreRead, MayTell, TellsWay}
+use Rattle.prolly_root.specs.Reader.{IsReaderIn, ReaderView}
+use Rattle.prolly_root.specs.RootFault.{MayFail, OnlyRead}
 use Rattle.prolly_root.specs.declared.root_fault.RootFault.{RootFault}
 use Rattle.prolly_tree.specs.File.{root_reference}
-use Rattle.prolly_tree.specs.Tree.{Tree}
-use Rattle.prolly_answer.specs.RootFaults.{MayRefuse, MayRefuseFirst}
-use Rattle.prolly_answer.specs.RootFaults.{MayRefuseFirstOf, RefusesNone}
+use Rattle.prolly_answer.specs.RootFaults.{MayRefuse, MayRefuseFirst, RefusesNone, TellsFirst}
+use Rattle.prolly_answer.specs.RootFaults.{TellsFirstKeyOf}
 
 -- what a reader tells that is of the same version and root as when it was opened
 pub told_of : {T : Type 0} (begun now : ReaderView T) (next from : List ℕ) →
@@ -49,49 +48,68 @@ opened_told reader {version = version} {root = root} of file fine {sought = soug
     go (inl may) = inl may
     go (inr why) = inr (inr (fine, why))
 
+-- ---- of a lawful file
+
+-- it has no first fault, so it is not refused
+pub none_refused : {goes_over : ChunkFile → Type 0} {version : Version} {root : List ℕ}
+    {sought : Sought} {fault : RootFault} → LawfulFilesAreRead →
+    TellsFirst goes_over version root sought fault →
+    MayRefuse goes_over version root sought fault
+none_refused {goes_over = goes_over} {version = version} {root = root} {sought = sought}
+    {fault = fault} law first = (none, first)
+  where
+    none : RefusesNone goes_over version root fault
+    none content lawful goes same named = by_fault (first (chunk_file content) goes)
+      where
+        by_fault : MayFail fault ⊎ IsFirstFault version (chunk_file content) root sought fault →
+            MayFail fault
+        by_fault (inl may) = may
+        by_fault (inr told) = absurd (law content sought fault lawful
+            (subst (λ v. IsFirstFault v (chunk_file content)
+            (root_reference (sha512_cut content.bits) content.version content.pairs) sought fault)
+            same
+            (subst (λ r. IsFirstFault version (chunk_file content) r sought fault) named told)))
+
 -- the one look-up of a reader that was opened is refused so
 pub refuses_so : {T V : Type 0} (reader : ReaderView T) {version : Version} {root : List ℕ} →
     (reader.version ≡ version) × (reader.root ≡ root) → (sought : Sought) →
-    (has : Content → Type 0) (goes_over : ChunkFile → Type 0) (result : Result V RootFault) →
-    ((content : Content) → has content → version ≡ content.version →
-    root ≡ root_reference (sha512_cut content.bits) content.version content.pairs →
-    IfErr result MayFail) → ((file : ChunkFile) → goes_over file →
+    (goes_over : ChunkFile → Type 0) → LawfulFilesAreRead → (result : Result V RootFault) →
+    ((file : ChunkFile) → goes_over file →
     (file_fault version file ≡ None) × TellsWay reader.version file reader.root sought result) →
-    IfErr result (MayRefuse has goes_over version root sought)
-refuses_so reader of sought has goes_over (Ok value) may tells = tt
-refuses_so reader of sought has goes_over (Err fault) may tells =
-    (may, λ file goes. let told = tells file goes in opened_told reader of file told.0 told.1)
+    IfErr result (MayRefuse goes_over version root sought)
+refuses_so reader of sought goes_over law (Ok value) tells = tt
+refuses_so reader of sought goes_over law (Err fault) tells = none_refused law
+    (λ file goes. let told = tells file goes in opened_told reader of file told.0 told.1)
 
 -- ---- many keys
 
-pub keys_not_opened : {has : Content → Type 0} {goes_over : ChunkFile → Type 0} {version : Version}
-    {root : List ℕ} (keys : List (List ℕ)) {fault : RootFault} →
-    RefusesNone has version root fault → ((file : ChunkFile) → goes_over file →
+pub keys_not_opened : {goes_over : ChunkFile → Type 0} (version : Version) (root : List ℕ) →
+    LawfulFilesAreRead → (keys : List (List ℕ)) {fault : RootFault} →
+    ((file : ChunkFile) → goes_over file →
     OnlyRead fault ⊎ (file_fault version file ≡ Some fault)) →
-    MayRefuseFirst has goes_over version root keys fault
-keys_not_opened [] {fault = fault} none told = (none, λ file goes. only (told file goes))
+    MayRefuseFirst goes_over version root keys fault
+keys_not_opened {goes_over = goes_over} version root law keys {fault = fault} told = by_keys keys
   where
     only : {A : Type 0} → OnlyRead fault ⊎ A → MayFail fault ⊎ A
     only (inl read) = inl (inr read)
     only (inr a) = inr a
-keys_not_opened (key ∷ keys) none told = (none, λ file goes. not_opened file (told file goes))
+
+    refused : (key : List ℕ) → MayRefuse goes_over version root (Key key) fault
+    refused key = none_refused law (λ file goes. not_opened file (told file goes))
+
+    by_keys : (keys : List (List ℕ)) → MayRefuseFirst goes_over version root keys fault
+    by_keys [] = ((refused []).0, λ file goes. only (told file goes))
+    by_keys (key ∷ keys) = refused key
 
 pub keys_told_of : {T : Type 0} (reader : ReaderView T)
-    {is_place : Content → (level : ℕ) → Tree level → T → Type 0} {has mid : Content → Type 0}
     {stands : ChunkFile → T → ℕ → ℕ → Type 0} {goes_over over : ChunkFile → Type 0}
     {version : Version} {root : List ℕ} → (reader.version ≡ version) × (reader.root ≡ root) →
-    (left : List (List ℕ)) (fault : RootFault) → ((content : Content) → has content →
-    version ≡ content.version →
-    root ≡ root_reference (sha512_cut content.bits) content.version content.pairs →
-    mid content × IsReaderOf is_place content reader) →
+    LawfulFilesAreRead → (left : List (List ℕ)) (fault : RootFault) →
     ((file : ChunkFile) → goes_over file → over file) → ((file : ChunkFile) → goes_over file →
     (file_fault version file ≡ None) × IsReaderIn stands file reader) →
-    MayRefuseFirstOf is_place mid stands over reader left fault →
-    MayRefuseFirst has goes_over version root left fault
-keys_told_of reader of [] fault kept goes opened may = absurd may
-keys_told_of reader of (key ∷ left) fault kept goes opened may = (
-  λ content has same root. let k = kept content has same root in may.0 content k.0 k.1,
-  λ file over.
-      let o = opened file over in
-      opened_told reader of file o.0 (may.1 file (goes file over) o.1),
-)
+    TellsFirstKeyOf stands over reader left fault →
+    MayRefuseFirst goes_over version root left fault
+keys_told_of reader of law [] fault goes opened may = absurd may
+keys_told_of reader of law (key ∷ left) fault goes opened may = none_refused law (λ file over.
+    let o = opened file over in
+    opened_told reader of file o.0 (may file (goes file over) o.1))

@@ -4,6 +4,7 @@ use Rattle.std.specs.Prelude.{Option, Result, Ok, Err}
 use Rattle.std.specs.List.{AllByRecursion, filter}
 use Rattle.prolly_look_up.specs.Content.{Content, chunk_bytes}
 use Rattle.prolly_look_up.specs.Way.{Clash}
+use Rattle.prolly_root.specs.ChunkFile.{ChunkFile, IsLawful, chunk_file}
 use Rattle.prolly_entry.specs.Cut.{sha512_cut}
 use Rattle.prolly_entry.specs.Pair.{Pair, IsPair}
 use Rattle.prolly_entry.specs.declared.version.Version.{Version}
@@ -64,11 +65,11 @@ IsProveSet set bytes failed old new untouched answer =
 
 -- ---- proofs that are made by the root
 
--- Where the source has a tree of this version and with this root, the fault is only a failed write,
--- a failed read, or want of memory.
-abbrev pub RefusesNoProof : (Content → Type 0) → Version → List ℕ → ProveFault → Type 0
-RefusesNoProof has version root fault = (content : Content) → has content →
-    version ≡ content.version →
+-- Where the source goes over the file of a tree of this version and with this root, the fault is
+-- only a failed write, a failed read, or want of memory.
+abbrev pub RefusesNoProof : (ChunkFile → Type 0) → Version → List ℕ → ProveFault → Type 0
+RefusesNoProof goes_over version root fault = (content : Content) → IsLawful content →
+    goes_over (chunk_file content) → version ≡ content.version →
     root ≡ root_reference (sha512_cut content.bits) content.version content.pairs → MayFailTo fault
 
 -- What happens to a source of chunks and to a sink: how many calls of the source had failed before

@@ -6,6 +6,7 @@ ghost use Rattle.prolly_build.specs.Config.{AreLawful};
 ghost use Rattle.prolly_build.specs.GivenBack.{IsGivenBack};
 ghost use Rattle.prolly_build.specs.OldBase.{AreChangesPaired};
 ghost use Rattle.prolly_report.specs.declared.apply_fault.ApplyFault.TheVariants.{Run};
+ghost use Rattle.prolly_root.specs.ChunkSource.{HasTree};
 
 use crate::config::Config;
 use crate::links::{StageLinks, both};
@@ -54,12 +55,12 @@ where
     requires leaves { old.base.out.link ≡ old.base.leaves.old.link }
     requires changes { AreChangesPaired (vec_len sources.old) old.base.feed.outs.items
         old.base.leaves.changes old.idle }
-    ensures outcome { IsApplyOutcome S.seen (D.has old.base.middle.source)
+    ensures outcome { IsApplyOutcome S.seen (HasTree D.goes_over old.base.middle.source)
         lent.now.config old.base.middle.root.0 sources.old.items sources.new.items (W.seen sink.old)
         (W.seen sink.new) (sink.new ≡ sink.old) result.answer }
     ensures counted { result.answer ≡ Err (Run TooManyFiles) → ⊥ }
-    ensures given_back { IsGivenBack D.has D.failures old.base.middle.source result.source
-        result.answer }
+    ensures given_back { IsGivenBack (HasTree D.goes_over) D.failures old.base.middle.source
+        result.source result.answer }
 {
     let OldBase { base, idle } = old;
     let taken = mem::replace(sources, Vec::new(lent.alloc));
@@ -132,10 +133,11 @@ pub fn apply_changes_with<
 where
     D::Place: Send,
     ensures too_many { (result.answer ≡ Err (Run TooManyFiles)) ↔ (15 < vec_len sources.old) }
-    ensures outcome { IsApplyOutcome S.seen (D.has old) config.now root.now.0
+    ensures outcome { IsApplyOutcome S.seen (HasTree D.goes_over old) config.now root.now.0
         sources.old.items sources.new.items (W.seen sink.old) (W.seen sink.new) (sink.new ≡ sink.old)
         result.answer }
-    ensures given_back { IsGivenBack D.has D.failures old result.source result.answer }
+    ensures given_back { IsGivenBack (HasTree D.goes_over) D.failures old result.source
+        result.answer }
 {
     if sources.len() > CHANGES_LIMIT {
         return AppliedChanges {
@@ -181,10 +183,11 @@ pub fn apply_changes<
 where
     D::Place: Send,
     ensures too_many { (result.answer ≡ Err (Run TooManyFiles)) ↔ (15 < vec_len sources.old) }
-    ensures outcome { IsApplyOutcome S.seen (D.has old) config.now root.now.0
+    ensures outcome { IsApplyOutcome S.seen (HasTree D.goes_over old) config.now root.now.0
         sources.old.items sources.new.items (W.seen sink.old) (W.seen sink.new) (sink.new ≡ sink.old)
         result.answer }
-    ensures given_back { IsGivenBack D.has D.failures old result.source result.answer }
+    ensures given_back { IsGivenBack (HasTree D.goes_over) D.failures old result.source
+        result.answer }
 {
     apply_changes_with(rt, alloc, config, root, old, sources, sink, gate, &AllStart)
 }

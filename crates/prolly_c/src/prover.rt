@@ -15,6 +15,7 @@ use crate::gathered::Gathered;
 use prolly_entry::{Ref, Version};
 use prolly_io::InMemory;
 use prolly_range::{KeySet, ProveFault, prove_set};
+use prolly_root::laws::lawful_files_are_read;
 use prolly_root::{FileChunks, Reader, RootFault};
 use std::alloc::Global;
 
@@ -38,6 +39,8 @@ pub(crate) fn proof_in(
         IsFirstFault version file root.now.0 (Key key.now) fault) }
     ensures unread { IfErr result (λ fault. fault ≢ Read) }
 {
+    // By this law a lawful file has no fault.
+    lawful_files_are_read();
     let mut chunks = FileChunks::new(InMemory::new(bytes));
     match Reader::open(alloc, &mut chunks, version, root) {
         Ok(mut reader) => reader.prove(alloc, &mut chunks, key),

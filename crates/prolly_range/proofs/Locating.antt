@@ -11,10 +11,12 @@ use Rattle.prolly_look_up.specs.Kinds.{Entries}
 use Rattle.prolly_look_up.specs.Kinds.Entries.{Leaf, Node}
 use Rattle.prolly_look_up.specs.Way.{level_of}
 use Rattle.prolly_entry.specs.declared.version.Version.{Version}
-use Rattle.prolly_root.specs.ChunkSource.{IsChildNumber}
+use Rattle.prolly_root.specs.ChunkFile.{ChunkFile}
+use Rattle.prolly_root.specs.FileTrees.{IsChildNumber, IsTreePlace}
 use Rattle.prolly_root.specs.Descent.{StandsBelow}
 use Rattle.prolly_root.specs.RootFault.{IsOrFails, OnlyRead}
 use Rattle.prolly_root.specs.declared.root_fault.RootFault.{RootFault}
+use Rattle.prolly_root.specs.lemmas.LawfulFiles.{FindsIn, StaysIn, child_place, node_place}
 use Rattle.prolly_root.specs.lemmas.Places.{level_is}
 use Rattle.prolly_tree.specs.Tree.{Tree, bytes_of, greatest_key}
 use Rattle.prolly_range.specs.Children.{SeenMet, seen_met}
@@ -22,18 +24,18 @@ use Rattle.prolly_range.specs.KeySet.{KeySet, Met, met_first, met_in, part_behin
 use Rattle.prolly_range.specs.Prover.{AreChildrenThere, IsChildThere}
 use Rattle.prolly_range.proofs.Taking.{as_child, met_children}
 
-module _ {T : Type 0} (is_place : Content → (level : ℕ) → Tree level → T → Type 0)
+module _ {T : Type 0} (stands_at : ChunkFile → T → ℕ → ℕ → Type 0)
     (content : Content) where
   -- ---- finding the next child
 
   -- the child stands there, one level below the node
   abbrev pub FoundAt : SeenMet → ℕ → Result T RootFault → Type 0
   FoundAt met level found =
-      IsOrFails (StandsBelow is_place content met.reference (Some level)) OnlyRead found
+      IsOrFails (StandsBelow stands_at content met.reference (Some level)) OnlyRead found
 
   found_at : (level : ℕ) (met : SeenMet) (ts : List (Tree (level - 1))) → 0 < level →
       (there : IsChildThere content (level - 1) ts met) → (found : Result T RootFault) →
-      IsOrFails (is_place content (level - 1) there.t) OnlyRead found → FoundAt met level found
+      IsOrFails (IsTreePlace stands_at content (level - 1) there.t) OnlyRead found → FoundAt met level found
   found_at level met ts high there (Ok place) stands = record {
     at = record {
       level = level - 1;
@@ -49,16 +51,14 @@ module _ {T : Type 0} (is_place : Content → (level : ℕ) → Tree level → T
 
   pub next_there : (level : ℕ) (met : SeenMet) (others : List SeenMet) (place new : T)
       (found : Result T RootFault) → 0 < level →
-      AreChildrenThere is_place content (level - 1) place (met ∷ others) →
-      ((ts : List (Tree (level - 1))) → is_place content (suc (level - 1)) ts place →
-      is_place content (suc (level - 1)) ts new) →
-      ((ts : List (Tree (level - 1))) (t : Tree (level - 1)) →
-      is_place content (suc (level - 1)) ts place → IsChildNumber (level - 1) ts met.number t →
-      IsOrFails (is_place content (level - 1) t) OnlyRead found) →
-      AreChildrenThere is_place content (level - 1) new others × FoundAt met level found
-  next_there level met others place new found high a keeps finds = (
-    record { ts = a.ts; stands = keeps a.ts a.stands; each = a.each.1 },
-    found_at level met a.ts high a.each.0 found (finds a.ts a.each.0.t a.stands a.each.0.at),
+      AreChildrenThere stands_at content (level - 1) place (met ∷ others) →
+      StaysIn stands_at content (level - 1) place new →
+      FindsIn stands_at content (level - 1) met.number place found →
+      AreChildrenThere stands_at content (level - 1) new others × FoundAt met level found
+  next_there level met others place new found high a stays finds = (
+    record { ts = a.ts; stands = node_place stands_at content stays a.stands; each = a.each.1 },
+    found_at level met a.ts high a.each.0 found
+        (child_place stands_at content found finds a.stands a.each.0.at),
   )
 
   -- ---- the children of a node that are met
@@ -108,10 +108,10 @@ module _ {T : Type 0} (is_place : Content → (level : ℕ) → Tree level → T
   pub children_there : ((version : Version) → ChildIsTree version) →
       ((version : Version) → TopIsRead version) → (level : ℕ) (t : Tree level) (set : KeySet)
       (chunk : List ℕ) (place : T) (met : List SeenMet) →
-      IsTreeOf content.version (chunks_of content) level t → is_place content level t place →
+      IsTreeOf content.version (chunks_of content) level t → IsTreePlace stands_at content level t place →
       chunk ≡ bytes_of content.version level t → 0 < level_of chunk → met ≡ map seen_met
       (met_in (λ c. c.key) 0 (Some set) (children_in content.version (drop 1 chunk))) →
-      AreChildrenThere is_place content (level_of chunk - 1) place met
+      AreChildrenThere stands_at content (level_of chunk - 1) place met
   children_there child_is read zero leaf set chunk place met below stands is high e =
       absurd (omega (arith, high, ap level_of is, level_is content.version 0 leaf))
   children_there child_is read (suc level) ts set chunk place met below stands is high e =
@@ -124,7 +124,7 @@ module _ {T : Type 0} (is_place : Content → (level : ℕ) → Tree level → T
       let lower : level ≡ level_of chunk - 1 =
       sym (ap (λ n. n - 1) (ap level_of is ∙ level_is content.version (suc level) ts) ∙
       one_less level) in
-      subst (λ n. AreChildrenThere is_place content n place met) lower (record {
+      subst (λ n. AreChildrenThere stands_at content n place met) lower (record {
         ts = ts;
         stands = stands;
         each = subst (AllByRecursion (IsChildThere content level ts)) (sym ms)

@@ -10,7 +10,8 @@ use Rattle.prolly_entry.specs.declared.version.Version.{Version}
 use Rattle.prolly_io.specs.Failures.{after_failure}
 use Rattle.prolly_io.specs.Frame.{framed, IsSmall}
 use Rattle.prolly_io.specs.Sink.{SinkView, TakesPrefix}
-use Rattle.prolly_root.specs.ChunkSource.{IsChildNumber}
+use Rattle.prolly_root.specs.ChunkFile.{ChunkFile}
+use Rattle.prolly_root.specs.FileTrees.{IsChildNumber, IsTreePlace}
 use Rattle.prolly_root.specs.Descent.{StandsBelow}
 use Rattle.prolly_root.specs.RootFault.{MayFail, TellsFailure}
 use Rattle.prolly_root.specs.declared.root_fault.RootFault.TheVariants.{Memory}
@@ -38,9 +39,9 @@ ProvesNext version old (Some chunk) new = (pairs : List Pair) × Takes version o
 -- ---- in a lawful tree
 
 -- The chunk that is due is the top of a tree of the content, and stands in its place.
-abbrev pub IsLocated : {T : Type 0} → (Content → (level : ℕ) → Tree level → T → Type 0) → Content →
+abbrev pub IsLocated : {T : Type 0} → (ChunkFile → T → ℕ → ℕ → Type 0) → Content →
     Located T → Type 0
-IsLocated is_place content located = StandsBelow is_place content located.due.reference.0
+IsLocated stands_at content located = StandsBelow stands_at content located.due.reference.0
     located.due.above located.place
 
 -- The child is the top of one of these trees.
@@ -53,10 +54,10 @@ pub record IsChildThere (content : Content) (level : ℕ) (ts : List (Tree level
 
 -- The children are tops of the trees below the node that stands in this place.
 pub record AreChildrenThere {T : Type 0}
-    (is_place : Content → (level : ℕ) → Tree level → T → Type 0) (content : Content) (level : ℕ)
+    (stands_at : ChunkFile → T → ℕ → ℕ → Type 0) (content : Content) (level : ℕ)
     (place : T) (met : List SeenMet) : Type 0 where
   pub ts : List (Tree level)
-  pub stands : is_place content (suc level) ts place
+  pub stands : IsTreePlace stands_at content (suc level) ts place
   pub each : AllByRecursion (IsChildThere content level ts) met
 
 -- ---- what a sink took

@@ -5,7 +5,7 @@ ghost use Rattle.prolly_look_up.specs.Content.{Content};
 ghost use Rattle.prolly_look_up.specs.Entries.{IsWhole};
 ghost use Rattle.prolly_look_up.specs.Kinds.{kind_of};
 ghost use Rattle.prolly_look_up.specs.Way.{FallsTo, IsNamed, level_of};
-ghost use Rattle.prolly_root.specs.ChunkSource.{HasAsked};
+ghost use Rattle.prolly_root.specs.ChunkSource.{HasAsked, HasTree};
 ghost use Rattle.prolly_root.specs.RootFault.{IsOrFails, MayFail};
 ghost use Rattle.prolly_tree.specs.Tree.{bytes_of};
 ghost use Rattle.prolly_range.specs.Children.{met_of};
@@ -41,11 +41,11 @@ impl<'a, T: Copy + Drop> Located<'a, T> {
         ensures named { IfOk result (λ chunk.
             IsNamed version self.now.due.reference.0 chunk.items) }
         ensures falls { IfOk result (λ chunk. FallsTo self.now.due.above chunk.items) }
-        ensures lawful { (content : Content) → S.has source.old content →
-            version ≡ content.version → (l : IsLocated S.is_place content self.now) →
+        ensures lawful { (content : Content) → HasTree S.goes_over source.old content →
+            version ≡ content.version → (l : IsLocated S.stands content self.now) →
             IsOrFails (λ chunk. chunk.items ≡ bytes_of content.version l.at.level l.at.t)
             MayFail result }
-        ensures asked { HasAsked S.has S.failures source.old source.new result }
+        ensures asked { HasAsked S.goes_over S.failures source.old source.new result }
     {
         let Due {
             reference,
@@ -66,11 +66,11 @@ impl<'a, T: Copy + Drop> Located<'a, T> {
         requires { IsWhole version chunk.now }
         ensures due { IfOk result (λ found. map located_due found.items ≡
             due_below (level_of chunk.now) (set_of self.entry.due.set) (kind_of version chunk.now)) }
-        ensures lawful { (content : Content) → S.has source.old content →
-            version ≡ content.version → (l : IsLocated S.is_place content self.entry) →
+        ensures lawful { (content : Content) → HasTree S.goes_over source.old content →
+            version ≡ content.version → (l : IsLocated S.stands content self.entry) →
             chunk.now ≡ bytes_of content.version l.at.level l.at.t → IsOrFails (λ found.
-            AllByRecursion (IsLocated S.is_place content) found.items) MayFail result }
-        ensures asked { HasAsked S.has S.failures source.old source.new result }
+            AllByRecursion (IsLocated S.stands content) found.items) MayFail result }
+        ensures asked { HasAsked S.goes_over S.failures source.old source.new result }
     {
         // By this law the children of a chunk of a lawful tree are the tops of the trees below it.
         tops_are_read();
@@ -93,11 +93,11 @@ fn locate<'a, T: Copy + Drop, S: ChunkSource<Place = T>>(
     requires { 0 < level }
     ensures due { IfOk result (λ found.
         map located_due found.items ≡ map (seen_due level) (map met_of met.entry.items)) }
-    ensures lawful { (content : Content) → S.has source.old content →
-        AreChildrenThere S.is_place content (level - 1) place (map met_of met.entry.items) →
-        IsOrFails (λ found. AllByRecursion (IsLocated S.is_place content) found.items)
+    ensures lawful { (content : Content) → HasTree S.goes_over source.old content →
+        AreChildrenThere S.stands content (level - 1) place (map met_of met.entry.items) →
+        IsOrFails (λ found. AllByRecursion (IsLocated S.stands content) found.items)
         MayFail result }
-    ensures asked { HasAsked S.has S.failures source.old source.new result }
+    ensures asked { HasAsked S.goes_over S.failures source.old source.new result }
 {
     let mut found = VecDeque::new(alloc);
     while let Some(child) = met.pop_front() {

@@ -5,7 +5,7 @@ ghost use Rattle.std.specs.List.{AllByRecursion};
 ghost use Rattle.prolly_look_up.specs.Content.{Content};
 ghost use Rattle.prolly_entry.specs.Cut.{sha512_cut};
 ghost use Rattle.prolly_io.specs.Sink.{IsSettled};
-ghost use Rattle.prolly_root.specs.ChunkSource.{HasAsked};
+ghost use Rattle.prolly_root.specs.ChunkSource.{GoesOverStill, HasAsked, HasTree};
 ghost use Rattle.prolly_root.specs.RootFault.{IsOrFails, MayFail};
 ghost use Rattle.prolly_tree.specs.File.{root_reference};
 ghost use Rattle.prolly_range.specs.KeySet.{set_of};
@@ -50,10 +50,10 @@ pub fn prove_set<S: ChunkSource, W: Sink>(
         (set_start version) (W.seen sink.old) (W.seen sink.new)) }
 
     // A lawful tree with this root is never refused, and a failed read or write is told.
-    ensures lawful { (content : Content) → S.has source.old content → version ≡ content.version →
+    ensures lawful { (content : Content) → HasTree S.goes_over source.old content → version ≡ content.version →
         root.now.0 ≡ root_reference (sha512_cut content.bits) content.version content.pairs →
         IfErr result MayFailTo }
-    ensures keeps { (content : Content) → S.has source.old content → S.has source.new content }
+    ensures goes { GoesOverStill S.goes_over source.old source.new }
     ensures reads { TellsSource (S.failures source.old) (S.failures source.new) result }
     ensures writes { TellsSink (W.seen sink.old).failures (W.seen sink.new).failures result }
 {
@@ -74,10 +74,10 @@ fn whole_tree<'a, T: Copy + Drop, S: ChunkSource<Place = T>>(
 ) -> Result<VecDeque<Located<'a, T>>, RootFault>
     ensures due { IfOk result (λ due.
         map located_due due.items ≡ root_due root.now.0 (set_of set.entry) ∷ []) }
-    ensures lawful { (content : Content) → S.has source.old content → version ≡ content.version →
+    ensures lawful { (content : Content) → HasTree S.goes_over source.old content → version ≡ content.version →
         root.now.0 ≡ root_reference (sha512_cut content.bits) content.version content.pairs →
-        IsOrFails (λ due. AllByRecursion (IsLocated S.is_place content) due.items) MayFail result }
-    ensures asked { HasAsked S.has S.failures source.old source.new result }
+        IsOrFails (λ due. AllByRecursion (IsLocated S.stands content) due.items) MayFail result }
+    ensures asked { HasAsked S.goes_over S.failures source.old source.new result }
 {
     // By this law a lawful tree has the chunks that the root leads to.
     tops_are_read();
@@ -115,9 +115,9 @@ fn write_chunks<'a, T: Copy + Drop, S: ChunkSource<Place = T>, W: Sink>(
     ensures part { OnErr result (WritesPart version (map located_due due.old.items) []
         (W.seen sink.old) (W.seen sink.new)) }
     ensures keeping { (W.seen sink.old).is_keeping ≡ true → (W.seen sink.new).is_keeping ≡ true }
-    ensures lawful { (content : Content) → S.has source.old content → version ≡ content.version →
-        AllByRecursion (IsLocated S.is_place content) due.old.items → IfErr result MayFailTo }
-    ensures keeps { (content : Content) → S.has source.old content → S.has source.new content }
+    ensures lawful { (content : Content) → HasTree S.goes_over source.old content → version ≡ content.version →
+        AllByRecursion (IsLocated S.stands content) due.old.items → IfErr result MayFailTo }
+    ensures goes { GoesOverStill S.goes_over source.old source.new }
     ensures reads { TellsSource (S.failures source.old) (S.failures source.new) result }
     ensures writes { TellsSink (W.seen sink.old).failures (W.seen sink.new).failures result }
 {
@@ -138,11 +138,11 @@ fn next_chunk<'a, T: Copy + Drop, S: ChunkSource<Place = T>>(
         (option_map (λ c. c.items) chunk) (map located_due due.new.items)) }
     ensures nearer { IfOk result (λ chunk. ComesNearer (map located_due due.old.items) chunk
         (map located_due due.new.items)) }
-    ensures lawful { (content : Content) → S.has source.old content → version ≡ content.version →
-        AllByRecursion (IsLocated S.is_place content) due.old.items →
-        IsOrFails (λ _. AllByRecursion (IsLocated S.is_place content) due.new.items)
+    ensures lawful { (content : Content) → HasTree S.goes_over source.old content → version ≡ content.version →
+        AllByRecursion (IsLocated S.stands content) due.old.items →
+        IsOrFails (λ _. AllByRecursion (IsLocated S.stands content) due.new.items)
         MayFail result }
-    ensures asked { HasAsked S.has S.failures source.old source.new result }
+    ensures asked { HasAsked S.goes_over S.failures source.old source.new result }
 {
     let Some(first) = due.pop_front() else {
         return Ok(None);

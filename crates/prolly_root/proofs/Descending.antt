@@ -8,7 +8,6 @@ use Rattle.std.proofs.lemmas.List.{get_or_push, length-append, length-map, map-a
 use Rattle.std.proofs.Math.ListN.{get_or-map}
 use Rattle.std.specs.Prelude.{All, IfOk, IsErr, IsErrAnd, OnErr}
 use Rattle.prolly_entry.specs.Byte.{IsByte}
-use Rattle.prolly_look_up.specs.Content.{Content}
 use Rattle.prolly_look_up.specs.PairsFrom.{pairs_from}
 use Rattle.prolly_look_up.specs.Kinds.{kind_of}
 use Rattle.prolly_look_up.specs.Sought.{Sought, EndsAt, LeadsOn, sought_of}
@@ -23,19 +22,16 @@ use Rattle.prolly_entry.specs.Pair.{Pair}
 use Rattle.prolly_entry.specs.lemmas.Orders.{greater_below}
 use Rattle.prolly_tree.specs.LookUp.{find}
 use Rattle.prolly_tree.specs.lemmas.Maps.{Rises, above_more, find_above}
-use Rattle.prolly_tree.specs.Tree.{Tree}
-use Rattle.prolly_root.specs.Descent.{IsWayDown, StandsBelow}
-use Rattle.prolly_root.specs.Descent.{StandsInPlace, chunks_on_way}
 use Rattle.prolly_root.specs.ProofFault.{last_level}
 use Rattle.prolly_root.specs.declared.look_up.chunk_on_way.ChunkOnWay.{ChunkOnWay}
 use Rattle.prolly_root.specs.declared.root_fault.RootFault.{RootFault}
 use Rattle.prolly_root.specs.declared.root_fault.RootFault.TheVariants.{Memory}
 use Rattle.prolly_root.specs.ChunkFile.{ChunkFile}
-use Rattle.prolly_root.specs.ChunkSource.{GoesOverStill, HasAsked}
+use Rattle.prolly_root.specs.ChunkSource.{HasAsked}
+use Rattle.prolly_root.specs.Descent.{IsWayDown, chunks_on_way}
+use Rattle.prolly_root.specs.Reader.{IsEmptied, IsReaderIn, LooksUp, ReaderView, way_of}
+use Rattle.prolly_root.specs.RootFault.{TellsReads}
 use Rattle.prolly_root.specs.LookUpFault.{MayTell}
-use Rattle.prolly_root.specs.Reader.{IsEmptied, IsReaderIn, IsReaderOf, LooksUp, LooksUpIn}
-use Rattle.prolly_root.specs.Reader.{ReaderView, way_of}
-use Rattle.prolly_root.specs.RootFault.{MayFail, TellsReads}
 
 -- ---- the levels
 
@@ -127,15 +123,7 @@ module _ {version : Version} {root : List ℕ} {sought : Sought} {passed : List 
     above = above ∙ sym (last_more passed chunk);
   }
 
--- ---- in a lawful tree
-
--- the chunk that is due is the top of one of its trees, and what was kept is so
-pub record GoesOnLawful {T : Type 0} (is_place : Content → (level : ℕ) → Tree level → T → Type 0)
-    (content : Content) (due : Due) (place : T) (above kept : List (ChunkOnWay T)) : Type 0 where
-  pub at : StandsBelow is_place content due.reference.0 due.above place
-  pub met : AllByRecursion (StandsInPlace is_place content) above
-  pub left : AllByRecursion (StandsInPlace is_place content) kept
-
+-- of what was kept the next chunk, and the others
 pub next_kept : {T : Type 0} (P : ChunkOnWay T → Type 0) (left rest : List (ChunkOnWay T))
     (next : Option (ChunkOnWay T)) → left ≡ option_to_list next ++ rest → AllByRecursion P left →
     IfSome next P × AllByRecursion P rest
@@ -152,55 +140,75 @@ handed_on fault (Ok value) h = search rules
 handed_on fault (Err told) h = ap Err h.1
 
 -- two calls of a source, of which the first one succeeds
-pub asked_on : {S T : Type 0} (has : S → Content → Type 0) (failures : S → ℕ)
+pub asked_on : {S T : Type 0} (goes_over : S → ChunkFile → Type 0) (failures : S → ℕ)
     (result : Result T RootFault) {old mid new : S} →
-    HasAsked has failures old mid (Ok (tt {0})) → HasAsked has failures mid new result →
-    HasAsked has failures old new result
-asked_on has failures result {new = new} asked more = (
-  λ content h. more.0 content (asked.0 content h),
+    HasAsked goes_over failures old mid (Ok (tt {0})) →
+    HasAsked goes_over failures mid new result → HasAsked goes_over failures old new result
+asked_on goes_over failures result {new = new} asked more = (
+  λ file goes. more.0 file (asked.0 file goes),
   subst (λ n. TellsReads n (failures new) result) asked.1 more.1,
 )
 
 -- ---- what a look-up leaves of its reader
 
--- where it keeps nothing, it is still of the same tree
-keeps_none : {T : Type 0} {is_place : Content → (level : ℕ) → Tree level → T → Type 0}
-    {content : Content} {old new : ReaderView T} → IsEmptied old new →
-    IsReaderOf is_place content old → IsReaderOf is_place content new
-keeps_none left is = record {
-  version = left.version ∙ is.version;
-  top = rw (left.root, left.top) is.top;
-  levels = rw left.levels tt;
-}
+-- where it keeps nothing, it is still one of the same file
+keeps_none : {T : Type 0} {stands : ChunkFile → T → ℕ → ℕ → Type 0} {file : ChunkFile}
+    {old new : ReaderView T} → IsEmptied old new → IsReaderIn stands file old →
+    IsReaderIn stands file new
+keeps_none left is = record { top = rw left.top is.top; levels = rw left.levels tt }
 
-module _ {S T : Type 0} {has : S → Content → Type 0} {failures : S → ℕ}
-    {is_place : Content → (level : ℕ) → Tree level → T → Type 0} {before after : S}
+module _ {S T : Type 0} {goes_over : S → ChunkFile → Type 0} {failures : S → ℕ}
+    {stands : ChunkFile → T → ℕ → ℕ → Type 0} {before after : S} {sought : Sought}
     {old : ReaderView T} where
   -- a fault leaves it so
   pub look_up_fails : {R : Type 0} {new : ReaderView T} (fault : RootFault)
       (result : Result R RootFault) → IsErr result × IsErrAnd result (λ told. told ≡ fault) →
-      IsEmptied old new → ((content : Content) → has before content →
-      IsReaderOf is_place content old → MayFail fault) →
-      HasAsked {T = R} has failures before after (Err fault) →
-      LooksUp has failures is_place before after old new result
+      IsEmptied old new → ((file : ChunkFile) → goes_over before file →
+      IsReaderIn stands file old → MayTell old.version file old.root sought fault) →
+      HasAsked {T = R} goes_over failures before after (Err fault) →
+      LooksUp goes_over failures stands before after sought old new result
   look_up_fails fault result handed left may asked =
-      rw (handed_on fault result handed) (search (rules, keeps_none))
+      rw (handed_on fault result handed) (record {
+        of = (left.version, left.root);
+        none = left.levels;
+        kept = λ file goes is. keeps_none left is;
+        tells = may;
+        asked = asked;
+      })
 
   -- also one that `?` hands on
   pub looks_up_so : {A R : Type 0} {new : ReaderView T} (fault : RootFault)
       (result : Result R RootFault) → IsErr result × IsErrAnd result (λ told. told ≡ fault) →
-      LooksUp {R = A} has failures is_place before after old new (Err fault) →
-      LooksUp has failures is_place before after old new result
-  looks_up_so fault result handed looked = rw (handed_on fault result handed) (search rules)
+      LooksUp {R = A} goes_over failures stands before after sought old new (Err fault) →
+      LooksUp goes_over failures stands before after sought old new result
+  looks_up_so fault result handed looked = rw (handed_on fault result handed) (record {
+    of = looked.of;
+    none = looked.none;
+    kept = looked.kept;
+    tells = looked.tells;
+    asked = looked.asked;
+  })
 
   -- what was found is handed on, or there was no memory for it
   pub hands_on : {A V E : Type 0} {mid new : ReaderView T} {there : A} (found : Result V E)
       (result : Result V RootFault) → IfOk found (λ value. (result ≡ Ok value) × (new ≡ mid)) →
       OnErr found ((result ≡ Err Memory) × IsEmptied mid new) →
-      LooksUp has failures is_place before after old mid (Ok there) →
-      LooksUp has failures is_place before after old new result
-  hands_on (Ok value) result ok err looked = rw (ok.0, ok.1) (search rules)
-  hands_on (Err refused) result ok err looked = rw err.0 (search (rules, keeps_none))
+      LooksUp goes_over failures stands before after sought old mid (Ok there) →
+      LooksUp goes_over failures stands before after sought old new result
+  hands_on (Ok value) result ok err looked = rw (ok.0, ok.1) (record {
+    of = looked.of;
+    none = tt;
+    kept = looked.kept;
+    tells = looked.tells;
+    asked = looked.asked;
+  })
+  hands_on {new = new} (Err refused) result ok err looked = rw err.0 (record {
+    of = (err.1.version ∙ looked.of.0, err.1.root ∙ looked.of.1);
+    none = err.1.levels;
+    kept = λ file goes is. keeps_none err.1 (looked.kept file goes is);
+    tells = λ file goes is. inl (inl refl);
+    asked = looked.asked;
+  })
 
 pub finds : {T V E : Type 0} (mid new : ReaderView T) (found : Result V E)
     (result : Result V RootFault) → IfOk found (λ value. (result ≡ Ok value) × (new ≡ mid)) →
@@ -243,51 +251,3 @@ find_from key (p ∷ ps) r = by_order (find_from key ps r.1) (key_order p.key ke
     by_order rest Equal e = simp e
     by_order rest Greater e = simp e (sym (find_above ps key
         (above_more key p.key ps (greater_below p.key key e) r.0)))
-
--- ---- what it leaves of it in a chunk file of any bytes
-
--- where it keeps nothing, it is still one of the same file
-keeps_none_in : {T : Type 0} {stands : ChunkFile → T → ℕ → ℕ → Type 0} {file : ChunkFile}
-    {old new : ReaderView T} → IsEmptied old new → IsReaderIn stands file old →
-    IsReaderIn stands file new
-keeps_none_in left is = record { top = rw left.top is.top; levels = rw left.levels tt }
-
-module _ {S T : Type 0} {goes_over : S → ChunkFile → Type 0}
-    {stands : ChunkFile → T → ℕ → ℕ → Type 0} {before after : S} {sought : Sought}
-    {old : ReaderView T} where
-  -- a fault leaves it so
-  pub look_up_in_fails : {R : Type 0} {new : ReaderView T} (fault : RootFault)
-      (result : Result R RootFault) → IsErr result × IsErrAnd result (λ told. told ≡ fault) →
-      IsEmptied old new → ((file : ChunkFile) → goes_over before file →
-      IsReaderIn stands file old → MayTell old.version file old.root sought fault) →
-      GoesOverStill goes_over before after →
-      LooksUpIn goes_over stands before after sought old new result
-  look_up_in_fails fault result handed left may goes =
-      rw (handed_on fault result handed) (record {
-        kept = λ file over is. keeps_none_in left is;
-        tells = may;
-        goes = goes;
-      })
-
-  -- also one that `?` hands on
-  pub looks_up_in_so : {A R : Type 0} {new : ReaderView T} (fault : RootFault)
-      (result : Result R RootFault) → IsErr result × IsErrAnd result (λ told. told ≡ fault) →
-      LooksUpIn {R = A} goes_over stands before after sought old new (Err fault) →
-      LooksUpIn goes_over stands before after sought old new result
-  looks_up_in_so fault result handed looked =
-      rw (handed_on fault result handed)
-      (record { kept = looked.kept; tells = looked.tells; goes = looked.goes })
-
-  -- what was found is handed on, or there was no memory for it
-  pub hands_on_in : {A V E : Type 0} {mid new : ReaderView T} {there : A} (found : Result V E)
-      (result : Result V RootFault) → IfOk found (λ value. (result ≡ Ok value) × (new ≡ mid)) →
-      OnErr found ((result ≡ Err Memory) × IsEmptied mid new) →
-      LooksUpIn goes_over stands before after sought old mid (Ok there) →
-      LooksUpIn goes_over stands before after sought old new result
-  hands_on_in (Ok value) result ok err looked = rw (ok.0, ok.1)
-      (record { kept = looked.kept; tells = looked.tells; goes = looked.goes })
-  hands_on_in {new = new} (Err refused) result ok err looked = rw err.0 (record {
-    kept = λ file over is. keeps_none_in err.1 (looked.kept file over is);
-    tells = λ file over is. inl (inl refl);
-    goes = looked.goes;
-  })

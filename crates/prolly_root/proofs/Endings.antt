@@ -15,7 +15,7 @@ use Rattle.prolly_io.specs.EndRecord.{IsNoEnd, NamesRoot}
 use Rattle.prolly_tree.specs.Chunk.{chunks}
 use Rattle.prolly_tree.specs.File.{end_record, frame, header, root_reference}
 use Rattle.prolly_root.specs.NamedRoot.{NamesRootOf, TellsRoot, last_bytes}
-use Rattle.prolly_root.proofs.FileBytes.{root_length}
+use Rattle.prolly_root.specs.lemmas.FileTrees.{root_length}
 
 module _ {bytes : List ℕ} {content : Content} (f : IsFileOf bytes content) where
   abbrev root : List ℕ

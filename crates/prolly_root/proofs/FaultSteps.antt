@@ -1,7 +1,8 @@
 -- Going down in a chunk file of any bytes, from where a look-up stands to where it stands next.
 use Rattle.std.proofs.Common.{◌≡◌, ◌∙◌, ℕ, ◌-◌, List, [], ◌∷◌, ◌++◌, Some, inl, inr}
-use Rattle.std.proofs.Common.{Ok, Err, refl, sym, ap, subst}
+use Rattle.std.proofs.Common.{Ok, Err, refl, sym, ap, subst, get_or}
 use Rattle.std.specs.List.{AllByRecursion}
+use Rattle.prolly_look_up.specs.Entries.{IsWhole}
 use Rattle.prolly_look_up.specs.Kinds.{Entries, kind_of}
 use Rattle.prolly_look_up.specs.Kinds.Entries.{Leaf, Node}
 use Rattle.prolly_look_up.specs.Sought.{EndsAt, Sought, IsChildOf, child_sought, sought_of}
@@ -15,11 +16,18 @@ use Rattle.prolly_root.specs.Descent.{GoesOnAt, IsAt, IsAtDue, IsDueAt, IsKeptOf
 use Rattle.prolly_root.specs.LookUpFault.{ComesToEnd, GoesOnIn, HasDue, LeadsTo, MayStop, MayTell, Standing}
 use Rattle.prolly_root.specs.LookUpFault.{StepsTo, at_root, chunk_of}
 use Rattle.prolly_root.specs.Walk.{IsBehind, IsNth}
+use Rattle.prolly_root.specs.lemmas.Leads.{leads_more}
 use Rattle.prolly_root.specs.declared.look_up.chunk_on_way.ChunkOnWay.{ChunkOnWay}
 use Rattle.prolly_root.specs.declared.look_up.chunk_on_way.Onward.TheVariants.{Below}
 use Rattle.prolly_root.specs.declared.root_fault.RootFault.{RootFault}
 
 -- ---- one step
+
+-- the first byte of a chunk is its level
+pub level_read : (version : Version) (chunk : List ℕ) (first : ℕ) → IsWhole version chunk →
+    first ≡ get_or chunk 0 first → first ≡ level_of chunk
+level_read version [] first whole is = absurd whole.holds
+level_read version (b ∷ entries) first whole is = is
 
 -- the child that was chosen, by its number
 goes_in : (version : Version) (chunk : List ℕ) (sought : Sought) (child : ChildSought) →
@@ -115,14 +123,6 @@ module _ {T : Type 0} (stands : ChunkFile → T → ℕ → ℕ → Type 0) (ver
     pub met_there : AllByRecursion (IsKeptOf stands file) met
     pub kept_there : AllByRecursion (IsKeptOf stands file) kept
 
-  leads_more : (from : Standing) (steps : List Standing) (at next : Standing) →
-      LeadsTo version file from steps at → StepsTo version file at next →
-      LeadsTo version file from (steps ++ next ∷ []) next
-  leads_more from [] at next leads step =
-      (subst (λ s. StepsTo version file s next) (sym leads) step, refl)
-  leads_more from (s ∷ steps) at next leads step =
-      (leads.0, leads_more s steps at next leads.1 step)
-
   module _ {due : Due} {place : T} {met kept : List (ChunkOnWay T)}
       (c : ComesTo due place met kept) where
     -- what stops it there is its fault
@@ -165,7 +165,8 @@ module _ {T : Type 0} (stands : ChunkFile → T → ℕ → ℕ → Type 0) (ver
     comes_on on now left = record {
       steps = c.steps ++ on.0 ∷ [];
       at = on.0;
-      leads = leads_more (at_root file root sought) c.steps c.at on.0 c.leads on.1;
+      leads = leads_more (StepsTo version file) (at_root file root sought) c.steps c.at on.0 c.leads
+          on.1;
       due_at = on.2;
       met_there = now;
       kept_there = left;

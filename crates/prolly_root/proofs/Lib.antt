@@ -4,7 +4,7 @@ pub mod Passing
 pub mod OneProof
 -- Going down from the root, from each chunk to the one that it refers to.
 pub mod Descending
--- The chunks of a tree, and the bytes of a file before and behind a frame.
+-- The bytes of a file before and behind a frame, and those of a chunk.
 pub mod FileBytes
 -- What is told of the first bytes of a frame.
 pub mod Starts
@@ -12,13 +12,11 @@ pub mod Starts
 pub mod Walking
 -- The last bytes of a chunk file.
 pub mod Endings
--- Going down in a lawful tree, from a node to the top of a tree below it.
-pub mod LawfulSteps
--- The chunks of a level one behind another, and the trees whose tops they are.
-pub mod Subtrees
+-- That a look-up in the chunk file of a lawful content has no fault.
+pub mod LawfulLookUps
 -- Counting the chunks of each level on the way to the root.
 pub mod Marking
--- What a source over the frames of a file keeps between two calls.
+-- What a source over the frames of a file finds, and keeps between two calls.
 pub mod Sources
 -- Going down in a chunk file of any bytes, from where a look-up stands to where it stands next.
 pub mod FaultSteps

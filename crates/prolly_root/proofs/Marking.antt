@@ -10,7 +10,7 @@ use Rattle.prolly_root.specs.Marks.{AreRuns, IsRun}
 use Rattle.prolly_root.specs.Walk.{IsBehind, IsFrame, IsNth}
 use Rattle.prolly_root.specs.declared.file.marks.Run.{Run}
 use Rattle.prolly_root.specs.declared.file.walk.Frame.{Frame}
-use Rattle.prolly_root.proofs.Subtrees.{behind_next}
+use Rattle.prolly_root.specs.lemmas.Levels.{behind_next}
 use Rattle.prolly_root.proofs.Walking.{none_more}
 
 -- ---- one run

@@ -8,7 +8,6 @@ use Rattle.prolly_look_up.specs.Sought.{EndsAt, Sought, child_sought}
 use Rattle.prolly_look_up.specs.Step.{IsFlawedChunk}
 use Rattle.prolly_look_up.specs.Way.{entry_keys, IsOrdered, level_of}
 use Rattle.prolly_look_up.specs.declared.step.ChunkFlaw.{ChunkFlaw}
-use Rattle.prolly_look_up.specs.declared.step.ChunkFlaw.TheVariants as flaws
 use Rattle.prolly_look_up.specs.lemmas.Chosen.{one_same}
 use Rattle.prolly_look_up.specs.lemmas.Ways.{no_flaw}
 use Rattle.prolly_entry.specs.Keys.{KeyBelow, Rising, RisingFrom}
@@ -20,7 +19,9 @@ use Rattle.prolly_root.specs.LookUpFault.{LeadsTo, Standing, StepsTo, StopsWith,
 use Rattle.prolly_root.specs.LookUpFault.{fault_of_flaw}
 use Rattle.prolly_root.specs.Walk.{IsBehind, IsNth}
 use Rattle.prolly_root.specs.declared.root_fault.RootFault.{RootFault}
-use Rattle.prolly_root.proofs.Subtrees.{behind_one, nth_one}
+use Rattle.prolly_root.specs.lemmas.Flaws.{one_flaw}
+use Rattle.prolly_root.specs.lemmas.Leads.{one_end}
+use Rattle.prolly_root.specs.lemmas.Levels.{behind_one, nth_one}
 
 -- ---- a child stands once among those whose keys rise
 
@@ -131,28 +132,6 @@ module _ (version : Version) (file : ChunkFile) where
 
   -- ---- one fault
 
-  one_flaw : (due : List ℕ) (above : Option ℕ) (chunk : List ℕ) (flaw other : ChunkFlaw) →
-      IsFlawedChunk version due above chunk flaw → IsFlawedChunk version due above chunk other →
-      flaw ≡ other
-  one_flaw due above chunk flaws.Reference flaws.Reference h k = refl
-  one_flaw due above chunk flaws.Reference flaws.Entries h k = absurd (h k.0)
-  one_flaw due above chunk flaws.Reference flaws.Order h k = absurd (h k.0)
-  one_flaw due above chunk flaws.Reference flaws.Level h k = absurd (h k.0.is)
-  one_flaw due above chunk flaws.Entries flaws.Reference h k = absurd (k h.0)
-  one_flaw due above chunk flaws.Entries flaws.Entries h k = refl
-  one_flaw due above chunk flaws.Entries flaws.Order h k = absurd (h.1 k.1.pairs k.1.holds)
-  one_flaw due above chunk flaws.Entries flaws.Level h k =
-      absurd (h.1 k.0.ordered.whole.pairs k.0.ordered.whole.holds)
-  one_flaw due above chunk flaws.Order flaws.Reference h k = absurd (k h.0)
-  one_flaw due above chunk flaws.Order flaws.Entries h k = absurd (k.1 h.1.pairs h.1.holds)
-  one_flaw due above chunk flaws.Order flaws.Order h k = refl
-  one_flaw due above chunk flaws.Order flaws.Level h k = absurd (h.2 k.0.ordered.rising)
-  one_flaw due above chunk flaws.Level flaws.Reference h k = absurd (k h.0.is)
-  one_flaw due above chunk flaws.Level flaws.Entries h k =
-      absurd (k.1 h.0.ordered.whole.pairs h.0.ordered.whole.holds)
-  one_flaw due above chunk flaws.Level flaws.Order h k = absurd (k.2 h.0.ordered.rising)
-  one_flaw due above chunk flaws.Level flaws.Level h k = refl
-
   no_flaw_due : (at : Standing) → HasDue version file at → (flaw : ChunkFlaw) →
       IsFlawedChunk version at.reference at.above (chunk_of file at) flaw → ⊥
   no_flaw_due at due flaw is = no_flaw version at.reference at.above (chunk_of file at) flaw
@@ -171,48 +150,37 @@ module _ (version : Version) (file : ChunkFile) where
   one_stop : (at : Standing) (fault other : RootFault) → StopsWith version file at fault →
       StopsWith version file at other → fault ≡ other
   one_stop at fault other (inl f) (inl g) = f.2 ∙ ap (λ flaw. fault_of_flaw flaw at.number)
-      (one_flaw at.reference at.above (chunk_of file at) f.0 g.0 f.1 g.1) ∙ sym g.2
+      (one_flaw version at.reference at.above (chunk_of file at) f.0 g.0 f.1 g.1) ∙ sym g.2
   one_stop at fault other (inl f) (inr g) = absurd (no_flaw_due at g.due f.0 f.1)
   one_stop at fault other (inr f) (inl g) = absurd (no_flaw_due at f.due g.0 g.1)
   one_stop at fault other (inr f) (inr g) = f.is ∙ sym g.is
 
+  -- so two that stop, stop at one place, and one that stops does not come to an end
   stops_once : (at : Standing) (steps others : List Standing) (last end : Standing)
       (fault other : RootFault) → LeadsTo version file at steps last →
       LeadsTo version file at others end → StopsWith version file last fault →
       StopsWith version file end other → fault ≡ other
-  stops_once at [] [] last end fault other leads lead stops stop =
-      one_stop last fault other stops
-      (subst (λ s. StopsWith version file s other) (sym lead ∙ leads) stop)
-  stops_once at [] (s ∷ others) last end fault other leads lead stops stop =
-      absurd (no_step at s fault (subst (λ s. StopsWith version file s fault) (sym leads) stops)
-      lead.0)
-  stops_once at (s ∷ steps) [] last end fault other leads lead stops stop =
-      absurd (no_step at s other (subst (λ s. StopsWith version file s other) (sym lead) stop)
-      leads.0)
-  stops_once at (s ∷ steps) (t ∷ others) last end fault other leads lead stops stop =
-      stops_once s steps others last end fault other leads.1
-      (subst (λ s. LeadsTo version file s others end) (one_step at t s lead.0 leads.0) lead.1)
-      stops stop
+  stops_once at steps others last end fault other leads lead stops stop =
+      one_stop last fault other stops (subst (λ s. StopsWith version file s other)
+      (sym (one_end (StepsTo version file) one_step (λ s. StopsWith version file s fault)
+      (λ s. StopsWith version file s other) (λ s next. no_step s next fault)
+      (λ s next. no_step s next other) at steps others last end leads lead stops stop)) stop)
+
+  abbrev Ends : Standing → Type 0
+  Ends at = HasDue version file at × EndsAt at.sought (kind_of version (chunk_of file at))
 
   ends_or_stops : (at : Standing) (steps others : List Standing) (last end : Standing)
       (fault : RootFault) → LeadsTo version file at steps last →
-      LeadsTo version file at others end → StopsWith version file last fault →
-      HasDue version file end → EndsAt end.sought (kind_of version (chunk_of file end)) → ⊥
-  ends_or_stops at [] [] last end fault leads lead stops due ends =
-      no_stop (subst (λ s. StopsWith version file s fault) (sym leads ∙ lead) stops)
+      LeadsTo version file at others end → StopsWith version file last fault → Ends end → ⊥
+  ends_or_stops at steps others last end fault leads lead stops ends =
+      no_stop (subst (λ s. StopsWith version file s fault)
+      (one_end (StepsTo version file) one_step (λ s. StopsWith version file s fault) Ends
+      (λ s next. no_step s next fault) (λ s next ends step. no_end step.on ends.1) at steps others
+      last end leads lead stops ends) stops)
     where
       no_stop : StopsWith version file end fault → ⊥
-      no_stop (inl flaw) = no_flaw_due end due flaw.0 flaw.1
-      no_stop (inr lacks) = no_end lacks.on ends
-  ends_or_stops at [] (s ∷ others) last end fault leads lead stops due ends =
-      no_step at s fault (subst (λ s. StopsWith version file s fault) (sym leads) stops) lead.0
-  ends_or_stops at (s ∷ steps) [] last end fault leads lead stops due ends =
-      no_end leads.0.on
-      (subst (λ s. EndsAt s.sought (kind_of version (chunk_of file s))) (sym lead) ends)
-  ends_or_stops at (s ∷ steps) (t ∷ others) last end fault leads lead stops due ends =
-      ends_or_stops s steps others last end fault leads.1
-      (subst (λ s. LeadsTo version file s others end) (one_step at t s lead.0 leads.0) lead.1)
-      stops due ends
+      no_stop (inl flaw) = no_flaw_due end ends.0 flaw.0 flaw.1
+      no_stop (inr lacks) = no_end lacks.on ends.1
 
 some_none : {A : Type 0} {x : A} → Some x ≡ None → ⊥
 some_none e = cc
@@ -237,5 +205,5 @@ pub no_fault : (version : Version) (file : ChunkFile) (root : List ℕ) (sought 
     (fault : RootFault) → ComesToEnd version file root sought →
     IsLookUpFault version file root sought fault → ⊥
 no_fault version file root sought fault c f =
-    ends_or_stops version file _ f.steps c.steps f.last c.last fault f.leads c.leads f.stops c.due
-    c.ends
+    ends_or_stops version file _ f.steps c.steps f.last c.last fault f.leads c.leads f.stops
+    (c.due, c.ends)

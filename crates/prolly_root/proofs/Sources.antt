@@ -1,18 +1,13 @@
--- What a source over the frames of a file keeps between two calls, and what it tells of a lawful file.
-use Rattle.std.proofs.Common.{◌≡◌, ◌≤◌, ◌<◌, ◌^◌, ◌⊎◌, ◌∙◌, ℕ, ◌-◌, List, length, Option, Some, None, inl}
-use Rattle.std.proofs.Common.{inr, Ok, refl, sym, subst, arith, drop}
-use Rattle.std.specs.Int.{w64, to_be_bytes}
-use Rattle.std.proofs.lemmas.Bool.{le-leb, le-ltb}
-use Rattle.std.proofs.lemmas.List.{length-append}
+-- What a source over the frames of a file finds, and keeps between two calls.
+use Rattle.std.proofs.Common.{◌≡◌, ◌≤◌, ◌<◌, ◌^◌, ◌⊎◌, ℕ, ◌-◌, List, length, Option, Some, None}
+use Rattle.std.proofs.Common.{inl}
+use Rattle.std.proofs.Common.{inr, Ok, refl, sym, subst}
 use Rattle.prolly_look_up.specs.Content.{Content, IsFileOf}
 use Rattle.prolly_look_up.specs.Way.{level_of}
-use Rattle.prolly_entry.specs.Cut.{sha512_cut}
 use Rattle.prolly_entry.specs.declared.version.Version.{Version}
-use Rattle.prolly_entry.specs.declared.version.Version.TheVariants.{One, Two}
 use Rattle.prolly_io.specs.Device.{DeviceView}
-use Rattle.prolly_tree.specs.Chunk.{chunks}
-use Rattle.prolly_tree.specs.File.{root_reference}
-use Rattle.prolly_root.specs.ChunkFile.{ChunkFile, HoldsChunks, chunk_file, fault_at_end, file_fault, frames_fault}
+use Rattle.prolly_root.specs.ChunkFile.{ChunkFile, HoldsChunks, chunk_file, file_fault}
+use Rattle.prolly_root.specs.ChunkFile.{frames_fault}
 use Rattle.prolly_root.specs.ChunkFile.{header_or_version_fault, nth_in}
 use Rattle.prolly_root.specs.ChunkSource.{FindsChild}
 use Rattle.prolly_root.specs.RootFault.{OnlyRead}
@@ -22,51 +17,11 @@ use Rattle.prolly_root.specs.declared.file.marks.Marks.{Marks}
 use Rattle.prolly_root.specs.declared.file.subtree.Place.{Place}
 use Rattle.prolly_root.specs.declared.file.subtree.Subtree.{Subtree}
 use Rattle.prolly_root.specs.declared.root_fault.RootFault.{RootFault}
-use Rattle.prolly_root.proofs.FileBytes.{root_length, some_chunk}
-use Rattle.prolly_root.proofs.Walking.{holds_chunks_still, no_frames_fault}
-
--- ---- a lawful file
-
-lawful_header : (version : Version) (content : Content) → content.bits ≤ 24 →
-    version ≡ content.version → header_or_version_fault version (chunk_file content) ≡ None
-lawful_header One content few same = rw (sym same, le-leb content.bits 24 few) refl
-lawful_header Two content few same = rw (sym same, le-leb content.bits 24 few) refl
-
--- nothing is wrong with its frames
-pub lawful_frames : (content : Content) → frames_fault (chunk_file content) ≡ None
-lawful_frames content = no_frames_fault (chunk_file content) (some_chunk content) ends
-  where
-    ends : fault_at_end (chunk_file content) ≡ None
-    ends = rw (
-      le-ltb (length record_end) 28 (omega (arith, long)),
-      le-ltb 28 (length record_end) (omega (arith, long)),
-    ) refl
-      where
-        record_end : List ℕ
-        record_end = drop 1 (chunk_file content).rest
-
-        long : length record_end ≡ 28
-        long = omega (
-          arith,
-          root_length content,
-          length-append (root_reference (sha512_cut content.bits) content.version content.pairs)
-              (to_be_bytes w64 (length (chunks (sha512_cut content.bits) content.version
-              content.pairs))),
-        )
-
--- the root of it is found, but for a failed read
-pub finds_only : {bytes : List ℕ} {content : Content} → IsFileOf bytes content →
-    {version : Version} → version ≡ content.version → {fault : RootFault} →
-    OnlyRead fault ⊎ (file_fault version (chunk_file content) ≡ Some fault) → OnlyRead fault
-finds_only f same (inl only) = only
-finds_only {content = content} f {version = version} same (inr told) =
-    absurd (some_none (sym told ∙ rw (
-      lawful_header version content f.bits same,
-      lawful_frames content,
-    ) refl))
-  where
-    some_none : {A : Type 0} {x : A} → Some x ≡ None → ⊥
-    some_none e = cc
+use Rattle.prolly_root.specs.Walk.{NoneBetween}
+use Rattle.prolly_root.specs.lemmas.Levels.{behind_before}
+use Rattle.prolly_root.specs.ChunkFile.{IsLawful, fault_behind}
+use Rattle.prolly_root.proofs.Walking.{holds_chunks_still}
+use Rattle.std.proofs.Common.{zero, suc, Err}
 
 -- ---- what is found
 
@@ -90,13 +45,17 @@ pub keeps_chunks : {old new : DeviceView} (marks : Option Marks) {file : ChunkFi
     StaysSame old new → HasChunksOf old marks file → HasChunksOf new marks file
 keeps_chunks marks same has = (holds_chunks_still same has.0, has.1)
 
--- the file of the content is held again
-pub holds_again : {old new : DeviceView} {content : Content} → HoldsFile old content →
-    HoldsChunks new (chunk_file content) → HoldsFile new content
-holds_again {content = content} holds now = record {
-  honest = now.honest;
-  short = subst (λ bytes. length bytes < 2 ^ 64) (sym now.are) now.cut.short;
-  is = subst (λ bytes. IsFileOf bytes content) (holds.is.is ∙ sym now.are) holds.is;
+-- ---- a lawful file
+
+pub is_lawful : {bytes : List ℕ} {content : Content} → IsFileOf bytes content → IsLawful content
+is_lawful {content = content} f = subst (λ bytes. IsFileOf bytes content) f.is f
+
+pub holds_file : {device : DeviceView} {content : Content} → IsLawful content →
+    HoldsChunks device (chunk_file content) → HoldsFile device content
+holds_file {content = content} f holds = record {
+  honest = holds.honest;
+  short = subst (λ bytes. length bytes < 2 ^ 64) (sym holds.are) holds.cut.short;
+  is = subst (λ bytes. IsFileOf bytes content) (sym holds.are) f;
 }
 
 -- ---- a child
@@ -127,3 +86,20 @@ child_found {file = file} {level = level} {number = number} stands place found =
       subst (λ from. IsNth file level from number place.frame.number) from found.nth,
       subst (λ from. IsBehind file level from number place.below.number) from found.behind,
     )
+
+module _ (file : ChunkFile) (level : ℕ) where
+  -- where it is sought behind fewer children, and there is none, there is none
+  pub misses : (k j from behind : ℕ) → j ≤ k → IsBehind file level from j behind →
+      {fault : RootFault} → OnlyRead fault ⊎
+      (NoneBetween file level behind (length file.chunks) × (fault ≡ fault_behind file)) →
+      FindsNth file level from k (Err fault)
+  misses k j from behind few here (inl only) = inl only
+  misses k j from behind few here (inr none) = inr (
+    none.1,
+    λ n h.
+        there k h (behind_before file level k j from behind n few here h),
+  )
+    where
+      there : (k : ℕ) {n : ℕ} → IsNth file level from k n → behind ≤ n → ⊥
+      there zero h before = none.0 _ before h.within h.is
+      there (suc k) h before = none.0 _ before h.2.within h.2.is

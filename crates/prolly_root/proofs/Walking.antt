@@ -366,15 +366,6 @@ no_chunk file none ends = by_chunks file.chunks none
     by_chunks [] none = rw ends refl
     by_chunks (c ∷ cs) none = absurd (omega (arith, none))
 
-pub no_frames_fault : (file : ChunkFile) → 0 < length file.chunks → fault_at_end file ≡ None →
-    frames_fault file ≡ None
-no_frames_fault file some ends = by_chunks file.chunks some
-  where
-    by_chunks : (cs : List (List ℕ)) → 0 < length cs →
-        or_else (fault_at_end file) (no_chunk_fault cs) ≡ None
-    by_chunks [] some = absurd (omega (arith, some))
-    by_chunks (c ∷ cs) some = rw ends refl
-
 pub end_told : (file : ChunkFile) {fault : RootFault} → fault_at_end file ≡ Some fault →
     frames_fault file ≡ Some fault
 end_told file is = rw is refl

@@ -5,7 +5,7 @@ use Rattle.std.specs.List.{AllByRecursion, flat_map}
 use Rattle.std.specs.Prelude.{◌≡◌, All, ℕ, ◌^◌, ◌<◌, ◌&&◌, ◌==◌, not, nat_lt, true, List, [], ◌∷◌, ◌++◌}
 use Rattle.std.specs.Prelude.{drop, get_or, length, take, slice_index, option_map, unwrap_or, Option}
 use Rattle.std.specs.Prelude.{Some, None, if◌then◌else◌}
-use Rattle.prolly_look_up.specs.Content.{chunks_of, Content}
+use Rattle.prolly_look_up.specs.Content.{chunks_of, Content, IsFileOf}
 use Rattle.prolly_entry.specs.Byte.{IsByte}
 use Rattle.prolly_entry.specs.Cut.{sha512_cut}
 use Rattle.prolly_entry.specs.Overlay.{or_else}
@@ -64,6 +64,10 @@ chunk_file content = record {
   rest = end_record (root_reference (sha512_cut content.bits) content.version content.pairs)
       (length (chunks (sha512_cut content.bits) content.version content.pairs));
 }
+
+-- It is the file of a map, no two of whose chunks have one reference.
+abbrev pub IsLawful : Content → Type 0
+IsLawful content = IsFileOf (chunk_file content).bytes content
 
 -- ---- what is wrong before a chunk is read
 

@@ -13,6 +13,7 @@ use Rattle.prolly_entry.specs.Reference.{reference_of}
 use Rattle.prolly_entry.specs.declared.version.Version.{Version}
 use Rattle.prolly_tree.specs.Tree.{Tree, bytes_of}
 use Rattle.prolly_root.specs.ChunkFile.{ChunkFile, nth_in}
+use Rattle.prolly_root.specs.FileTrees.{IsTreePlace}
 use Rattle.prolly_root.specs.LookUpFault.{Standing, StepsTo}
 use Rattle.prolly_root.specs.declared.look_up.chunk_on_way.ChunkOnWay.{ChunkOnWay}
 use Rattle.prolly_root.specs.declared.look_up.chunk_on_way.Onward.{Onward}
@@ -62,32 +63,19 @@ IsOnward version sought chunk (Below due place) =
 -- ---- in a lawful tree
 
 -- The chunk with this reference is the top of a tree of the content, and this is its place.
-pub record StandsAt {T : Type 0} (is_place : Content → (level : ℕ) → Tree level → T → Type 0)
+pub record StandsAt {T : Type 0} (stands_at : ChunkFile → T → ℕ → ℕ → Type 0)
     (content : Content) (reference : List ℕ) (place : T) : Type 0 where
   pub level : ℕ
   pub t : Tree level
   pub below : IsTreeOf content.version (chunks_of content) level t
   pub named : reference ≡ reference_of (bytes_of content.version level t)
-  pub stands : is_place content level t place
+  pub stands : IsTreePlace stands_at content level t place
 
 -- The chunk of a reference stands in this place, one level below this one.
-pub record StandsBelow {T : Type 0} (is_place : Content → (level : ℕ) → Tree level → T → Type 0)
+pub record StandsBelow {T : Type 0} (stands_at : ChunkFile → T → ℕ → ℕ → Type 0)
     (content : Content) (reference : List ℕ) (above : Option ℕ) (place : T) : Type 0 where
-  pub at : StandsAt is_place content reference place
+  pub at : StandsAt stands_at content reference place
   pub falls : FallsTo above (bytes_of content.version at.level at.t)
-
--- The chunk is the top of a tree of the content, and stands in its place.
-pub record StandsInPlace {T : Type 0} (is_place : Content → (level : ℕ) → Tree level → T → Type 0)
-    (content : Content) (chunk : ChunkOnWay T) : Type 0 where
-  pub at : StandsAt is_place content chunk.reference.0 chunk.place
-  pub is : chunk.chunk.items ≡ bytes_of content.version at.level at.t
-
--- A step comes to such a chunk again, or to an end.
-abbrev pub StepsDown : {T : Type 0} →
-    (is_place : Content → (level : ℕ) → Tree level → T → Type 0) → Content → Onward T → Type 0
-StepsDown is_place content End = Unit {0}
-StepsDown is_place content (Below due place) =
-    StandsBelow is_place content due.reference.0 due.above place
 
 -- ---- in a chunk file of any bytes
 

@@ -14,8 +14,12 @@ pub mod Walk
 pub mod Marks
 -- Going down from the root, from each chunk to the one that it refers to.
 pub mod Descent
--- Trees in a chunk file on a device.
+-- Where chunks stand in a chunk file on a device, and those below them.
 pub mod Subtree
+-- Where the trees of a content stand in its chunk file.
+pub mod FileTrees
+-- Going on from one to the next, step by step.
+pub mod Leads
 -- Why a look-up in a chunk file of any bytes finds no answer.
 pub mod LookUpFault
 -- Leaves of a chunk file that are read before they are asked for.

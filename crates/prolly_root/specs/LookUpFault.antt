@@ -1,5 +1,5 @@
 -- Why a look-up in a chunk file of any bytes finds no answer. (This project's rules.)
-use Rattle.std.specs.Prelude.{◌≡◌, ◌-◌, ◌⊎◌, ℕ, List, [], ◌∷◌, ◌++◌, length, Option, Some, None}
+use Rattle.std.specs.Prelude.{◌≡◌, ◌-◌, ◌⊎◌, ℕ, List, ◌∷◌, ◌++◌, length, Option, Some, None}
 use Rattle.std.specs.Prelude.{MatchResult, Result}
 use Rattle.prolly_look_up.specs.Entries.{Child}
 use Rattle.prolly_look_up.specs.Kinds.{kind_of}
@@ -10,7 +10,12 @@ use Rattle.prolly_look_up.specs.Way.{FallsTo, IsNamed, level_of}
 use Rattle.prolly_look_up.specs.declared.step.ChunkFlaw.{ChunkFlaw}
 use Rattle.prolly_look_up.specs.declared.step.ChunkFlaw.TheVariants as flaws
 use Rattle.prolly_entry.specs.declared.version.Version.{Version}
-use Rattle.prolly_root.specs.ChunkFile.{ChunkFile, fault_behind, file_fault, nth_in}
+use Rattle.prolly_look_up.specs.Content.{Content}
+use Rattle.prolly_entry.specs.Cut.{sha512_cut}
+use Rattle.prolly_root.specs.ChunkFile.{ChunkFile, IsLawful, chunk_file, fault_behind, file_fault}
+use Rattle.prolly_root.specs.ChunkFile.{nth_in}
+use Rattle.prolly_tree.specs.File.{root_reference}
+use Rattle.prolly_root.specs.Leads.{Leads}
 use Rattle.prolly_root.specs.RootFault.{MayFail}
 use Rattle.prolly_root.specs.Subtree.{HasNoNth}
 use Rattle.prolly_root.specs.Walk.{IsBehind, IsNth}
@@ -87,9 +92,7 @@ pub record StepsTo (version : Version) (file : ChunkFile) (at next : Standing) :
 
 -- It goes down by these steps.
 abbrev pub LeadsTo : Version → ChunkFile → Standing → List Standing → Standing → Type 0
-LeadsTo version file at [] last = at ≡ last
-LeadsTo version file at (next ∷ steps) last =
-    StepsTo version file at next × LeadsTo version file next steps last
+LeadsTo version file = Leads (StepsTo version file)
 
 -- There is no chunk where the child should stand in which the look-up goes on.
 pub record LacksChild (version : Version) (file : ChunkFile) (at : Standing) (fault : RootFault)
@@ -158,3 +161,9 @@ pub record LookUpsTellOne : Type 0 where
   pub none : (version : Version) (file : ChunkFile) (root : List ℕ) (sought : Sought)
       (fault : RootFault) → ComesToEnd version file root sought →
       IsLookUpFault version file root sought fault → ⊥
+
+-- Law: in the chunk file of a lawful content a look-up from the root of its tree has no fault.
+abbrev pub LawfulFilesAreRead : Type 0
+LawfulFilesAreRead = (content : Content) (sought : Sought) (fault : RootFault) → IsLawful content →
+    IsFirstFault content.version (chunk_file content)
+    (root_reference (sha512_cut content.bits) content.version content.pairs) sought fault → ⊥

@@ -1,32 +1,18 @@
--- Trees in a chunk file on a device.
-use Rattle.std.specs.Prelude.{◌≡◌, ℕ, suc, ◌-◌, ◌+◌, List, ◌++◌, length, Option, None, Some}
+-- Where chunks stand in a chunk file on a device, and those below them.
+use Rattle.std.specs.Prelude.{◌≡◌, ℕ, suc, ◌-◌, Option, None, Some}
 use Rattle.std.specs.Prelude.{◌⊎◌, IfSome, Result, Ok, Err}
-use Rattle.prolly_look_up.specs.Content.{chunks_of, Content}
 use Rattle.prolly_look_up.specs.Way.{level_of}
 use Rattle.prolly_io.specs.Device.{DeviceView}
-use Rattle.prolly_tree.specs.Tree.{Tree}
-use Rattle.prolly_root.specs.ChunkFile.{ChunkFile, HoldsChunks, nth_in, chunk_file, fault_behind}
+use Rattle.prolly_root.specs.ChunkFile.{ChunkFile, HoldsChunks, nth_in, fault_behind}
 use Rattle.prolly_root.specs.Marks.{AreMarks}
 use Rattle.prolly_root.specs.RootFault.{OnlyRead}
-use Rattle.prolly_root.specs.Walk.{IsBehind, IsFrame, IsNth, IsWalk, chunks_below}
-use Rattle.prolly_root.specs.Walk.{chunks_of_tree}
+use Rattle.prolly_root.specs.Walk.{IsBehind, IsFrame, IsNth, IsWalk}
 use Rattle.prolly_root.specs.declared.file.subtree.LastChild.{LastChild}
 use Rattle.prolly_root.specs.declared.file.marks.Marks.{Marks}
 use Rattle.prolly_root.specs.declared.file.subtree.Place.{Place}
 use Rattle.prolly_root.specs.declared.file.subtree.Subtree.{Subtree}
 use Rattle.prolly_root.specs.declared.file.walk.Walk.{Walk}
 use Rattle.prolly_root.specs.declared.root_fault.RootFault.{RootFault}
-
--- The place is that of the top of this tree of the file, and of where the frames of the tree begin.
-pub record IsPlaceOf (content : Content) (level : ℕ) (t : Tree level) (place : Place)
-    : Type 0 where
-  pub before : List (List ℕ)
-  pub left : List (List ℕ)
-  pub are : chunks_of content ≡ before ++ (chunks_of_tree content.version level t ++ left)
-  pub below : IsWalk (chunk_file content) place.below
-  pub first : place.below.number ≡ length before
-  pub frame : IsFrame (chunk_file content) place.frame
-  pub top : place.frame.number ≡ length before + length (chunks_below content.version level t)
 
 -- The place is that of the chunk with k of the level before it from this number on, and of where
 -- the frames begin behind those.
@@ -53,11 +39,6 @@ KeepsLastChild file level first (Some passed) = IsWalk file first →
     IsPlaceNth file level first.number passed.number passed.place ×
     IsWalk file passed.rest ×
     IsBehind file level first.number (suc passed.number) passed.rest.number
-
--- The top of this tree of the file stands there, and what was found below it is so.
-abbrev pub IsSubtree : Content → (level : ℕ) → Tree level → Subtree → Type 0
-IsSubtree content level t subtree = IsPlaceOf content level t subtree.top ×
-    KeepsLastChild (chunk_file content) (level - 1) subtree.top.below subtree.last
 
 -- The chunk of this number stands there, the frames below it begin at this one, and what was found
 -- below it is so.

@@ -1,6 +1,6 @@
 -- Going over the frames of a chunk file on a device.
 use Rattle.std.specs.Prelude.{◌≡◌, ℕ, zero, suc, ◌+◌, ◌^◌, ◌<◌, ◌≤◌, ◌⊎◌, true, List, [], ◌∷◌, ◌++◌}
-use Rattle.std.specs.Prelude.{length, map, take, Option, Some, None, Result, Ok, Err}
+use Rattle.std.specs.Prelude.{length, take, Option, Some, None, Result, Ok, Err}
 use Rattle.std.specs.List.{flat_map}
 use Rattle.prolly_look_up.specs.Content.{Content, IsFileOf}
 use Rattle.prolly_look_up.specs.Way.{level_of}
@@ -15,8 +15,6 @@ use Rattle.prolly_root.specs.RootFault.{OnlyRead, TellsReads}
 use Rattle.prolly_root.specs.declared.root_fault.RootFault.{RootFault}
 use Rattle.prolly_root.specs.declared.file.walk.Frame.{Frame}
 use Rattle.prolly_root.specs.declared.file.walk.Walk.{Walk}
-use Rattle.prolly_tree.specs.Chunk.{post_order}
-use Rattle.prolly_tree.specs.Tree.{Tree}
 
 -- ---- the device
 
@@ -124,15 +122,3 @@ GoesToLevel file level number walk (Ok frame) = IsFrame file frame ×
     (walk.number ≡ suc frame.number)
 GoesToLevel file level number walk (Err fault) = OnlyRead fault ⊎
     (NoneBetween file level number (length file.chunks) × (fault ≡ fault_behind file))
-
--- ---- the trees
-
--- The chunks below the top of a tree, in the order of the file.
-abbrev pub chunks_below : Version → (level : ℕ) → Tree level → List (List ℕ)
-chunks_below version zero leaf = []
-chunks_below version (suc level) ts =
-    map (λ c. c.bytes) (flat_map (post_order version level) ts)
-
--- The bytes of the chunks of a tree, in the file's order.
-abbrev pub chunks_of_tree : Version → (level : ℕ) → Tree level → List (List ℕ)
-chunks_of_tree version level t = map (λ c. c.bytes) (post_order version level t)

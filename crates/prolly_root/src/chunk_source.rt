@@ -1,12 +1,9 @@
 //! What gives the chunks of a tree.
-ghost use Rattle.std.specs.Prelude.{◌≡◌, ◌↔◌, ◌-◌, ℕ, suc, IsTrue, List};
-ghost use Rattle.prolly_look_up.specs.Content.{Content};
+ghost use Rattle.std.specs.Prelude.{◌≡◌, ◌↔◌, ◌-◌, ℕ, IsTrue};
 ghost use Rattle.prolly_look_up.specs.Way.{level_of};
 ghost use Rattle.prolly_root.specs.ChunkFile.{ChunkFile, nth_in};
-ghost use Rattle.prolly_root.specs.RootFault.{IsOrFails, MayFail, OnlyRead};
-ghost use Rattle.prolly_root.specs.ChunkSource.{FindsChild, FindsRoot, GoesOverStill, HasAsked};
-ghost use Rattle.prolly_root.specs.ChunkSource.{IsChildNumber, IsLawful, root_level, root_tree};
-ghost use Rattle.prolly_tree.specs.Tree.{Tree, bytes_of};
+ghost use Rattle.prolly_root.specs.RootFault.{IsOrFails, MayFail};
+ghost use Rattle.prolly_root.specs.ChunkSource.{FindsChild, FindsRoot, HasAsked};
 
 use crate::given_chunk::GivenChunk;
 use crate::root_fault::RootFault;
@@ -17,22 +14,17 @@ use std::alloc::Global;
 /// [`FileChunks`](crate::FileChunks).
 ///
 /// Nothing that a source gives is believed. Who asks compares each chunk with the reference in the
-/// one above it, and the first with the root; a [`GivenChunk`] tells its reference only where it was
-/// hashed. So whatever a source gives, what is answered is right. What the contracts say here is
-/// for two things alone: that the tree of a source that has it is never refused; and which fault a
-/// look-up tells, where the source goes over the frames of a chunk file of any bytes.
+/// one above it, and the first with the root; a [`GivenChunk`] tells its reference only where it
+/// was hashed. So whatever a source gives, what is answered is right. What the contracts say here
+/// is for one thing alone: which fault a look-up tells, where the source goes over the frames of a
+/// chunk file of any bytes. A lawful file has none: see
+/// [`laws::lawful_files_are_read`](crate::laws::lawful_files_are_read).
 pub trait ChunkSource {
     /// Where a chunk stands, and what was found below it so far.
     type Place: Copy + Drop;
 
     /// How many of its calls failed.
     ghost failures: { Self → ℕ };
-
-    /// It has the chunks of the tree of this content.
-    ghost has: { Self → Content → Type 0 };
-
-    /// In the tree of the content the place is that of the top of this tree.
-    ghost is_place: { Content → (level : ℕ) → Tree level → Self.Place → Type 0 };
 
     /// It goes over the frames of this file, one behind another. A source that goes over none may say
     /// so of no file.
@@ -47,12 +39,9 @@ pub trait ChunkSource {
 
     /// The place of the root, of a tree whose chunks are of this version.
     fn root(&mut self, version: Version) -> Result<Self::Place, RootFault>
-        ensures place { (content : Content) → has self.old content → version ≡ content.version →
-            IsOrFails (is_place content (root_level content) (root_tree content)) OnlyRead result }
         ensures finds { (file : ChunkFile) → goes_over self.old file →
             FindsRoot stands version file result }
-        ensures goes { GoesOverStill goes_over self.old self.new }
-        ensures asked { HasAsked has failures self.old self.new result };
+        ensures asked { HasAsked goes_over failures self.old self.new result };
 
     /// The place of the child of this number below a node. The children are of this level, and
     /// counted from 0.
@@ -62,30 +51,20 @@ pub trait ChunkSource {
         level: u8,
         number: u64,
     ) -> Result<Self::Place, RootFault>
-        ensures place { (content : Content) (ts : List (Tree level)) (t : Tree level) →
-            has self.old content → is_place content (suc level) ts node.old →
-            IsChildNumber level ts number t → IsOrFails (is_place content level t) OnlyRead result }
-        ensures node { (content : Content) (ts : List (Tree level)) → has self.old content →
-            is_place content (suc level) ts node.old → is_place content (suc level) ts node.new }
         ensures finds { (file : ChunkFile) (n from : ℕ) → goes_over self.old file →
             stands file node.old n from → level ≡ level_of (nth_in file n) - 1 →
             FindsChild stands file level from number result }
         ensures stays { (file : ChunkFile) (n from : ℕ) → goes_over self.old file →
             stands file node.old n from → level ≡ level_of (nth_in file n) - 1 →
             stands file node.new n from }
-        ensures goes { GoesOverStill goes_over self.old self.new }
-        ensures asked { HasAsked has failures self.old self.new result };
+        ensures asked { HasAsked goes_over failures self.old self.new result };
 
     /// The chunk that stands there. Takes memory for it.
     fn chunk(&mut self, alloc: Global, place: &Self::Place) -> Result<GivenChunk, RootFault>
-        ensures is { (content : Content) (l : ℕ) (t : Tree l) → has self.old content →
-            is_place content l t place.now →
-            IsOrFails (λ chunk. chunk ≡ bytes_of content.version l t) MayFail result }
         ensures gives { (file : ChunkFile) (n from : ℕ) → goes_over self.old file →
             stands file place.now n from →
             IsOrFails (λ chunk. chunk ≡ nth_in file n) MayFail result }
-        ensures goes { GoesOverStill goes_over self.old self.new }
-        ensures asked { HasAsked has failures self.old self.new result };
+        ensures asked { HasAsked goes_over failures self.old self.new result };
 
     /// The number by which faults name the chunk that stands there.
     fn number(place: &Self::Place) -> u64
@@ -94,10 +73,6 @@ pub trait ChunkSource {
     /// Whether two places are one, as those are at which two look-ups came to one chunk.
     fn is_same(place: &Self::Place, other: &Self::Place) -> bool
         ensures { IsTrue result ↔ are_one place.now other.now };
-
-    /// The pairs of a content that a source has are lawful and rise, and no two of its chunks have
-    /// one reference.
-    ghost lawful: { (source : Self) (content : Content) → has source content → IsLawful content };
 
     /// At one place one chunk stands.
     ghost one: { (file : ChunkFile) (place other : Self.Place) (n from m below : ℕ) →

@@ -1,7 +1,7 @@
 //! What reads leaves before they are asked for.
 ghost use Rattle.std.specs.Prelude.{IfErr};
 ghost use Rattle.std.specs.Thread.{IsSync};
-ghost use Rattle.prolly_root.specs.ChunkSource.{GoesOverStill, HasAsked};
+ghost use Rattle.prolly_root.specs.ChunkSource.{HasAsked};
 ghost use Rattle.prolly_root.specs.RootFault.{OnlyRead};
 
 use crate::chunk_source::ChunkSource;
@@ -24,6 +24,5 @@ pub trait ReadAhead: ChunkSource {
     ) -> Result<(), RootFault>
         requires sync { IsSync R.row }
         ensures fault { IfErr result OnlyRead }
-        ensures goes { GoesOverStill Self.goes_over self.old self.new }
-        ensures asked { HasAsked Self.has Self.failures self.old self.new result };
+        ensures asked { HasAsked Self.goes_over Self.failures self.old self.new result };
 }

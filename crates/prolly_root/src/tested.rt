@@ -4,7 +4,7 @@ ghost use Rattle.prolly_look_up.specs.Content.{Content};
 ghost use Rattle.prolly_look_up.specs.Way.{FallsTo, IsNamed, IsOrdered};
 ghost use Rattle.prolly_entry.specs.Reference.{reference_of};
 ghost use Rattle.prolly_root.specs.ChunkFile.{ChunkFile, nth_in};
-ghost use Rattle.prolly_root.specs.ChunkSource.{GoesOverStill, HasAsked};
+ghost use Rattle.prolly_root.specs.ChunkSource.{HasAsked, HasTree};
 ghost use Rattle.prolly_root.specs.Descent.{StandsBelow};
 ghost use Rattle.prolly_root.specs.LookUpFault.{IsFaultOfChunk};
 ghost use Rattle.prolly_root.specs.RootFault.{IsOrFails, MayFail};
@@ -34,8 +34,9 @@ pub fn tested_chunk<S: ChunkSource>(
     ensures falls { IfOk result (λ chunk. FallsTo above chunk.items) }
 
     // The chunk of a lawful tree is never refused.
-    ensures lawful { (content : Content) → S.has source.old content → version ≡ content.version →
-        (due : StandsBelow S.is_place content reference.now.0 above place.now) → IsOrFails (λ chunk.
+    ensures lawful { (content : Content) → HasTree S.goes_over source.old content →
+        version ≡ content.version →
+        (due : StandsBelow S.stands content reference.now.0 above place.now) → IsOrFails (λ chunk.
         chunk.items ≡ bytes_of content.version due.at.level due.at.t) MayFail result }
 
     // Of a file of any bytes it is told what is wrong first with the chunk that stands there.
@@ -43,8 +44,7 @@ pub fn tested_chunk<S: ChunkSource>(
         S.stands file place.now n from → IsOrFails (λ chunk. chunk.items ≡ nth_in file n)
         (λ fault. MayFail fault ⊎
         IsFaultOfChunk version reference.now.0 above (nth_in file n) n fault) result }
-    ensures goes { GoesOverStill S.goes_over source.old source.new }
-    ensures asked { HasAsked S.has S.failures source.old source.new result }
+    ensures asked { HasAsked S.goes_over S.failures source.old source.new result }
 {
     // By this law the chunk of a lawful tree can be read.
     tops_are_read();

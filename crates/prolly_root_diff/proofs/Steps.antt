@@ -6,8 +6,10 @@ use Rattle.prolly_look_up.specs.Content.{Content}
 use Rattle.prolly_entry.specs.Keys.{KeyBelow}
 use Rattle.prolly_entry.specs.Pair.{Pair}
 use Rattle.prolly_entry.specs.declared.version.Version.{Version}
-use Rattle.prolly_tree.specs.Tree.{Tree}
 use Rattle.prolly_tree.specs.lemmas.Maps.{FirstAbove}
+use Rattle.prolly_root.specs.ChunkFile.{ChunkFile}
+use Rattle.prolly_root.specs.ChunkSource.{GoesOverStill, HasTree}
+use Rattle.prolly_root.specs.lemmas.LawfulFiles.{has_still}
 use Rattle.prolly_root_diff.specs.Left.{Due}
 use Rattle.prolly_root_diff.specs.Sides.{AreOne, AreSiblingsOf, IsSideOf, PassesFirst, dues}
 use Rattle.prolly_root_diff.specs.Sides.{left_of}
@@ -37,47 +39,47 @@ behind_first_due old new p first rest is =
     same None = tt
     same (Some p) = (refl, refl)
 
-module _ {S T : Type 0} (has : S → Content → Type 0) (failures : S → ℕ)
-    (is_place : Content → (level : ℕ) → Tree level → T → Type 0) (version : Version) where
+module _ {S T : Type 0} (goes_over : S → ChunkFile → Type 0) (failures : S → ℕ)
+    (stands_at : ChunkFile → T → ℕ → ℕ → Type 0) (version : Version) where
   pub stays : (source : S) (side : Side T) →
-      GoesOn has failures is_place version source source side side
+      GoesOn goes_over failures stands_at version source source side side
   stays source side = record {
-    still = record { has_still = λ content h. h; failures_are = refl };
+    still = record { goes_still = λ file goes. goes; failures_are = refl };
     lawful = λ content h same side. side;
   }
 
   pub goes_behind : (start source : S) (side old new : Side T) →
-      GoesOn has failures is_place version start source side old → PassesFirst old new →
-      GoesOn has failures is_place version start source side new
+      GoesOn goes_over failures stands_at version start source side old → PassesFirst old new →
+      GoesOn goes_over failures stands_at version start source side new
   goes_behind start source side old new on p = record {
     still = on.still;
     lawful = λ content h same lawful.
-        let all = subst (AllByRecursion (AreSiblingsOf is_place content)) p.was
+        let all = subst (AllByRecursion (AreSiblingsOf stands_at content)) p.was
         (on.lawful content h same lawful) in
-        put_lawful is_place content p.first p.others new.due.items p.put all.0 all.1;
+        put_lawful stands_at content p.first p.others new.due.items p.put all.0 all.1;
   }
 
   pub goes_down : (start old new : S) (side before after : Side T) →
-      GoesOn has failures is_place version start old side before →
-      ((content : Content) → has old content → version ≡ content.version →
-      IsSideOf is_place content before → IsSideOf is_place content after) →
-      ((content : Content) → has old content → has new content) → failures new ≡ failures old →
-      GoesOn has failures is_place version start new side after
+      GoesOn goes_over failures stands_at version start old side before →
+      ((content : Content) → HasTree goes_over old content → version ≡ content.version →
+      IsSideOf stands_at content before → IsSideOf stands_at content after) →
+      GoesOverStill goes_over old new → failures new ≡ failures old →
+      GoesOn goes_over failures stands_at version start new side after
   goes_down start old new side before after on lawful keeps none = record {
     still = record {
-      has_still = λ content h. keeps content (on.still.has_still content h);
+      goes_still = λ file goes. keeps file (on.still.goes_still file goes);
       failures_are = none ∙ on.still.failures_are;
     };
-    lawful = λ content h same side. lawful content (on.still.has_still content h) same
-        (on.lawful content h same side);
+    lawful = λ content has same side. lawful content (has_still on.still.goes_still has) same
+        (on.lawful content has same side);
   }
 
   pub goes_by : (start source : S) (side old new : Side T) →
-      GoesOn has failures is_place version start source side old → new.due ≡ old.due →
-      GoesOn has failures is_place version start source side new
+      GoesOn goes_over failures stands_at version start source side old → new.due ≡ old.due →
+      GoesOn goes_over failures stands_at version start source side new
   goes_by start source side old new on due = record {
     still = on.still;
-    lawful = λ content h same lawful. subst (λ d. AllByRecursion (AreSiblingsOf is_place content)
+    lawful = λ content h same lawful. subst (λ d. AllByRecursion (AreSiblingsOf stands_at content)
         d.items) (sym due) (on.lawful content h same lawful);
   }
 

@@ -15,7 +15,9 @@ use Rattle.prolly_look_up.specs.Entries.{Child, children_in}
 use Rattle.prolly_look_up.specs.Kinds.{Entries, kind_of}
 use Rattle.prolly_look_up.specs.Kinds.Entries.{Leaf, Node}
 use Rattle.prolly_look_up.specs.Way.{FallsTo, IsNamed, level_of}
-use Rattle.prolly_root.specs.ChunkSource.{IsChildNumber, IsLawful, root_level, root_tree}
+use Rattle.prolly_root.specs.ChunkFile.{ChunkFile, IsLawful}
+use Rattle.prolly_root.specs.FileTrees.{IsTreePlace, root_level, root_tree}
+use Rattle.prolly_root.specs.lemmas.LawfulFiles.{FindsIn, StaysIn, child_place, node_place}
 use Rattle.prolly_root.specs.Descent.{StandsBelow}
 use Rattle.prolly_root.specs.RootFault.{IsOrFails, OnlyRead}
 use Rattle.prolly_root.specs.declared.root_fault.RootFault.{RootFault}
@@ -202,16 +204,16 @@ node_pairs version (suc n ∷ entries) level due high = refl
 
 -- ---- in a lawful tree
 
-module _ {T : Type 0} (is_place : Content → (level : ℕ) → Tree level → T → Type 0)
+module _ {T : Type 0} (stands_at : ChunkFile → T → ℕ → ℕ → Type 0)
     (content : Content) where
   abbrev Ref_of : (level : ℕ) → Tree level → List ℕ
   Ref_of level t = reference_of (bytes_of content.version level t)
 
   one_on : (level : ℕ) (front after : List (Tree level)) (p : Parent T) (r s : List ℕ)
       (rs : List (List ℕ)) → IsTreeOf content.version (chunks_of content) (suc level) (front ++ after) →
-      is_place content (suc level) (front ++ after) p.place → p.level ≡ suc level →
+      IsTreePlace stands_at content (suc level) (front ++ after) p.place → p.level ≡ suc level →
       p.count ≡ length (front ++ after) → r ∷ s ∷ rs ≡ map (Ref_of level) after →
-      AreLastChildren is_place content (s ∷ rs) p
+      AreLastChildren stands_at content (s ∷ rs) p
   one_on level front [] p r s rs whole stands high count e = nothing e
   one_on level front (t ∷ after) p r s rs whole stands high count e =
       let same : front ++ t ∷ after ≡ (front ++ t ∷ []) ++ after =
@@ -221,85 +223,80 @@ module _ {T : Type 0} (is_place : Content → (level : ℕ) → Tree level → T
         front = front ++ t ∷ [];
         after = after;
         whole = subst (IsTreeOf content.version (chunks_of content) (suc level)) same whole;
-        stands = subst (λ ts. is_place content (suc level) ts p.place) same stands;
+        stands = subst (λ ts. IsTreePlace stands_at content (suc level) ts p.place) same stands;
         level_is = high;
         count = count ∙ ap length same;
         are = tails e;
       }
 
   behind_one : (parent : Option (Parent T)) (r s : List ℕ) (rs : List (List ℕ)) →
-      AreLastBelow is_place content (r ∷ s ∷ rs) parent → AreLastBelow is_place content (s ∷ rs) parent
+      AreLastBelow stands_at content (r ∷ s ∷ rs) parent →
+      AreLastBelow stands_at content (s ∷ rs) parent
   behind_one None r s rs h = two_one h
   behind_one (Some p) r s rs a = one_on a.level a.front a.after p r s rs a.whole a.stands a.level_is
       a.count a.are
 
   -- behind the next one the others are lawful
-  still : (old new : Siblings T) → IsBehindFirst old new → AreSiblingsOf is_place content old →
-      AreSiblingsOf is_place content new
+  still : (old new : Siblings T) → IsBehindFirst old new → AreSiblingsOf stands_at content old →
+      AreSiblingsOf stands_at content new
   still old new b h =
       let refs : map (λ r. r.0) old.behind.items ≡ new.next.0 ∷ map (λ r. r.0) new.behind.items =
       ap (map (λ r. r.0)) b.are in
-      subst (AreLastBelow is_place content (new.next.0 ∷ map (λ r. r.0) new.behind.items))
+      subst (AreLastBelow stands_at content (new.next.0 ∷ map (λ r. r.0) new.behind.items))
       (sym b.parent) (behind_one old.parent old.next.0 new.next.0 (map (λ r. r.0) new.behind.items)
-      (subst (λ rs. AreLastBelow is_place content (old.next.0 ∷ rs) old.parent) refs h))
+      (subst (λ rs. AreLastBelow stands_at content (old.next.0 ∷ rs) old.parent) refs h))
 
   pub put_lawful : (first : Siblings T) (others all : List (Siblings T)) →
-      PutBehindFirst first others all → AreSiblingsOf is_place content first →
-      AllByRecursion (AreSiblingsOf is_place content) others →
-      AllByRecursion (AreSiblingsOf is_place content) all
+      PutBehindFirst first others all → AreSiblingsOf stands_at content first →
+      AllByRecursion (AreSiblingsOf stands_at content) others →
+      AllByRecursion (AreSiblingsOf stands_at content) all
   put_lawful first others all (inl none) h k =
-      subst (AllByRecursion (AreSiblingsOf is_place content)) (sym none.1) k
+      subst (AllByRecursion (AreSiblingsOf stands_at content)) (sym none.1) k
   put_lawful first others all (inr some) h k =
-      subst (AllByRecursion (AreSiblingsOf is_place content)) (sym some.2)
+      subst (AllByRecursion (AreSiblingsOf stands_at content)) (sym some.2)
       (still first some.0 some.1 h, k)
 
   -- ---- finding the next one
 
-  pub root_found : (r : List ℕ) (rs : List (List ℕ)) → AreLastBelow is_place content (r ∷ rs) None →
-      RootIsTree → IsLawful content → (found : Result T RootFault) →
-      IsOrFails (is_place content (root_level content) (root_tree content)) OnlyRead found →
-      IsOrFails (StandsBelow is_place content r None) OnlyRead found
+  pub root_found : (r : List ℕ) (rs : List (List ℕ)) →
+      AreLastBelow stands_at content (r ∷ rs) None → RootIsTree → IsLawful content →
+      (found : Result T RootFault) → IsOrFails
+      (IsTreePlace stands_at content (root_level content) (root_tree content)) OnlyRead found →
+      IsOrFails (StandsBelow stands_at content r None) OnlyRead found
   root_found r rs e trees lawful (Ok place) stands = record {
-    at = root_stands is_place content r place trees lawful (heads e) stands;
+    at = root_stands stands_at content r place trees lawful (heads e) stands;
     falls = tt;
   }
   root_found r rs e trees lawful (Err fault) only = only
 
-  abbrev pub Keeps : Parent T → T → ℕ → Type 0
-  Keeps p new l = (ts : List (Tree l)) → is_place content (suc l) ts p.place →
-      is_place content (suc l) ts new
-
-  abbrev pub Finds : Parent T → ℕ → Result T RootFault → ℕ → Type 0
-  Finds p number found l = (ts : List (Tree l)) (t : Tree l) → is_place content (suc l) ts p.place →
-      IsChildNumber l ts number t → IsOrFails (is_place content l t) OnlyRead found
-
   abbrev pub FoundSo : Parent T → List ℕ → List (List ℕ) → T → Result T RootFault → Type 0
-  FoundSo p r rs new found = AreLastChildren is_place content (r ∷ rs)
+  FoundSo p r rs new found = AreLastChildren stands_at content (r ∷ rs)
       (record { place = new; level = p.level; count = p.count }) ×
-      IsOrFails (StandsBelow is_place content r (Some p.level)) OnlyRead found
+      IsOrFails (StandsBelow stands_at content r (Some p.level)) OnlyRead found
 
   at_child : ((version : Version) → ChildIsTree version) → (level : ℕ)
       (front after : List (Tree level)) (p : Parent T) (r : List ℕ) (rs : List (List ℕ)) →
       IsTreeOf content.version (chunks_of content) (suc level) (front ++ after) →
-      is_place content (suc level) (front ++ after) p.place → p.level ≡ suc level →
+      IsTreePlace stands_at content (suc level) (front ++ after) p.place → p.level ≡ suc level →
       p.count ≡ length (front ++ after) → r ∷ rs ≡ map (Ref_of level) after →
       (number : ℕ) → number ≡ p.count - length rs - 1 → (new : T) (found : Result T RootFault) →
-      Keeps p new level → Finds p number found level → FoundSo p r rs new found
-  at_child child_tree level front [] p r rs whole stands high count e number is new found keeps finds =
-      nothing e
-  at_child child_tree level front (t ∷ after) p r rs whole stands high count e number is new found keeps
-      finds = (
+      StaysIn stands_at content level p.place new →
+      FindsIn stands_at content level number p.place found → FoundSo p r rs new found
+  at_child child_tree level front [] p r rs whole stands high count e number is new found stays
+      finds = nothing e
+  at_child child_tree level front (t ∷ after) p r rs whole stands high count e number is new found
+      stays finds = (
         record {
           level = level;
           front = front;
           after = t ∷ after;
           whole = whole;
-          stands = keeps (front ++ t ∷ after) stands;
+          stands = node_place stands_at content stays stands;
           level_is = high;
           count = count;
           are = e;
         },
-        lands found (finds (front ++ t ∷ after) t stands (record {
+        lands found (child_place stands_at content found finds stands (record {
           front = front;
           after = after;
           are = refl;
@@ -314,8 +311,9 @@ module _ {T : Type 0} (is_place : Content → (level : ℕ) → Tree level → T
         })),
       )
     where
-      lands : (found : Result T RootFault) → IsOrFails (is_place content level t) OnlyRead found →
-          IsOrFails (StandsBelow is_place content r (Some p.level)) OnlyRead found
+      lands : (found : Result T RootFault) →
+          IsOrFails (IsTreePlace stands_at content level t) OnlyRead found →
+          IsOrFails (StandsBelow stands_at content r (Some p.level)) OnlyRead found
       lands (Ok place) at = record {
         at = record {
           level = level;
@@ -329,14 +327,15 @@ module _ {T : Type 0} (is_place : Content → (level : ℕ) → Tree level → T
       lands (Err fault) only = only
 
   pub child_found : ((version : Version) → ChildIsTree version) → (p : Parent T) (r : List ℕ)
-      (rs : List (List ℕ)) → AreLastChildren is_place content (r ∷ rs) p → (l number : ℕ) →
+      (rs : List (List ℕ)) → AreLastChildren stands_at content (r ∷ rs) p → (l number : ℕ) →
       l ≡ p.level - 1 → number ≡ p.count - length rs - 1 → (new : T) (found : Result T RootFault) →
-      Keeps p new l → Finds p number found l → FoundSo p r rs new found
-  child_found child_tree p r rs a l number lower is new found keeps finds =
-      let e : a.level ≡ l = omega (arith, lower, a.level_is) in
-      subst (λ l. Keeps p new l → Finds p number found l → FoundSo p r rs new found) e
-      (at_child child_tree a.level a.front a.after p r rs a.whole a.stands a.level_is a.count a.are
-      number is new found) keeps finds
+      StaysIn stands_at content l p.place new → FindsIn stands_at content l number p.place found →
+      FoundSo p r rs new found
+  child_found child_tree p r rs a l number lower is new found stays finds =
+      let e : l ≡ a.level = omega (arith, lower, a.level_is) in
+      at_child child_tree a.level a.front a.after p r rs a.whole a.stands a.level_is a.count a.are
+      number is new found (subst (λ l. StaysIn stands_at content l p.place new) e stays)
+      (subst (λ l. FindsIn stands_at content l number p.place found) e finds)
 
   -- ---- the children of a node
 
@@ -346,22 +345,24 @@ module _ {T : Type 0} (is_place : Content → (level : ℕ) → Tree level → T
 
   below_top : ((version : Version) → TopIsRead version) → (level : ℕ) (t : Tree level)
       (chunk : List ℕ) (place : T) (s : Siblings T) →
-      IsTreeOf content.version (chunks_of content) level t → is_place content level t place →
+      IsTreeOf content.version (chunks_of content) level t →
+      IsTreePlace stands_at content level t place →
       chunk ≡ bytes_of content.version level t → 0 < level_of chunk →
-      AreChildrenOf content.version chunk place s → AreSiblingsOf is_place content s
+      AreChildrenOf content.version chunk place s → AreSiblingsOf stands_at content s
   below_top read zero leaf chunk place s below stands is high c =
       absurd (omega (arith, high, ap level_of is, level_is content.version 0 leaf))
   below_top read (suc level) ts chunk place s below stands is high c =
       let are : children_in content.version (drop 1 chunk) ≡ map (child_of content.version level) ts =
       ap (λ bytes. children_in content.version (drop 1 bytes)) is ∙
       ap kids (read content.version (chunks_of content) (suc level) ts below).1 in
-      subst (AreLastBelow is_place content (s.next.0 ∷ map (λ r. r.0) s.behind.items)) (sym c.above)
+      subst (AreLastBelow stands_at content (s.next.0 ∷ map (λ r. r.0) s.behind.items))
+      (sym c.above)
       (record {
         level = level;
         front = [];
         after = ts;
         whole = below;
-        stands = subst (is_place content (suc level) ts) (sym c.stands) stands;
+        stands = subst (IsTreePlace stands_at content (suc level) ts) (sym c.stands) stands;
         level_is = c.level ∙ ap level_of is ∙ level_is content.version (suc level) ts;
         count = c.count ∙ ap length are ∙ length-map ts (child_of content.version level);
         are = c.references ∙ ap (map (λ c. c.reference)) are ∙
@@ -370,8 +371,8 @@ module _ {T : Type 0} (is_place : Content → (level : ℕ) → Tree level → T
 
   pub children_lawful : ((version : Version) → TopIsRead version) → (version : Version) →
       version ≡ content.version → (reference chunk : List ℕ) (place : T) (s : Siblings T) →
-      IsTopThere is_place content reference (chunk, place) → 0 < level_of chunk →
-      AreChildrenOf version chunk place s → AreSiblingsOf is_place content s
+      IsTopThere stands_at content reference (chunk, place) → 0 < level_of chunk →
+      AreChildrenOf version chunk place s → AreSiblingsOf stands_at content s
   children_lawful read version same reference chunk place s there high c =
       below_top read there.at.level there.at.t chunk place s there.at.below there.at.stands there.is
       high (subst (λ v. AreChildrenOf v chunk place s) same c)
@@ -380,8 +381,8 @@ module _ {T : Type 0} (is_place : Content → (level : ℕ) → Tree level → T
 
   -- the chunk of a reference stands where that of the same reference does, and as deep
   abbrev pub stands_below : (r s : List ℕ) (place : T) → r ≡ s → (above over : Option ℕ) →
-      above ≡ over → StandsBelow is_place content s over place →
-      StandsBelow is_place content r above place
+      above ≡ over → StandsBelow stands_at content s over place →
+      StandsBelow stands_at content r above place
   stands_below r s place same above over level due = record {
     at = record {
       level = due.at.level;

@@ -8,12 +8,12 @@ use Rattle.prolly_look_up.specs.HeldPairs.{pairs_held}
 use Rattle.prolly_entry.specs.Reference.{reference_of}
 use Rattle.prolly_entry.specs.declared.version.Version.{Version}
 use Rattle.prolly_root.specs.declared.root_fault.RootFault.{RootFault}
-use Rattle.prolly_tree.specs.Tree.{Tree}
 use Rattle.prolly_root_diff.specs.DueTrees.{AreDueIn, IsWholeTree, all_due}
 use Rattle.prolly_root_diff.specs.Left.{Due, left_of_root}
 use Rattle.prolly_root_diff.specs.Leaves.{GivesLeaf, LeavesEnd}
 use Rattle.prolly_root_diff.specs.declared.root_leaves.LeafRead.{LeafRead}
 use Rattle.prolly_root_diff.specs.declared.siblings.Siblings.{Siblings}
+use Rattle.prolly_root.specs.ChunkFile.{ChunkFile}
 
 -- A walk over the leaves: the version of the tree's chunks, the subtrees that are due, and the fault
 -- that stopped it.
@@ -35,9 +35,9 @@ pub record IsLeafWalk {T : Type 0} (version : Version) (root : List ℕ) (walk :
     pub goes : walk.fault ≡ None
 
 -- All that is due is of the content's tree, and stands where it is said.
-abbrev pub WalksIn : {T : Type 0} → (is_place : Content → (level : ℕ) → Tree level → T → Type 0) →
+abbrev pub WalksIn : {T : Type 0} → (stands_at : ChunkFile → T → ℕ → ℕ → Type 0) →
     Content → LeafWalk T → Type 0
-WalksIn is_place content walk = AreDueIn is_place content walk.due.items
+WalksIn stands_at content walk = AreDueIn stands_at content walk.due.items
 
 -- The chunk is a leaf that has pairs, and has the reference.
 pub record IsLeafRead (version : Version) (leaf : LeafRead) : Type 0 where

@@ -17,6 +17,8 @@ use Rattle.prolly_root_diff.specs.Left.{Due, Left}
 use Rattle.prolly_root_diff.specs.declared.side.Side.{Side}
 use Rattle.prolly_root_diff.specs.declared.siblings.Parent.{Parent}
 use Rattle.prolly_root_diff.specs.declared.siblings.Siblings.{Siblings}
+use Rattle.prolly_root.specs.ChunkFile.{ChunkFile}
+use Rattle.prolly_root.specs.FileTrees.{IsTreePlace}
 
 -- ---- what is left
 
@@ -100,39 +102,39 @@ pub record HaveSame {T : Type 0} (old new : Siblings T) : Type 0 where
 
 -- The references are those of the last children of a node of the content, which stands there.
 pub record AreLastChildren {T : Type 0}
-    (is_place : Content → (level : ℕ) → Tree level → T → Type 0) (content : Content)
+    (stands_at : ChunkFile → T → ℕ → ℕ → Type 0) (content : Content)
     (references : List (List ℕ)) (parent : Parent T) : Type 0 where
   pub level : ℕ
   pub front : List (Tree level)
   pub after : List (Tree level)
   pub whole : IsTreeOf content.version (chunks_of content) (suc level) (front ++ after)
-  pub stands : is_place content (suc level) (front ++ after) parent.place
+  pub stands : IsTreePlace stands_at content (suc level) (front ++ after) parent.place
   pub level_is : parent.level ≡ suc level
   pub count : parent.count ≡ length (front ++ after)
   pub are : references ≡ map (λ t. reference_of (bytes_of content.version level t)) after
 
 -- They are; or the only one is that of the root.
 abbrev pub AreLastBelow : {T : Type 0} →
-    (is_place : Content → (level : ℕ) → Tree level → T → Type 0) → Content → List (List ℕ) →
+    (stands_at : ChunkFile → T → ℕ → ℕ → Type 0) → Content → List (List ℕ) →
     Option (Parent T) → Type 0
-AreLastBelow is_place content references None = references ≡
+AreLastBelow stands_at content references None = references ≡
     root_reference (sha512_cut content.bits) content.version content.pairs ∷ []
-AreLastBelow is_place content references (Some parent) =
-    AreLastChildren is_place content references parent
+AreLastBelow stands_at content references (Some parent) =
+    AreLastChildren stands_at content references parent
 
 -- The subtrees are those of the content, and stand where it is said.
 abbrev pub AreSiblingsOf : {T : Type 0} →
-    (is_place : Content → (level : ℕ) → Tree level → T → Type 0) → Content → Siblings T → Type 0
-AreSiblingsOf is_place content siblings = AreLastBelow is_place content
+    (stands_at : ChunkFile → T → ℕ → ℕ → Type 0) → Content → Siblings T → Type 0
+AreSiblingsOf stands_at content siblings = AreLastBelow stands_at content
     (siblings.next.0 ∷ map (λ r. r.0) siblings.behind.items) siblings.parent
 
 -- So are all that are due.
 abbrev pub IsSideOf : {T : Type 0} →
-    (is_place : Content → (level : ℕ) → Tree level → T → Type 0) → Content → Side T → Type 0
-IsSideOf is_place content side = AllByRecursion (AreSiblingsOf is_place content) side.due.items
+    (stands_at : ChunkFile → T → ℕ → ℕ → Type 0) → Content → Side T → Type 0
+IsSideOf stands_at content side = AllByRecursion (AreSiblingsOf stands_at content) side.due.items
 
 -- The chunk is the top of a tree of the content, and stands there.
-pub record IsTopThere {T : Type 0} (is_place : Content → (level : ℕ) → Tree level → T → Type 0)
+pub record IsTopThere {T : Type 0} (stands_at : ChunkFile → T → ℕ → ℕ → Type 0)
     (content : Content) (reference : List ℕ) (read : List ℕ × T) : Type 0 where
-  pub at : StandsAt is_place content reference read.1
+  pub at : StandsAt stands_at content reference read.1
   pub is : read.0 ≡ bytes_of content.version at.level at.t

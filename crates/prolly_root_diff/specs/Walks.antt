@@ -16,9 +16,10 @@ use Rattle.prolly_look_up.specs.Content.{chunk_bytes, Content}
 use Rattle.prolly_look_up.specs.Way.{Clash, IsNamed}
 use Rattle.prolly_tree.specs.Walks.{AreAlike, AreMaps, IsFirstChange, Maps}
 use Rattle.prolly_tree.specs.lemmas.Maps.{FirstAbove}
+use Rattle.prolly_root.specs.ChunkFile.{ChunkFile}
+use Rattle.prolly_root.specs.ChunkSource.{GoesOverStill, HasTree}
 use Rattle.prolly_root.specs.RootFault.{MayFail, TellsFailure}
 use Rattle.prolly_root.specs.declared.root_fault.RootFault.{RootFault}
-use Rattle.prolly_tree.specs.Tree.{Tree}
 use Rattle.prolly_root_diff.specs.Left.{Due, IsLeft, Left, Opens, left_of_root}
 use Rattle.prolly_root_diff.specs.Sides.{IsAtRoot, IsSideOf, left_of}
 use Rattle.prolly_root_diff.specs.declared.fault.RootDiffFault.{RootDiffFault}
@@ -232,50 +233,50 @@ TakesFirst old (Some p) (Some q) new = Takes old.before p new.before × Takes ol
 
 -- ---- the sources of two trees
 
--- A source has what it had, and no call failed.
-pub record HasStill {S : Type 0} (has : S → Content → Type 0) (failures : S → ℕ) (old new : S)
-    : Type 0 where
-  pub has_still : (content : Content) → has old content → has new content
+-- The files that a source went over it goes over still, and no call failed.
+pub record HasStill {S : Type 0} (goes_over : S → ChunkFile → Type 0) (failures : S → ℕ)
+    (old new : S) : Type 0 where
+  pub goes_still : GoesOverStill goes_over old new
   pub failures_are : failures new ≡ failures old
 
 -- So it is, and a walk went on in the tree that the source has.
-pub record GoesOn {S T : Type 0} (has : S → Content → Type 0) (failures : S → ℕ)
-    (is_place : Content → (level : ℕ) → Tree level → T → Type 0) (version : Version) (old new : S)
+pub record GoesOn {S T : Type 0} (goes_over : S → ChunkFile → Type 0) (failures : S → ℕ)
+    (stands_at : ChunkFile → T → ℕ → ℕ → Type 0) (version : Version) (old new : S)
     (before after : Side T) : Type 0 where
-  pub still : HasStill has failures old new
-  pub lawful : (content : Content) → has old content → version ≡ content.version →
-      IsSideOf is_place content before → IsSideOf is_place content after
+  pub still : HasStill goes_over failures old new
+  pub lawful : (content : Content) → HasTree goes_over old content → version ≡ content.version →
+      IsSideOf stands_at content before → IsSideOf stands_at content after
 
 -- The fault is that of the source: a failed read is told where one more call failed, and only there;
 -- and what it has is not refused.
-pub record FailsAt {S T : Type 0} (has : S → Content → Type 0) (failures : S → ℕ)
-    (is_place : Content → (level : ℕ) → Tree level → T → Type 0) (version : Version) (old new : S)
+pub record FailsAt {S T : Type 0} (goes_over : S → ChunkFile → Type 0) (failures : S → ℕ)
+    (stands_at : ChunkFile → T → ℕ → ℕ → Type 0) (version : Version) (old new : S)
     (before : Side T) (fault : RootFault) : Type 0 where
-  pub has_still : (content : Content) → has old content → has new content
+  pub goes_still : GoesOverStill goes_over old new
   pub told : TellsFailure (failures old) (failures new) fault
-  pub lawful : (content : Content) → has old content → version ≡ content.version →
-      IsSideOf is_place content before → MayFail fault
+  pub lawful : (content : Content) → HasTree goes_over old content → version ≡ content.version →
+      IsSideOf stands_at content before → MayFail fault
 
 -- What a call tells of the source of the old tree, and of that of the new one.
-abbrev pub TellsOld : {S T C : Type 0} → (S → Content → Type 0) → (S → ℕ) →
-    (Content → (level : ℕ) → Tree level → T → Type 0) → Version → S → S → Side T → Side T →
+abbrev pub TellsOld : {S T C : Type 0} → (S → ChunkFile → Type 0) → (S → ℕ) →
+    (ChunkFile → T → ℕ → ℕ → Type 0) → Version → S → S → Side T → Side T →
     Result C RootDiffFault → Type 0
-TellsOld has failures is_place version old new before after (Ok given) =
-    GoesOn has failures is_place version old new before after
-TellsOld has failures is_place version old new before after (Err (faults.Old fault)) =
-    FailsAt has failures is_place version old new before fault
-TellsOld has failures is_place version old new before after (Err fault) =
-    HasStill has failures old new
+TellsOld goes_over failures stands_at version old new before after (Ok given) =
+    GoesOn goes_over failures stands_at version old new before after
+TellsOld goes_over failures stands_at version old new before after (Err (faults.Old fault)) =
+    FailsAt goes_over failures stands_at version old new before fault
+TellsOld goes_over failures stands_at version old new before after (Err fault) =
+    HasStill goes_over failures old new
 
-abbrev pub TellsNew : {S T C : Type 0} → (S → Content → Type 0) → (S → ℕ) →
-    (Content → (level : ℕ) → Tree level → T → Type 0) → Version → S → S → Side T → Side T →
+abbrev pub TellsNew : {S T C : Type 0} → (S → ChunkFile → Type 0) → (S → ℕ) →
+    (ChunkFile → T → ℕ → ℕ → Type 0) → Version → S → S → Side T → Side T →
     Result C RootDiffFault → Type 0
-TellsNew has failures is_place version old new before after (Ok given) =
-    GoesOn has failures is_place version old new before after
-TellsNew has failures is_place version old new before after (Err (faults.New fault)) =
-    FailsAt has failures is_place version old new before fault
-TellsNew has failures is_place version old new before after (Err fault) =
-    HasStill has failures old new
+TellsNew goes_over failures stands_at version old new before after (Ok given) =
+    GoesOn goes_over failures stands_at version old new before after
+TellsNew goes_over failures stands_at version old new before after (Err (faults.New fault)) =
+    FailsAt goes_over failures stands_at version old new before fault
+TellsNew goes_over failures stands_at version old new before after (Err fault) =
+    HasStill goes_over failures old new
 
 -- ---- a walk
 

@@ -127,9 +127,9 @@ impl<T: Copy + Drop, U: Copy + Drop> RootDifferences<T, U> {
             AreNoted self.old.version from (lefts_of self.new) self.new.notes) }
 
         // The one tree, where its source has it, is not refused, and a failed read is told.
-        ensures old { TellsOld S.has S.failures S.is_place self.old.version old.old old.new
+        ensures old { TellsOld S.goes_over S.failures S.stands self.old.version old.old old.new
             self.old.before self.new.before result }
-        ensures new { TellsNew R.has R.failures R.is_place self.old.version new.old new.new
+        ensures new { TellsNew R.goes_over R.failures R.stands self.old.version new.old new.new
             self.old.after self.new.after result }
     {
         if self.stopped {
@@ -202,9 +202,11 @@ fn next_change<
         (record { before = left_of before.old; after = left_of after.old }) notes.old →
         AreNoted version from
         (record { before = left_of before.new; after = left_of after.new }) notes.new) }
-    ensures old { TellsOld S.has S.failures S.is_place version old.old old.new before.old before.new
+    ensures old { TellsOld S.goes_over S.failures S.stands version old.old old.new
+        before.old before.new
         result }
-    ensures new { TellsNew R.has R.failures R.is_place version new.old new.new after.old after.new
+    ensures new { TellsNew R.goes_over R.failures R.stands version new.old new.new
+        after.old after.new
         result }
 {
     // By these laws what is left of a tree stays the same where a chunk of it is read.

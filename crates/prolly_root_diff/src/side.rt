@@ -3,7 +3,7 @@ ghost use Rattle.std.specs.Prelude.{◌≡◌, ◌<◌, [], ◌∷◌, length, L
 ghost use Rattle.std.specs.Prelude.{IfErr, MatchOption};
 ghost use Rattle.prolly_look_up.specs.Content.{Content};
 ghost use Rattle.prolly_entry.specs.Pair.{Pair as PairValue};
-ghost use Rattle.prolly_root.specs.ChunkSource.{HasAsked};
+ghost use Rattle.prolly_root.specs.ChunkSource.{HasAsked, HasTree};
 ghost use Rattle.prolly_root.specs.RootFault.{IsOrFails, MayFail};
 ghost use Rattle.prolly_root_diff.specs.Left.{Due};
 ghost use Rattle.prolly_root_diff.specs.Notes.{Reads};
@@ -78,10 +78,10 @@ impl<T: Copy + Drop> Side<T> {
     ) -> Result<Note, RootFault>
         requires { IsDue (left_of self.old) }
         ensures opens { IfOk result (Reads version (left_of self.old) (left_of self.new)) }
-        ensures lawful { (content : Content) → S.has source.old content →
-            version ≡ content.version → IsSideOf S.is_place content self.old →
-            IsOrFails (λ _. IsSideOf S.is_place content self.new) MayFail result }
-        ensures asked { HasAsked S.has S.failures source.old source.new result }
+        ensures lawful { (content : Content) → HasTree S.goes_over source.old content →
+            version ≡ content.version → IsSideOf S.stands content self.old →
+            IsOrFails (λ _. IsSideOf S.stands content self.new) MayFail result }
+        ensures asked { HasAsked S.goes_over S.failures source.old source.new result }
     {
         let (reference, chunk) = read_first(&mut self.due, alloc, source, version)?;
         let note = Note {

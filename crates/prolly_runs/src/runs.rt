@@ -3,6 +3,7 @@
 ghost use Rattle.std.specs.Prelude.{vec_len};
 ghost use Rattle.prolly_runs.specs.Runs.{AnswersApply, AnswersBuild, IsToldBehind};
 ghost use Rattle.prolly_runs.specs.Runs.{unapplied, unbuilt};
+ghost use Rattle.prolly_root.specs.ChunkSource.{HasTree};
 
 use crate::applied::answer_apply;
 use crate::built::answer_build;
@@ -78,8 +79,9 @@ pub fn answer_apply_into<
 ) -> Result<Answer, AllocError>
 where
     D::Place: Send,
-    ensures { AnswersApply S.seen W.seen D.has D.failures config.now held_back root.now.0 old
-        (vec_len sources.old) sources.old.items sources.new.items sink.old sink.new result }
+    ensures { AnswersApply S.seen W.seen (HasTree D.goes_over) D.failures config.now held_back
+        root.now.0 old (vec_len sources.old) sources.old.items sources.new.items sink.old sink.new
+        result }
 {
     let applied = apply_changes(rt, alloc, config, root, old, sources, sink, gate);
     let told = applied_told(sink, applied.answer, held_back);

@@ -14,6 +14,7 @@ use prolly_check::{ChunkHasher, OneThread, check_by};
 use prolly_entry::{Ref, Version};
 use prolly_fault::{Answer, Fault, INPUT_LIMIT};
 use prolly_io::Source;
+use prolly_root::laws::lawful_files_are_read;
 use prolly_root::{ChunkSource, Reader, RootFault};
 use prolly_text::Notation;
 use std::alloc::{AllocError, Global};
@@ -69,7 +70,7 @@ pub fn answer_get_by_root<S: ChunkSource>(
     notation: Notation,
 ) -> Result<Answer, AllocError>
     ensures { IfOk result (IsLookUpByRoot (IsWay version root.now.0 key.now) (ShowsValue notation)
-        (MayRefuse (S.has source.old) (S.goes_over source.old) version root.now.0 (Key key.now))
+        (MayRefuse (S.goes_over source.old) version root.now.0 (Key key.now))
         (TellsReads (S.failures source.old) (S.failures source.new))) }
 {
     let found = value_in(alloc, source, version, root, key);
@@ -87,9 +88,11 @@ pub(crate) fn value_in<S: ChunkSource>(
     ensures found { IfOk result (λ value. IsFoundByRoot (IsWay version root.now.0 key.now)
         (option_map (λ v. v.items) value)) }
     ensures refuses { IfErr result
-        (MayRefuse (S.has source.old) (S.goes_over source.old) version root.now.0 (Key key.now)) }
+        (MayRefuse (S.goes_over source.old) version root.now.0 (Key key.now)) }
     ensures reads { TellsReads (S.failures source.old) (S.failures source.new) result }
 {
+    // By this law a lawful file has no fault.
+    lawful_files_are_read();
     let mut reader = Reader::open(alloc, source, version, root)?;
     reader.get(alloc, source, key)
 }

@@ -45,7 +45,7 @@ pub fn answer_get_raw_by_root<S: ChunkSource>(
     key: &[u8],
 ) -> Result<Answer, AllocError>
     ensures { IfOk result (IsLookUpByRoot (IsWay version root.now.0 key.now) ShowsRaw
-        (MayRefuse (S.has source.old) (S.goes_over source.old) version root.now.0 (Key key.now))
+        (MayRefuse (S.goes_over source.old) version root.now.0 (Key key.now))
         (TellsReads (S.failures source.old) (S.failures source.new))) }
 {
     let found = value_in(alloc, source, version, root, key);

@@ -18,6 +18,7 @@ use prolly_check::{ChunkHasher, NoCounts, OneThread, check_by};
 use prolly_entry::{Pair, Ref, Version};
 use prolly_fault::{Answer, Fault, INPUT_LIMIT};
 use prolly_io::Source;
+use prolly_root::laws::lawful_files_are_read;
 use prolly_root::{ChunkSource, Reader, RootFault};
 use prolly_text::Notation;
 use std::alloc::{AllocError, Global};
@@ -95,7 +96,7 @@ pub fn answer_nth_by_root<S: ChunkSource>(
     notation: Notation,
 ) -> Result<Answer, AllocError>
     ensures shown { IfOk result (IsNthByRoot version root.now.0 n notation
-        (MayRefuse (S.has source.old) (S.goes_over source.old) version root.now.0 (Number n))
+        (MayRefuse (S.goes_over source.old) version root.now.0 (Number n))
         (TellsReads (S.failures source.old) (S.failures source.new))) }
     ensures unread { version ≡ One → source.new ≡ source.old }
 {
@@ -118,9 +119,11 @@ fn pair_in<S: ChunkSource>(
 ) -> Result<Option<Pair>, RootFault>
     ensures found { IfOk result (IsFoundByRoot (IsCountWay root.now.0 n)) }
     ensures refuses { IfErr result
-        (MayRefuse (S.has source.old) (S.goes_over source.old) Two root.now.0 (Number n)) }
+        (MayRefuse (S.goes_over source.old) Two root.now.0 (Number n)) }
     ensures reads { TellsReads (S.failures source.old) (S.failures source.new) result }
 {
+    // By this law a lawful file has no fault.
+    lawful_files_are_read();
     let mut reader = Reader::open(alloc, source, Version::Two, root)?;
     reader.nth(alloc, source, n)
 }

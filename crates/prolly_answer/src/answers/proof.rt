@@ -18,6 +18,7 @@ use prolly_entry::{Ref, Version};
 use prolly_fault::{Answer, Fault, INPUT_LIMIT};
 use prolly_io::{Sink, Source, WriteFault, write_whole};
 use prolly_range::prove_checked_key;
+use prolly_root::laws::lawful_files_are_read;
 use prolly_root::{ChunkSource, Reader, RootFault, verify};
 use prolly_text::Notation;
 use std::alloc::{AllocError, Global};
@@ -79,14 +80,14 @@ pub fn answer_prove_by_root<S: ChunkSource, W: Sink>(
     sink: &mut W,
 ) -> Result<Answer, AllocError>
     ensures ok { IfOk result (IsProveByRoot
-        (MayRefuse (S.has source.old) (S.goes_over source.old) version root.now.0 (Key key.now))
+        (MayRefuse (S.goes_over source.old) version root.now.0 (Key key.now))
         (TellsReads (S.failures source.old) (S.failures source.new)) version root.now.0 key.now
         (λ proof. TookAll W.seen proof sink.old sink.new)
         (λ proof. TookPart W.seen proof sink.old sink.new)
         (sink.new ≡ sink.old)) }
     ensures err { OnErr result (ProofByRoot version root.now.0 key.now
         (λ proof. TookPart W.seen proof sink.old sink.new) ⊎ ((fault : RootFaultValue) × IsUnproved
-        (MayRefuse (S.has source.old) (S.goes_over source.old) version root.now.0 (Key key.now))
+        (MayRefuse (S.goes_over source.old) version root.now.0 (Key key.now))
         (TellsReads (S.failures source.old) (S.failures source.new))
         (sink.new ≡ sink.old) fault)) }
 {
@@ -110,9 +111,11 @@ fn proof_in<S: ChunkSource>(
 ) -> Result<Vec<u8>, RootFault>
     ensures proves { IfOk result (λ proof. IsSomeProof version root.now.0 key.now proof.items) }
     ensures refuses { IfErr result
-        (MayRefuse (S.has source.old) (S.goes_over source.old) version root.now.0 (Key key.now)) }
+        (MayRefuse (S.goes_over source.old) version root.now.0 (Key key.now)) }
     ensures reads { TellsReads (S.failures source.old) (S.failures source.new) result }
 {
+    // By this law a lawful file has no fault.
+    lawful_files_are_read();
     let mut reader = Reader::open(alloc, source, version, root)?;
     reader.prove(alloc, source, key)
 }

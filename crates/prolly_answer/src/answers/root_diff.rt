@@ -60,8 +60,8 @@ pub fn answer_diff_by_root<S: ChunkSource, R: ChunkSource, W: Sink>(
     sink: &mut W,
 ) -> Result<Answer, AllocError>
     ensures ok { IfOk result (IsRootDiff
-        (RefusesNone (S.has old.old) diff.now.version diff.now.old.now.0)
-        (RefusesNone (R.has new.old) diff.now.version diff.now.new.now.0)
+        (RefusesNone (S.goes_over old.old) diff.now.version diff.now.old.now.0)
+        (RefusesNone (R.goes_over new.old) diff.now.version diff.now.new.now.0)
         diff.now.version diff.now.old.now.0 diff.now.new.now.0 diff.now.stat
         (AreWritten diff.now.form (λ bytes. TookAll W.seen bytes sink.old sink.new)
         (sink.new ≡ sink.old))
@@ -70,8 +70,8 @@ pub fn answer_diff_by_root<S: ChunkSource, R: ChunkSource, W: Sink>(
         (λ told. TellsDiffReads RootOld (S.failures old.old) (S.failures old.new) told ×
         TellsDiffReads RootNew (R.failures new.old) (R.failures new.new) told)) }
     ensures err { OnErr result ((fault : FaultValue) × IsStoppedDiff
-        (RefusesNone (S.has old.old) diff.now.version diff.now.old.now.0)
-        (RefusesNone (R.has new.old) diff.now.version diff.now.new.now.0)
+        (RefusesNone (S.goes_over old.old) diff.now.version diff.now.old.now.0)
+        (RefusesNone (R.goes_over new.old) diff.now.version diff.now.new.now.0)
         diff.now.version diff.now.old.now.0 diff.now.new.now.0
         (AreWritten diff.now.form (λ bytes. TookAll W.seen bytes sink.old sink.new)
         (sink.new ≡ sink.old))
@@ -107,8 +107,8 @@ fn write_diff<S: ChunkSource, R: ChunkSource, W: Sink>(
     sink: &mut W,
 ) -> Result<Told, Fault>
     ensures ended { IsEndedDiff
-        (RefusesNone (S.has old.old) diff.now.version diff.now.old.now.0)
-        (RefusesNone (R.has new.old) diff.now.version diff.now.new.now.0)
+        (RefusesNone (S.goes_over old.old) diff.now.version diff.now.old.now.0)
+        (RefusesNone (R.goes_over new.old) diff.now.version diff.now.new.now.0)
         diff.now.version diff.now.old.now.0 diff.now.new.now.0 diff.now.stat
         (AreWritten diff.now.form (λ bytes. TookAll W.seen bytes sink.old sink.new)
         (sink.new ≡ sink.old))
@@ -133,8 +133,8 @@ fn write_changes<S: ChunkSource, R: ChunkSource, W: Sink>(
     sink: &mut W,
 ) -> Result<Told, Fault>
     ensures ended { IsEndedDiff
-        (RefusesNone (S.has old.old) diff.now.version diff.now.old.now.0)
-        (RefusesNone (R.has new.old) diff.now.version diff.now.new.now.0)
+        (RefusesNone (S.goes_over old.old) diff.now.version diff.now.old.now.0)
+        (RefusesNone (R.goes_over new.old) diff.now.version diff.now.new.now.0)
         diff.now.version diff.now.old.now.0 diff.now.new.now.0 diff.now.stat
         (AreWritten diff.now.form (λ bytes. TookSoFar W.seen bytes sink.old sink.new)
         (sink.new ≡ sink.old))

@@ -5,7 +5,7 @@ ghost use Rattle.prolly_text.specs.RecordForms.{written_records};
 ghost use Rattle.prolly_tree.specs.Difference.{puts};
 ghost use Rattle.prolly_answer.specs.Outputs.{TookBytes, TookUntil};
 ghost use Rattle.prolly_answer.specs.RootDumps.{IsDumpedByRoot};
-ghost use Rattle.prolly_answer.specs.RootFaults.{MayRefuse, MayRefuseOf};
+ghost use Rattle.prolly_answer.specs.RootFaults.{MayRefuse, TellsFirstOf};
 ghost use Rattle.prolly_answer.specs.RootOutcomes.{AnswersOutcome, TakesAllFor, TakesFor, TellsReadsOf};
 ghost use Rattle.prolly_fault.specs.declared.root_output_fault.RootOutputFault.{RootOutputFault as StopValue};
 
@@ -16,6 +16,7 @@ use prolly_entry::{Ref, Version};
 use prolly_fault::{Answer, Fault, OutputFault, RootOutputFault};
 use prolly_io::{Sink, write_all};
 use prolly_look_up::{ManyThreads, Pairs};
+use prolly_root::laws::lawful_files_are_read;
 use prolly_root::{ReadAhead, Reader};
 use prolly_text::RecordForm;
 use std::alloc::{AllocError, Global};
@@ -41,12 +42,12 @@ pub fn answer_dump_by_root<R: Threads + Sync, S: ReadAhead, W: Sink>(
     sink: &mut W,
 ) -> Result<Answer, AllocError>
     ensures ok { IfOk result (AnswersOutcome (λ outcome. IsDumpedByRoot
-        (λ key. MayRefuse (S.has source.old) (S.goes_over source.old) version root.now.0 (Key key))
+        (λ key. MayRefuse (S.goes_over source.old) version root.now.0 (Key key))
         version root.now.0 form
         (TakesAllFor W.seen sink.old sink.new) outcome ×
         TellsReadsOf (S.failures source.old) (S.failures source.new) outcome)) }
     ensures err { OnErr result ((stop : StopValue) × IsDumpedByRoot
-        (λ key. MayRefuse (S.has source.old) (S.goes_over source.old) version root.now.0 (Key key))
+        (λ key. MayRefuse (S.goes_over source.old) version root.now.0 (Key key))
         version root.now.0 form
         (TakesAllFor W.seen sink.old sink.new) (Err stop) ×
         TellsReadsOf (S.failures source.old) (S.failures source.new) (Err stop)) }
@@ -68,10 +69,12 @@ fn write_dump<R: Threads + Sync, S: ReadAhead, W: Sink>(
     sink: &mut W,
 ) -> Result<(), RootOutputFault>
     ensures dumped { IsDumpedByRoot
-        (λ key. MayRefuse (S.has source.old) (S.goes_over source.old) version root.now.0 (Key key))
+        (λ key. MayRefuse (S.goes_over source.old) version root.now.0 (Key key))
         version root.now.0 form (TakesAllFor W.seen sink.old sink.new) result }
     ensures reads { TellsReadsOf (S.failures source.old) (S.failures source.new) result }
 {
+    // By this law a lawful file has no fault.
+    lawful_files_are_read();
     let reader = Reader::open(alloc, source, version, root)?;
     let outcome = write_leaves(hasher, alloc, source, reader, form, sink);
     settled(sink, outcome)
@@ -86,9 +89,8 @@ fn write_leaves<R: Threads + Sync, S: ReadAhead, W: Sink>(
     form: RecordForm,
     sink: &mut W,
 ) -> Result<(), RootOutputFault>
-    ensures dumped { IsDumpedByRoot (λ key. MayRefuseOf S.is_place (S.has source.old) S.stands
-        (S.goes_over source.old) reader (Key key))
-        reader.version reader.root form (TakesFor W.seen sink.old sink.new) result }
+    ensures dumped { IsDumpedByRoot (λ key. TellsFirstOf S.stands (S.goes_over source.old) reader
+        (Key key)) reader.version reader.root form (TakesFor W.seen sink.old sink.new) result }
     ensures keeping { (W.seen sink.old).is_keeping ≡ true → (W.seen sink.new).is_keeping ≡ true }
     ensures reads { TellsReadsOf (S.failures source.old) (S.failures source.new) result }
 {

@@ -1,7 +1,7 @@
 //! The command `get` of many keys, of a file of which only the root is believed.
 ghost use Rattle.std.specs.Prelude.{◌≡◌, true, map, Err, IfOk, OnErr};
 ghost use Rattle.prolly_answer.specs.KeyLookUps.{AreFoundByRoot};
-ghost use Rattle.prolly_answer.specs.RootFaults.{MayRefuseFirst, MayRefuseFirstOf};
+ghost use Rattle.prolly_answer.specs.RootFaults.{MayRefuseFirst, TellsFirstKeyOf};
 ghost use Rattle.prolly_answer.specs.RootOutcomes.{AnswersOutcome, TakesAllFor, TakesFor, TellsReadsOf};
 ghost use Rattle.prolly_fault.specs.declared.root_output_fault.RootOutputFault.{RootOutputFault as StopValue};
 
@@ -10,6 +10,7 @@ use crate::answers::get_keys::write_found;
 use prolly_entry::{Ref, Version};
 use prolly_fault::{Answer, Fault, RootOutputFault};
 use prolly_io::Sink;
+use prolly_root::laws::lawful_files_are_read;
 use prolly_root::{ChunkSource, Reader};
 use prolly_text::Notation;
 use std::alloc::{AllocError, Global};
@@ -34,12 +35,12 @@ pub fn answer_get_keys_by_root<S: ChunkSource, W: Sink>(
     sink: &mut W,
 ) -> Result<Answer, AllocError>
     ensures ok { IfOk result (AnswersOutcome (λ outcome. AreFoundByRoot
-        (MayRefuseFirst (S.has source.old) (S.goes_over source.old) version root.now.0) version
+        (MayRefuseFirst (S.goes_over source.old) version root.now.0) version
         root.now.0 notation
         (map (λ k. k.items) keys.now) (TakesAllFor W.seen sink.old sink.new) outcome ×
         TellsReadsOf (S.failures source.old) (S.failures source.new) outcome)) }
     ensures err { OnErr result ((stop : StopValue) × AreFoundByRoot
-        (MayRefuseFirst (S.has source.old) (S.goes_over source.old) version root.now.0) version
+        (MayRefuseFirst (S.goes_over source.old) version root.now.0) version
         root.now.0 notation
         (map (λ k. k.items) keys.now) (TakesAllFor W.seen sink.old sink.new) (Err stop) ×
         TellsReadsOf (S.failures source.old) (S.failures source.new) (Err stop)) }
@@ -61,11 +62,13 @@ fn write_keys<S: ChunkSource, W: Sink>(
     sink: &mut W,
 ) -> Result<(), RootOutputFault>
     ensures found { AreFoundByRoot
-        (MayRefuseFirst (S.has source.old) (S.goes_over source.old) version root.now.0) version
+        (MayRefuseFirst (S.goes_over source.old) version root.now.0) version
         root.now.0 notation (map (λ k. k.items) keys.now) (TakesAllFor W.seen sink.old sink.new)
         result }
     ensures reads { TellsReadsOf (S.failures source.old) (S.failures source.new) result }
 {
+    // By this law a lawful file has no fault.
+    lawful_files_are_read();
     let reader = Reader::open(alloc, source, version, root)?;
     let outcome = write_each(alloc, source, reader, keys, notation, sink);
     settled(sink, outcome)
@@ -80,8 +83,7 @@ fn write_each<S: ChunkSource, W: Sink>(
     notation: Notation,
     sink: &mut W,
 ) -> Result<(), RootOutputFault>
-    ensures found { AreFoundByRoot (MayRefuseFirstOf S.is_place (S.has source.old) S.stands
-        (S.goes_over source.old) reader)
+    ensures found { AreFoundByRoot (TellsFirstKeyOf S.stands (S.goes_over source.old) reader)
         reader.version reader.root notation (map (λ k. k.items) keys.now)
         (TakesFor W.seen sink.old sink.new) result }
     ensures keeping { (W.seen sink.old).is_keeping ≡ true → (W.seen sink.new).is_keeping ≡ true }

@@ -6,7 +6,7 @@ ghost use Rattle.prolly_look_up.specs.Sought.Sought.{Key};
 ghost use Rattle.prolly_entry.specs.Byte.{IsByte};
 ghost use Rattle.prolly_answer.specs.LookUps.{pair_lines};
 ghost use Rattle.prolly_answer.specs.Outputs.{TookBytes, TookUntil};
-ghost use Rattle.prolly_answer.specs.RootFaults.{MayRefuse, MayRefuseOf};
+ghost use Rattle.prolly_answer.specs.RootFaults.{MayRefuse, TellsFirstOf};
 ghost use Rattle.prolly_answer.specs.RootOutcomes.{AnswersOutcome, TakesAllFor, TakesFor, TellsReadsOf};
 ghost use Rattle.prolly_answer.specs.RootScans.{IsScannedByRoot};
 ghost use Rattle.prolly_fault.specs.declared.root_output_fault.RootOutputFault.{RootOutputFault as StopValue};
@@ -17,6 +17,7 @@ use prolly_entry::{Ref, Version};
 use prolly_fault::{Answer, Fault, OutputFault, RootOutputFault};
 use prolly_io::{Sink, write_all};
 use prolly_look_up::{ManyThreads, Pairs};
+use prolly_root::laws::lawful_files_are_read;
 use prolly_root::{ReadAhead, Reader};
 use prolly_text::Notation;
 use std::alloc::{AllocError, Global};
@@ -57,13 +58,13 @@ pub fn answer_scan_by_root<R: Threads + Sync, S: ReadAhead, W: Sink>(
     sink: &mut W,
 ) -> Result<Answer, AllocError>
     ensures ok { IfOk result (AnswersOutcome (λ outcome. IsScannedByRoot
-        (λ key. MayRefuse (S.has source.old) (S.goes_over source.old) scan.now.version
-        scan.now.root.now.0 (Key key)) scan.now.version scan.now.root.now.0 scan.now.from.now scan.now.limit scan.now.notation
+        (λ key. MayRefuse (S.goes_over source.old) scan.now.version scan.now.root.now.0 (Key key))
+        scan.now.version scan.now.root.now.0 scan.now.from.now scan.now.limit scan.now.notation
         (TakesAllFor W.seen sink.old sink.new) outcome ×
         TellsReadsOf (S.failures source.old) (S.failures source.new) outcome)) }
     ensures err { OnErr result ((stop : StopValue) × IsScannedByRoot
-        (λ key. MayRefuse (S.has source.old) (S.goes_over source.old) scan.now.version
-        scan.now.root.now.0 (Key key)) scan.now.version scan.now.root.now.0 scan.now.from.now scan.now.limit scan.now.notation
+        (λ key. MayRefuse (S.goes_over source.old) scan.now.version scan.now.root.now.0 (Key key))
+        scan.now.version scan.now.root.now.0 scan.now.from.now scan.now.limit scan.now.notation
         (TakesAllFor W.seen sink.old sink.new) (Err stop) ×
         TellsReadsOf (S.failures source.old) (S.failures source.new) (Err stop)) }
 {
@@ -82,14 +83,16 @@ fn write_scan<R: Threads + Sync, S: ReadAhead, W: Sink>(
     sink: &mut W,
 ) -> Result<(), RootOutputFault>
     ensures scanned { IsScannedByRoot
-        (λ key. MayRefuse (S.has source.old) (S.goes_over source.old) scan.now.version
-        scan.now.root.now.0 (Key key)) scan.now.version scan.now.root.now.0 scan.now.from.now scan.now.limit scan.now.notation
+        (λ key. MayRefuse (S.goes_over source.old) scan.now.version scan.now.root.now.0 (Key key))
+        scan.now.version scan.now.root.now.0 scan.now.from.now scan.now.limit scan.now.notation
         (TakesAllFor W.seen sink.old sink.new) result }
     ensures reads { TellsReadsOf (S.failures source.old) (S.failures source.new) result }
 {
     if scan.limit == 0 {
         return Ok(());
     }
+    // By this law a lawful file has no fault.
+    lawful_files_are_read();
     let reader = Reader::open(alloc, source, scan.version, scan.root)?;
     let outcome = write_leaves(hasher, alloc, source, reader, scan, sink);
     settled(sink, outcome)
@@ -105,9 +108,8 @@ fn write_leaves<R: Threads + Sync, S: ReadAhead, W: Sink>(
     sink: &mut W,
 ) -> Result<(), RootOutputFault>
     requires { 0 < scan.now.limit }
-    ensures scanned { IsScannedByRoot (λ key. MayRefuseOf S.is_place (S.has source.old) S.stands
-        (S.goes_over source.old) reader (Key key))
-        reader.version reader.root scan.now.from.now scan.now.limit scan.now.notation
+    ensures scanned { IsScannedByRoot (λ key. TellsFirstOf S.stands (S.goes_over source.old) reader
+        (Key key)) reader.version reader.root scan.now.from.now scan.now.limit scan.now.notation
         (TakesFor W.seen sink.old sink.new) result }
     ensures keeping { (W.seen sink.old).is_keeping ≡ true → (W.seen sink.new).is_keeping ≡ true }
     ensures reads { TellsReadsOf (S.failures source.old) (S.failures source.new) result }

@@ -68,7 +68,7 @@ pub fn answer_prove_set_by_root<S: ChunkSource, W: Sink>(
     sink: &mut W,
 ) -> Result<Answer, AllocError>
     ensures ok { IfOk result (IsProveSetByRoot
-        (RefusesNoProof (S.has source.old) version root.now.0) version root.now.0
+        (RefusesNoProof (S.goes_over source.old) version root.now.0) version root.now.0
         (set_of set.entry) (record {
           reads_before = S.failures source.old;
           reads_after = S.failures source.new;
@@ -76,7 +76,7 @@ pub fn answer_prove_set_by_root<S: ChunkSource, W: Sink>(
           sink_after = W.seen sink.new;
         })) }
     ensures err { OnErr result ((fault : ProveFaultValue) × IsStoppedByRoot
-        (RefusesNoProof (S.has source.old) version root.now.0) version root.now.0
+        (RefusesNoProof (S.goes_over source.old) version root.now.0) version root.now.0
         (set_of set.entry) (record {
           reads_before = S.failures source.old;
           reads_after = S.failures source.new;

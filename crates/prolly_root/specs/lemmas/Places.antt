@@ -7,8 +7,9 @@ use Rattle.prolly_entry.specs.Cut.{sha512_cut}
 use Rattle.prolly_entry.specs.declared.version.Version.{Version}
 use Rattle.prolly_tree.specs.File.{root_reference}
 use Rattle.prolly_tree.specs.Tree.{Tree, bytes_of}
-use Rattle.prolly_root.specs.ChunkSource.{IsLawful, root_level, root_tree}
+use Rattle.prolly_root.specs.ChunkFile.{ChunkFile, IsLawful}
 use Rattle.prolly_root.specs.Descent.{StandsAt}
+use Rattle.prolly_root.specs.FileTrees.{IsTreePlace, root_level, root_tree}
 
 -- The first byte of a tree's top is the tree's level.
 pub level_is : (version : Version) (level : ℕ) (t : Tree level) →
@@ -17,12 +18,12 @@ level_is version zero t = refl
 level_is version (suc level) t = refl
 
 -- In the place of the root stands the chunk of the root's reference.
-pub root_stands : {T : Type 0} (is_place : Content → (level : ℕ) → Tree level → T → Type 0)
+pub root_stands : {T : Type 0} (stands_at : ChunkFile → T → ℕ → ℕ → Type 0)
     (content : Content) (root : List ℕ) (place : T) → RootIsTree → IsLawful content →
     root ≡ root_reference (sha512_cut content.bits) content.version content.pairs →
-    is_place content (root_level content) (root_tree content) place →
-    StandsAt is_place content root place
-root_stands is_place content root place trees lawful named stands = record {
+    IsTreePlace stands_at content (root_level content) (root_tree content) place →
+    StandsAt stands_at content root place
+root_stands stands_at content root place trees lawful named stands = record {
   level = root_level content;
   t = root_tree content;
   below = trees content.version content.bits content.pairs lawful.lawful lawful.rising;

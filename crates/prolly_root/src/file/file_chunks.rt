@@ -3,6 +3,7 @@ ghost use Rattle.std.specs.Prelude.{◌≡◌, ℕ, drop, take, true, IfOk, IfSo
 ghost use Rattle.std.specs.List.{AllByRecursion};
 ghost use Rattle.prolly_look_up.specs.Content.{Content};
 ghost use Rattle.prolly_root.specs.ChunkFile.{ChunkFile, HoldsChunks, nth_in};
+ghost use Rattle.prolly_root.specs.ChunkSource.{HasTree};
 ghost use Rattle.prolly_root.specs.ReadAhead.{IsPartOf};
 ghost use Rattle.prolly_root.specs.RootFault.{IsOrFails, MayFail};
 ghost use Rattle.prolly_root.specs.Walk.{HasRead, HoldsFile, IsFrame, IsWalk};
@@ -58,7 +59,7 @@ impl<D: Device> FileChunks<D> {
         ensures failures { ⟦<FileChunks<D> as ChunkSource>⟧.failures result ≡
             (D.seen device).failures }
         ensures has { (content : Content) → HoldsFile (D.seen device) content →
-            ⟦<FileChunks<D> as ChunkSource>⟧.has result content }
+            HasTree ⟦<FileChunks<D> as ChunkSource>⟧.goes_over result content }
         ensures goes { (file : ChunkFile) → HoldsChunks (D.seen device) file →
             ⟦<FileChunks<D> as ChunkSource>⟧.goes_over result file }
     {
@@ -75,7 +76,8 @@ impl<D: Device> FileChunks<D> {
     pub fn into_device(self) -> D
         ensures failures { (D.seen result).failures ≡
             ⟦<FileChunks<D> as ChunkSource>⟧.failures self }
-        ensures has { (content : Content) → ⟦<FileChunks<D> as ChunkSource>⟧.has self content →
+        ensures has { (content : Content) →
+            HasTree ⟦<FileChunks<D> as ChunkSource>⟧.goes_over self content →
             HoldsFile (D.seen result) content }
         ensures goes { (file : ChunkFile) → ⟦<FileChunks<D> as ChunkSource>⟧.goes_over self file →
             HoldsChunks (D.seen result) file }
@@ -122,10 +124,8 @@ impl<D: Device> ChunkSource for FileChunks<D> {
     ghost use Rattle.std.specs.List.{AllByRecursion};
     ghost use Rattle.std.proofs.Common.{sym, ◌∙◌};
     ghost use Rattle.std.specs.Prelude.{IfSome};
-    ghost use Rattle.prolly_root.specs.ChunkFile.{chunk_file};
     ghost use Rattle.prolly_root.specs.ReadAhead.{IsPartOf};
-    ghost use Rattle.prolly_root.specs.Subtree.{AreOnePlace, HasChunksOf, IsSubtree, StandsThere};
-    ghost use Rattle.prolly_root.specs.Walk.{HoldsFile};
+    ghost use Rattle.prolly_root.specs.Subtree.{AreOnePlace, HasChunksOf, StandsThere};
 
     type Place = Subtree;
 
@@ -134,22 +134,9 @@ impl<D: Device> ChunkSource for FileChunks<D> {
     ghost goes_over = { λ source file. HasChunksOf (D.seen source.device) source.marks file ×
         IfSome source.ahead (λ ahead. AllByRecursion (IsPartOf file.bytes) ahead.items) };
 
-    ghost has = { λ source content. HoldsFile (D.seen source.device) content ×
-        (HasChunksOf (D.seen source.device) source.marks (chunk_file content) ×
-        IfSome source.ahead
-        (λ ahead. AllByRecursion (IsPartOf (chunk_file content).bytes) ahead.items)) };
-
-    ghost is_place = { IsSubtree };
-
     ghost stands = { StandsThere };
 
     ghost are_one = { AreOnePlace };
-
-    ghost lawful = { λ source content has. record {
-      lawful = has.0.is.lawful;
-      rising = has.0.is.rising;
-      apart = has.0.is.apart;
-    } };
 
     ghost one = { λ file place other n from m below same here there.
         (sym here.number_is ∙ same.0 ∙ there.number_is, sym here.from_is ∙ same.1 ∙ there.from_is) };

@@ -1,24 +1,21 @@
 //! A chunk on the way of a look-up by the root.
 ghost use Rattle.std.specs.Prelude.{◌≡◌, ◌<◌, ◌↔◌, length, Ok, IfNone, IfOk, IfSome, IsTrue};
-ghost use Rattle.prolly_look_up.specs.Content.{Content};
 ghost use Rattle.prolly_look_up.specs.HeldPairs.{pairs_held};
 ghost use Rattle.prolly_look_up.specs.Kinds.{kind_of};
 ghost use Rattle.prolly_look_up.specs.PairsFrom.{IsLeft, pairs_from};
 ghost use Rattle.prolly_look_up.specs.Sought.{EndsAt, IsChildOf, IsMark, sought_of};
 ghost use Rattle.prolly_look_up.specs.Way.{FallsTo};
 ghost use Rattle.prolly_root.specs.ChunkFile.{ChunkFile};
-ghost use Rattle.prolly_root.specs.ChunkSource.{GoesOverStill, HasAsked};
-ghost use Rattle.prolly_root.specs.Descent.{IsAtDue, IsTested, IsOnward, StandsBelow};
-ghost use Rattle.prolly_root.specs.Descent.{StandsInPlace, StepsDown};
-ghost use Rattle.prolly_root.specs.Descent.{GoesOnAt, IsAt, IsDueAt, IsKeptOf};
+ghost use Rattle.prolly_root.specs.ChunkSource.{HasAsked};
+ghost use Rattle.prolly_root.specs.Descent.{GoesOnAt, IsAt, IsAtDue, IsDueAt, IsKeptOf, IsOnward};
+ghost use Rattle.prolly_root.specs.Descent.{IsTested};
 ghost use Rattle.prolly_root.specs.LookUpFault.{HasDue, MayStop, Standing};
-ghost use Rattle.prolly_root.specs.RootFault.{IsOrFails, MayFail};
+ghost use Rattle.prolly_root.specs.RootFault.{IsOrFails};
 
 use crate::chunk_source::ChunkSource;
 use crate::root_fault::RootFault;
 use crate::tested::tested_chunk;
 use prolly_entry::{Ref, Version};
-use prolly_look_up::laws::tops_are_read;
 use prolly_look_up::{ChildSought, Due, Mark, Pairs, Sought, falls_to, rest_from, step_of};
 use std::alloc::Global;
 
@@ -56,15 +53,10 @@ impl<T: Copy> ChunkOnWay<T> {
         place: T,
     ) -> Result<ChunkOnWay<T>, RootFault>
         ensures is { IfOk result (IsAtDue version due.now) }
-        ensures lawful { (content : Content) → S.has source.old content →
-            version ≡ content.version →
-            StandsBelow S.is_place content due.now.reference.0 due.now.above place →
-            IsOrFails (StandsInPlace S.is_place content) MayFail result }
         ensures tells { (file : ChunkFile) (at : Standing) → S.goes_over source.old file →
             IsDueAt S.stands file due.now place at →
             IsOrFails (IsAt S.stands file at) (MayStop version file at) result }
-        ensures goes { GoesOverStill S.goes_over source.old source.new }
-        ensures asked { HasAsked S.has S.failures source.old source.new result }
+        ensures asked { HasAsked S.goes_over S.failures source.old source.new result }
     {
         let reference = due.reference;
         let chunk = tested_chunk(alloc, source, version, &reference, due.above, &place)?;
@@ -132,19 +124,12 @@ impl<T: Copy> ChunkOnWay<T> {
         ensures stays { (self.new.reference ≡ self.old.reference) ×
             (self.new.chunk ≡ self.old.chunk) }
         ensures level { IsTested version self.new }
-        ensures lawful { (content : Content) → S.has source.old content →
-            version ≡ content.version → StandsInPlace S.is_place content self.old →
-            StandsInPlace S.is_place content self.new ×
-            IsOrFails (StepsDown S.is_place content) MayFail result }
         ensures tells { (file : ChunkFile) (at : Standing) → S.goes_over source.old file →
             IsAt S.stands file at self.old → HasDue version file at →
             at.sought ≡ sought_of sought.entry → IsAt S.stands file at self.new ×
             IsOrFails (GoesOnAt S.stands version file at) (MayStop version file at) result }
-        ensures goes { GoesOverStill S.goes_over source.old source.new }
-        ensures asked { HasAsked S.has S.failures source.old source.new result }
+        ensures asked { HasAsked S.goes_over S.failures source.old source.new result }
     {
-        // By this law the children of a chunk of a lawful tree are the trees below it.
-        tops_are_read();
         let Some(child) = self.child(version, sought) else {
             self.left = self.left_behind(version, sought);
             return Ok(Onward::End);
@@ -176,15 +161,10 @@ pub(crate) fn chunk_at<T: Copy + Drop, S: ChunkSource<Place = T>>(
     // What was kept of this place is not read again.
     ensures again { IfSome kept (λ chunk. IsAtDue version due.now chunk →
         S.are_one chunk.place place → (result ≡ Ok chunk) × (source.new ≡ source.old)) }
-    ensures lawful { (content : Content) → S.has source.old content → version ≡ content.version →
-        IfSome kept (StandsInPlace S.is_place content) →
-        StandsBelow S.is_place content due.now.reference.0 due.now.above place →
-        IsOrFails (StandsInPlace S.is_place content) MayFail result }
     ensures tells { (file : ChunkFile) (at : Standing) → S.goes_over source.old file →
         IfSome kept (IsKeptOf S.stands file) → IsDueAt S.stands file due.now place at →
         IsOrFails (IsAt S.stands file at) (MayStop version file at) result }
-    ensures goes { GoesOverStill S.goes_over source.old source.new }
-    ensures asked { HasAsked S.has S.failures source.old source.new result }
+    ensures asked { HasAsked S.goes_over S.failures source.old source.new result }
 {
     match kept {
         Some(chunk) if chunk.is_due(due) && S::is_same(&chunk.place, &place) => Ok(chunk),

@@ -1,14 +1,12 @@
 //! Going down by the root, from each chunk to the one that it refers to.
 ghost use Rattle.std.specs.Prelude.{◌≡◌, ◌-◌, [], ◌∷◌, ◌++◌, length, map, IfOk, OnOk};
 ghost use Rattle.std.specs.List.{AllByRecursion};
-ghost use Rattle.prolly_look_up.specs.Content.{Content};
 ghost use Rattle.prolly_look_up.specs.Sought.{sought_of};
 ghost use Rattle.prolly_root.specs.ChunkFile.{ChunkFile};
-ghost use Rattle.prolly_root.specs.ChunkSource.{GoesOverStill, HasAsked};
-ghost use Rattle.prolly_root.specs.Descent.{IsDescent, IsKeptOf, IsTested, StandsAt};
-ghost use Rattle.prolly_root.specs.Descent.{StandsInPlace, chunks_on_way};
+ghost use Rattle.prolly_root.specs.ChunkSource.{HasAsked};
+ghost use Rattle.prolly_root.specs.Descent.{IsDescent, IsKeptOf, IsTested, chunks_on_way};
 ghost use Rattle.prolly_root.specs.LookUpFault.{ComesToEnd, MayTell};
-ghost use Rattle.prolly_root.specs.RootFault.{IsOrFails, MayFail};
+ghost use Rattle.prolly_root.specs.RootFault.{IsOrFails};
 
 use crate::chunk_source::ChunkSource;
 use crate::look_up::chunk_on_way::{ChunkOnWay, Onward, chunk_at};
@@ -57,18 +55,13 @@ pub(crate) fn go_down<'a, T: Copy + Drop, S: ChunkSource<Place = T>>(
 ) -> Result<Descent<'a, T>, RootFault>
     requires { AllByRecursion (IsTested version) kept.items }
     ensures found { IfOk result (IsDescent version root.now.0 (sought_of sought.entry)) }
-    ensures lawful { (content : Content) → S.has source.old content → version ≡ content.version →
-        StandsAt S.is_place content root.now.0 top →
-        AllByRecursion (StandsInPlace S.is_place content) kept.items → IsOrFails (λ descent.
-        AllByRecursion (StandsInPlace S.is_place content) descent.levels.items) MayFail result }
     ensures tells { (file : ChunkFile) → S.goes_over source.old file →
         S.stands file top (length file.chunks - 1) 0 →
         AllByRecursion (IsKeptOf S.stands file) kept.items → IsOrFails (λ descent.
         AllByRecursion (IsKeptOf S.stands file) descent.levels.items ×
         ComesToEnd version file root.now.0 (sought_of sought.entry))
         (MayTell version file root.now.0 (sought_of sought.entry)) result }
-    ensures goes { GoesOverStill S.goes_over source.old source.new }
-    ensures asked { HasAsked S.has S.failures source.old source.new result }
+    ensures asked { HasAsked S.goes_over S.failures source.old source.new result }
 {
     let mut kept = kept.into_iter();
     let mut levels = Vec::new(alloc);

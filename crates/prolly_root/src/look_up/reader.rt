@@ -2,23 +2,19 @@
 ghost use Rattle.std.specs.Prelude.{◌≡◌, ◌<◌, ◌⊎◌, ℕ, [], ◌∷◌, ◌++◌, List, length, option_map, IfOk};
 ghost use Rattle.std.specs.Prelude.{Err, IfErr, None, Ok, OnErr, OnOk, Some};
 ghost use Rattle.std.specs.List.{AllByRecursion};
-ghost use Rattle.prolly_look_up.specs.Content.{Content};
 ghost use Rattle.prolly_look_up.specs.HeldPairs.{pairs_held};
 ghost use Rattle.prolly_look_up.specs.PairsFrom.{pairs_from};
 ghost use Rattle.prolly_look_up.specs.Sought.{sought_of};
 ghost use Rattle.prolly_look_up.specs.Sought.Sought.{Key, Number};
 ghost use Rattle.prolly_look_up.specs.Way.{IsCountWay, IsWay, IsWayTo};
-ghost use Rattle.prolly_entry.specs.Cut.{sha512_cut};
 ghost use Rattle.prolly_entry.specs.declared.version.Version.TheVariants.{Two};
 ghost use Rattle.prolly_io.specs.Frame.{IsSmall};
 ghost use Rattle.prolly_root.specs.ChunkFile.{ChunkFile, file_fault};
-ghost use Rattle.prolly_root.specs.ChunkSource.{GoesOverStill};
+ghost use Rattle.prolly_root.specs.ChunkSource.{HasAsked};
 ghost use Rattle.prolly_root.specs.Descent.{IsWayDown};
 ghost use Rattle.prolly_root.specs.ProofFile.{IsSomeProof, proof_file};
-ghost use Rattle.prolly_root.specs.RootFault.{IsOrFails, OnlyRead, TellsReads};
-ghost use Rattle.prolly_root.specs.Reader.{AreFirstFound, IsEmptied, IsReaderIn, IsReaderOf};
-ghost use Rattle.prolly_root.specs.Reader.{LooksUp, LooksUpIn, way_of};
-ghost use Rattle.prolly_tree.specs.File.{root_reference};
+ghost use Rattle.prolly_root.specs.RootFault.{IsOrFails, OnlyRead};
+ghost use Rattle.prolly_root.specs.Reader.{AreFirstFound, IsEmptied, IsReaderIn, LooksUp, way_of};
 
 use crate::chunk_source::ChunkSource;
 use crate::look_up::chunk_on_way::ChunkOnWay;
@@ -28,7 +24,6 @@ use crate::proof::proof_of;
 use crate::read_ahead::ReadAhead;
 use crate::root_fault::RootFault;
 use prolly_entry::{Pair, Ref, Version};
-use prolly_look_up::laws::tops_are_read;
 use prolly_look_up::{ManyThreads, Pairs, Sought, first_pairs, pair_sought};
 use std::alloc::{AllocError, Global};
 use std::marker::Model;
@@ -46,9 +41,10 @@ use std::thread::Threads;
 /// It keeps the chunks of the last look-up, from the root down, and how far the frames below each
 /// and its entries were gone over. So look-ups of rising keys go over the frames of a file and the
 /// entries of a chunk once, and read each chunk once. What is kept was compared with the reference
-/// above it and with the root: nothing that is answered depends on whether the source is that of the
-/// same tree. Where it is not, or has changed, a look-up may refuse it. The tree that the reader was
-/// opened for is never refused.
+/// above it and with the root: nothing that is answered depends on whether the source is that of
+/// the same tree. Where it is not, or has changed, a look-up may refuse it. The tree that the
+/// reader was opened for is never refused: see
+/// [`laws::lawful_files_are_read`](crate::laws::lawful_files_are_read).
 ///
 /// A look-up takes memory for the chunks that show what it finds, and for that. After an `Err`
 /// nothing is kept, and the next look-up reads its chunks anew.
@@ -93,27 +89,13 @@ impl<T: Copy + Drop> Reader<T> {
     ) -> Result<Reader<T>, RootFault>
         ensures of { IfOk result (λ reader.
             (reader.version ≡ version) × (reader.root ≡ root.now.0)) }
-        ensures kept { (content : Content) → S.has source.old content →
-            version ≡ content.version →
-            root.now.0 ≡ root_reference (sha512_cut content.bits) content.version content.pairs →
-            IfOk result (IsReaderOf S.is_place content) }
-
-        // A lawful tree with this root is never refused, nor is memory wanted.
-        ensures lawful { (content : Content) → S.has source.old content →
-            version ≡ content.version →
-            root.now.0 ≡ root_reference (sha512_cut content.bits) content.version content.pairs →
-            IfErr result OnlyRead }
 
         // Of a file of any bytes it is told what is wrong first with its header or its frames.
         ensures tells { (file : ChunkFile) → S.goes_over source.old file →
             IsOrFails (λ reader. (file_fault version file ≡ None) × IsReaderIn S.stands file reader)
             (λ fault. OnlyRead fault ⊎ (file_fault version file ≡ Some fault)) result }
-        ensures goes { GoesOverStill S.goes_over source.old source.new }
-        ensures keeps { (content : Content) → S.has source.old content → S.has source.new content }
-        ensures reads { TellsReads (S.failures source.old) (S.failures source.new) result }
+        ensures asked { HasAsked S.goes_over S.failures source.old source.new result }
     {
-        // By this law a lawful tree has the chunks that the root leads to.
-        tops_are_read();
         let top = source.root(version)?;
         Ok(Reader {
             version,
@@ -132,10 +114,8 @@ impl<T: Copy + Drop> Reader<T> {
     ) -> Result<Option<Vec<u8>>, RootFault>
         ensures found { IfOk result (λ value. IsWay self.old.version self.old.root key.now
             (way_of self.new) (option_map (λ v. v.items) value)) }
-        ensures looked { LooksUp S.has S.failures S.is_place source.old source.new self.old
-            self.new result }
-        ensures tells { LooksUpIn S.goes_over S.stands source.old source.new (Key key.now)
-            self.old self.new result }
+        ensures looked { LooksUp S.goes_over S.failures S.stands source.old source.new
+            (Key key.now) self.old self.new result }
     {
         self.descend(alloc, source, Sought::Key(key))?;
         let value = first_value(alloc, &self.leaf_from(key), key);
@@ -152,10 +132,8 @@ impl<T: Copy + Drop> Reader<T> {
     ) -> Result<Option<Pair>, RootFault>
         requires { self.old.version ≡ Two }
         ensures found { IfOk result (IsCountWay self.old.root n (way_of self.new)) }
-        ensures looked { LooksUp S.has S.failures S.is_place source.old source.new self.old
-            self.new result }
-        ensures tells { LooksUpIn S.goes_over S.stands source.old source.new (Number n)
-            self.old self.new result }
+        ensures looked { LooksUp S.goes_over S.failures S.stands source.old source.new
+            (Number n) self.old self.new result }
     {
         let there = self.descend(alloc, source, Sought::Number(n))?;
         // From the empty key on there are all pairs.
@@ -175,10 +153,8 @@ impl<T: Copy + Drop> Reader<T> {
     ) -> Result<Vec<Pair>, RootFault>
         ensures found { IfOk result (λ pairs. AreFirstFound self.old.version self.old.root
             from.now most (way_of self.new) pairs.items) }
-        ensures looked { LooksUp S.has S.failures S.is_place source.old source.new self.old
-            self.new result }
-        ensures tells { LooksUpIn S.goes_over S.stands source.old source.new (Key from.now)
-            self.old self.new result }
+        ensures looked { LooksUp S.goes_over S.failures S.stands source.old source.new
+            (Key from.now) self.old self.new result }
     {
         self.descend(alloc, source, Sought::Key(from))?;
         let pairs = first_pairs(alloc, self.leaf_from(from), most);
@@ -196,10 +172,8 @@ impl<T: Copy + Drop> Reader<T> {
     ) -> Result<Vec<u8>, RootFault>
         ensures proves { IfOk result (λ proof.
             IsSomeProof self.old.version self.old.root key.now proof.items) }
-        ensures looked { LooksUp S.has S.failures S.is_place source.old source.new self.old
-            self.new result }
-        ensures tells { LooksUpIn S.goes_over S.stands source.old source.new (Key key.now)
-            self.old self.new result }
+        ensures looked { LooksUp S.goes_over S.failures S.stands source.old source.new
+            (Key key.now) self.old self.new result }
     {
         self.descend(alloc, source, Sought::Key(key))?;
         let proof = self.proof(alloc);
@@ -216,10 +190,8 @@ impl<T: Copy + Drop> Reader<T> {
     ) -> Result<(), RootFault>
         ensures found { OnOk result
             (IsWayTo self.old.version self.old.root (Key key.now) (way_of self.new)) }
-        ensures looked { LooksUp S.has S.failures S.is_place source.old source.new self.old
-            self.new result }
-        ensures tells { LooksUpIn S.goes_over S.stands source.old source.new (Key key.now)
-            self.old self.new result }
+        ensures looked { LooksUp S.goes_over S.failures S.stands source.old source.new
+            (Key key.now) self.old self.new result }
     {
         self.descend(alloc, source, Sought::Key(key))?;
         Ok(())
@@ -236,10 +208,8 @@ impl<T: Copy + Drop> Reader<T> {
     ) -> Result<(), RootFault>
         ensures found { OnOk result
             (IsWayTo self.old.version self.old.root (Key key.now) (way_of self.new)) }
-        ensures looked { LooksUp S.has S.failures S.is_place source.old source.new self.old
-            self.new result }
-        ensures tells { LooksUpIn S.goes_over S.stands source.old source.new (Key key.now)
-            self.old self.new result }
+        ensures looked { LooksUp S.goes_over S.failures S.stands source.old source.new
+            (Key key.now) self.old self.new result }
     {
         if self.goes_below(key) {
             if let Err(fault) = source.read_ahead(hasher, alloc, self.version) {
@@ -277,10 +247,8 @@ impl<T: Copy + Drop> Reader<T> {
         source: &mut S,
         sought: Sought<'a>,
     ) -> Result<Sought<'a>, RootFault>
-        ensures looked { LooksUp S.has S.failures S.is_place source.old source.new self.old
-            self.new result }
-        ensures tells { LooksUpIn S.goes_over S.stands source.old source.new (sought_of sought.entry)
-            self.old self.new result }
+        ensures looked { LooksUp S.goes_over S.failures S.stands source.old source.new
+            (sought_of sought.entry) self.old self.new result }
         ensures found { IfOk result (λ there. IsWayDown self.old.version self.old.root
             (sought_of sought.entry) (way_of self.new) (sought_of there)) }
     {

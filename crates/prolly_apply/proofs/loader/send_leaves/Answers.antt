@@ -1,4 +1,5 @@
 use Rattle.std.proofs.Common.{◌∙◌, refl, sym, subst}
+use Rattle.prolly_root.specs.lemmas.LawfulFiles.{has_still}
 use Rattle.prolly_root_diff.specs.LeafWalk.{due_of_walk}
 use Rattle.prolly_apply.proofs.Loading.{IsLoading, all_loaded, none_yet, of_each, one_sent, stopped}
 use Rattle.prolly_apply.proofs.loader.send_leaves.Goals as goal
@@ -40,9 +41,9 @@ loop-leaves-preserved g c =
           (due_of_walk c.next_leaf.new.leaves) c.in_ok-leaf.field-0 c.in-Some.leaf c.in-Some.is
           before.loading next.gives c.in_ok-send_leaf.ensures.ok;
       link = c.in_ok-send_leaf.ensures.link ∙ before.link;
-      keeps = λ content has. asked.0 content (before.keeps content has);
+      still = λ file goes. asked.0 file (before.still file goes);
       failures = asked.1 ∙ before.failures;
-      lawful = λ content has same is. next.lawful content (before.keeps content has)
+      lawful = λ content has same is. next.lawful content (has_still before.still has)
           (before.version ∙ same) (before.lawful content has same is);
     }
 

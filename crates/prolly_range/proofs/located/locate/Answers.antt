@@ -1,5 +1,6 @@
 use Rattle.std.proofs.Common.{◌≡◌, ◌-◌, ◌++◌, ◌∷◌, ◌∙◌, [], List, ap, inr, map, rules, subst, sym}
 use Rattle.prolly_entry.specs.lemmas.Lists.{all_append}
+use Rattle.prolly_root.specs.ChunkFile.{chunk_file}
 use Rattle.prolly_root.specs.Descent.{StandsBelow}
 use Rattle.prolly_root.specs.RootFault.{MayFail, OnlyRead}
 use Rattle.std.specs.List.{AllByRecursion}
@@ -18,25 +19,25 @@ one_more f (w ∷ old) x y others e = ap (λ zs. f w ∷ zs) (one_more f old x y
 
 pub returns-in_err-there-clause-lawful : goal.returns-in_err-there-clause-lawful
 returns-in_err-there-clause-lawful g c content has there =
-    let is_place = g.S.ChunkSource.is_place in
-    let still = c.loop-child.invariant.has content has in
+    let stands_at = g.S.ChunkSource.stands in
+    let still = c.loop-child.invariant.goes (chunk_file content) has.goes in
     let others = map met_of c.pop_front.new.self.items in
-    let due = subst (AreChildrenThere is_place content (c.args.level - 1) c.loop-child.place)
+    let due = subst (AreChildrenThere stands_at content (c.args.level - 1) c.loop-child.place)
     (ap (map met_of) c.in-Some.ensures.items)
     (c.loop-child.invariant.lawful content has there).0 in
-    let next = next_there is_place content c.args.level (met_of c.in-Some.child) others
+    let next = next_there stands_at content c.args.level (met_of c.in-Some.child) others
     c.loop-child.place c.child.new.node c.child.result c.requires due
-    (λ ts. c.child.ensures.node content ts still) (λ ts t. c.child.ensures.place content ts t still)
-    in
+    (λ n from. c.child.ensures.stays (chunk_file content) n from still)
+    (λ n from. c.child.ensures.finds (chunk_file content) n from still) in
     let only : OnlyRead c.in_err-there.field-0.0 =
-    subst (FoundAt is_place content (met_of c.in-Some.child) c.args.level) c.in_err-there.was next.1
+    subst (FoundAt stands_at content (met_of c.in-Some.child) c.args.level) c.in_err-there.was next.1
     in
     let may : MayFail c.in_err-there.field-0.0 = inr only in
     search rules
 
 pub loop-child-preserved : goal.loop-child-preserved
 loop-child-preserved g c =
-    let is_place = g.S.ChunkSource.is_place in
+    let stands_at = g.S.ChunkSource.stands in
     let level = c.args.level in
     let child = c.in-Some.child in
     let others = map met_of c.pop_front.new.self.items in
@@ -47,25 +48,25 @@ loop-child-preserved g c =
           (map (seen_due level) others) c.below.ensures ∙
           ap (λ ms. map located_due before ++ map (seen_due level) (map met_of ms))
           (sym c.in-Some.ensures.items) ∙ c.loop-child.invariant.due;
-      has = λ content has.
-          c.in_ok-there.ensures.asked.0 content (c.loop-child.invariant.has content has);
+      goes = λ file goes.
+          c.in_ok-there.ensures.asked.0 file (c.loop-child.invariant.goes file goes);
       failures = c.in_ok-there.ensures.asked.1 ∙ c.loop-child.invariant.failures;
       lawful = λ content has there.
-          let still = c.loop-child.invariant.has content has in
+          let still = c.loop-child.invariant.goes (chunk_file content) has.goes in
           let inv = c.loop-child.invariant.lawful content has there in
-          let due = subst (AreChildrenThere is_place content (level - 1) c.loop-child.place)
+          let due = subst (AreChildrenThere stands_at content (level - 1) c.loop-child.place)
           (ap (map met_of) c.in-Some.ensures.items) inv.0 in
-          let next = next_there is_place content level (met_of child) others c.loop-child.place
+          let next = next_there stands_at content level (met_of child) others c.loop-child.place
           c.child.new.node c.child.result c.requires due
-          (λ ts. c.child.ensures.node content ts still)
-          (λ ts t. c.child.ensures.place content ts t still) in
-          let stands : StandsBelow is_place content (met_of child).reference (Some level)
+          (λ n from. c.child.ensures.stays (chunk_file content) n from still)
+          (λ n from. c.child.ensures.finds (chunk_file content) n from still) in
+          let stands : StandsBelow stands_at content (met_of child).reference (Some level)
           c.in_ok-there.there =
-          subst (FoundAt is_place content (met_of child) level) c.in_ok-there.was next.1 in (
+          subst (FoundAt stands_at content (met_of child) level) c.in_ok-there.was next.1 in (
             next.0,
-            subst (AllByRecursion (IsLocated is_place content)) (sym c.in_ok-keep.ensures)
-                (all_append (IsLocated is_place content) before _ inv.1 (
-                  subst (λ d. StandsBelow is_place content d.reference d.above
+            subst (AllByRecursion (IsLocated stands_at content)) (sym c.in_ok-keep.ensures)
+                (all_append (IsLocated stands_at content) before _ inv.1 (
+                  subst (λ d. StandsBelow stands_at content d.reference d.above
                       c.in_ok-there.there) (sym c.below.ensures) stands,
                   tt,
                 )),

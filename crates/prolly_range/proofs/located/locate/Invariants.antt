@@ -1,6 +1,7 @@
 use Rattle.std.proofs.Common.{◌≡◌, ◌-◌, ◌++◌, length, map}
 use Rattle.std.specs.List.{AllByRecursion}
 use Rattle.prolly_look_up.specs.Content.{Content}
+use Rattle.prolly_root.specs.ChunkSource.{GoesOverStill, HasTree}
 use Rattle.prolly_range.specs.Children.{met_of}
 use Rattle.prolly_range.specs.Dues.{seen_due}
 use Rattle.prolly_range.specs.Prover.{AreChildrenThere, IsLocated, located_due}
@@ -10,15 +11,14 @@ abbrev pub invariant-loop-child : goal.invariant-loop-child
 invariant-loop-child g l = record {
   due : map located_due l.found.items ++ map (seen_due l.level) (map met_of l.met.items) ≡
       map (seen_due l.level) (map met_of l.fn.met.items);
-  has : (content : Content) → g.S.ChunkSource.has l.fn.source content →
-      g.S.ChunkSource.has l.source content;
+  goes : GoesOverStill g.S.ChunkSource.goes_over l.fn.source l.source;
   failures : g.S.ChunkSource.failures l.source ≡ g.S.ChunkSource.failures l.fn.source;
-  lawful : (content : Content) → g.S.ChunkSource.has l.fn.source content →
-      AreChildrenThere g.S.ChunkSource.is_place content (l.level - 1) l.fn.place
+  lawful : (content : Content) → HasTree g.S.ChunkSource.goes_over l.fn.source content →
+      AreChildrenThere g.S.ChunkSource.stands content (l.level - 1) l.fn.place
       (map met_of l.fn.met.items) →
-      AreChildrenThere g.S.ChunkSource.is_place content (l.level - 1) l.place
+      AreChildrenThere g.S.ChunkSource.stands content (l.level - 1) l.place
       (map met_of l.met.items) ×
-      AllByRecursion (IsLocated g.S.ChunkSource.is_place content) l.found.items;
+      AllByRecursion (IsLocated g.S.ChunkSource.stands content) l.found.items;
 }
 
 abbrev pub decreases-loop-child : goal.decreases-loop-child

@@ -4,6 +4,7 @@ use Rattle.prolly_look_up.specs.Kinds.{kind_of}
 use Rattle.prolly_look_up.specs.Way.{level_of}
 use Rattle.prolly_entry.specs.lemmas.Lists.{all_append}
 use Rattle.prolly_root.specs.RootFault.{MayFail}
+use Rattle.prolly_root.specs.lemmas.LawfulFiles.{has_still}
 use Rattle.prolly_range.specs.KeySet.{set_of}
 use Rattle.prolly_range.specs.Prover.{IsLocated, located_due}
 use Rattle.prolly_range.specs.SetProof.{due_below, pairs_there}
@@ -13,7 +14,7 @@ use Rattle.prolly_range.proofs.prover.next_chunk.Goals as goal
 
 pub returns-in_err-chunk-clause-lawful : goal.returns-in_err-chunk-clause-lawful
 returns-in_err-chunk-clause-lawful g c content has same at =
-    let all = subst (AllByRecursion (IsLocated g.S.ChunkSource.is_place content))
+    let all = subst (AllByRecursion (IsLocated g.S.ChunkSource.stands content))
     c.in-Some.ensures.items at in
     let may : MayFail c.in_err-chunk.field-0.0 =
     c.in_err-chunk.ensures.lawful content has same all.0 in
@@ -50,11 +51,11 @@ returns-clause-nearer g c =
 
 pub returns-clause-lawful : goal.returns-clause-lawful
 returns-clause-lawful g c content has same at =
-    let is_place = g.S.ChunkSource.is_place in
-    let all = subst (AllByRecursion (IsLocated is_place content)) c.in-Some.ensures.items at in
+    let stands_at = g.S.ChunkSource.stands in
+    let all = subst (AllByRecursion (IsLocated stands_at content)) c.in-Some.ensures.items at in
     let is = c.in_ok-chunk.ensures.lawful content has same all.0 in
-    let below = c.in_ok-below.ensures.lawful content (c.in_ok-chunk.ensures.asked.0 content has)
+    let below = c.in_ok-below.ensures.lawful content (has_still c.in_ok-chunk.ensures.asked.0 has)
     same all.0 (c.deref.ensures.value ∙ is) in
-    subst (AllByRecursion (IsLocated is_place content)) (sym c.in_ok-put_first.ensures)
-    (all_append (IsLocated is_place content) c.in_ok-below.below.items
+    subst (AllByRecursion (IsLocated stands_at content)) (sym c.in_ok-put_first.ensures)
+    (all_append (IsLocated stands_at content) c.in_ok-below.below.items
     c.pop_front.new.self.items below all.1)

@@ -2,6 +2,7 @@ use Rattle.std.proofs.Common.{◌++◌, ◌∙◌, ap, map, option_map, subst}
 use Rattle.std.proofs.lemmas.Result.{err_from_is_err_and}
 use Rattle.prolly_io.specs.Frame.{framed}
 use Rattle.prolly_io.specs.Sink.{TakesPrefix}
+use Rattle.prolly_root.specs.lemmas.LawfulFiles.{has_still}
 use Rattle.prolly_range.specs.Prover.{ProvesNext, located_due}
 use Rattle.prolly_range.proofs.Writing.{frame_part, one_written}
 use Rattle.prolly_range.proofs.prover.write_chunks.Goals as goal
@@ -37,11 +38,11 @@ loop-chunk-preserved g c =
           (λ keeps. c.in_ok-write_frame.ensures.written keeps ∙
           ap (λ x. mid.taken ++ framed x) c.deref.ensures.value)
           c.in_ok-write_frame.ensures.keeping;
-      has = λ content has.
-          c.in_ok-chunk.ensures.asked.0 content (c.loop-chunk.invariant.has content has);
+      goes = λ file goes.
+          c.in_ok-chunk.ensures.asked.0 file (c.loop-chunk.invariant.goes file goes);
       reads = c.in_ok-chunk.ensures.asked.1 ∙ c.loop-chunk.invariant.reads;
       writes = c.in_ok-write_frame.ensures.failures ∙ c.loop-chunk.invariant.writes;
       lawful = λ content has same all. c.in_ok-chunk.ensures.lawful content
-          (c.loop-chunk.invariant.has content has) same
+          (has_still c.loop-chunk.invariant.goes has) same
           (c.loop-chunk.invariant.lawful content has same all);
     }

@@ -1,6 +1,7 @@
 use Rattle.std.proofs.Common.{◌≡◌, map}
 use Rattle.std.specs.List.{AllByRecursion}
 use Rattle.prolly_look_up.specs.Content.{Content}
+use Rattle.prolly_root.specs.ChunkSource.{GoesOverStill, HasTree}
 use Rattle.prolly_range.specs.Prover.{IsLocated, located_due}
 use Rattle.prolly_range.specs.ToGo.{to_go}
 use Rattle.prolly_range.proofs.Writing.{HaveWritten}
@@ -10,14 +11,13 @@ abbrev pub invariant-loop-chunk : goal.invariant-loop-chunk
 invariant-loop-chunk g l = record {
   written : HaveWritten l.version (map located_due l.fn.due.items) (g.W.Sink.seen l.fn.sink)
       (g.W.Sink.seen l.sink) (map located_due l.due.items);
-  has : (content : Content) → g.S.ChunkSource.has l.fn.source content →
-      g.S.ChunkSource.has l.source content;
+  goes : GoesOverStill g.S.ChunkSource.goes_over l.fn.source l.source;
   reads : g.S.ChunkSource.failures l.source ≡ g.S.ChunkSource.failures l.fn.source;
   writes : (g.W.Sink.seen l.sink).failures ≡ (g.W.Sink.seen l.fn.sink).failures;
-  lawful : (content : Content) → g.S.ChunkSource.has l.fn.source content →
+  lawful : (content : Content) → HasTree g.S.ChunkSource.goes_over l.fn.source content →
       l.version ≡ content.version →
-      AllByRecursion (IsLocated g.S.ChunkSource.is_place content) l.fn.due.items →
-      AllByRecursion (IsLocated g.S.ChunkSource.is_place content) l.due.items;
+      AllByRecursion (IsLocated g.S.ChunkSource.stands content) l.fn.due.items →
+      AllByRecursion (IsLocated g.S.ChunkSource.stands content) l.due.items;
 }
 
 abbrev pub decreases-loop-chunk : goal.decreases-loop-chunk

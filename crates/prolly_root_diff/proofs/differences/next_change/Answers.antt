@@ -18,9 +18,11 @@ walk-init g c = record {
     after = left_of c.args.after.now;
   });
   nearer = omega arith;
-  old = stays g.S.ChunkSource.has g.S.ChunkSource.failures g.S.ChunkSource.is_place c.args.version
+  old = stays g.S.ChunkSource.goes_over g.S.ChunkSource.failures g.S.ChunkSource.stands
+      c.args.version
       c.args.old.now c.args.before.now;
-  new = stays g.R.ChunkSource.has g.R.ChunkSource.failures g.R.ChunkSource.is_place c.args.version
+  new = stays g.R.ChunkSource.goes_over g.R.ChunkSource.failures g.R.ChunkSource.stands
+      c.args.version
       c.args.new.now c.args.after.now;
   notes = refl;
   noted = λ from noted. noted;
@@ -47,10 +49,10 @@ walk-preserved-in_ok-pass_first-in-Pass-2 g c = record {
         c.walk.before c.pass_first.new.self c.walk.after c.pass_first-in-Pass.new.self
         c.in-Pass.ensures c.in_ok-pass_first-in-Pass.ensures c.in_ok-pass_first-in-Pass-2.ensures,
   );
-  old = goes_behind g.S.ChunkSource.has g.S.ChunkSource.failures g.S.ChunkSource.is_place
+  old = goes_behind g.S.ChunkSource.goes_over g.S.ChunkSource.failures g.S.ChunkSource.stands
       c.args.version c.args.old.now c.walk.old c.args.before.now c.walk.before c.pass_first.new.self
       c.walk.invariant.old c.in_ok-pass_first-in-Pass.ensures;
-  new = goes_behind g.R.ChunkSource.has g.R.ChunkSource.failures g.R.ChunkSource.is_place
+  new = goes_behind g.R.ChunkSource.goes_over g.R.ChunkSource.failures g.R.ChunkSource.stands
       c.args.version c.args.new.now c.walk.new c.args.after.now c.walk.after
       c.pass_first-in-Pass.new.self c.walk.invariant.new c.in_ok-pass_first-in-Pass-2.ensures;
   notes = c.walk.invariant.notes;
@@ -87,7 +89,7 @@ walk-preserved-in_ok-note_old-in-Ok g c = record {
     opens_lighter c.args.version (left_of c.walk.before) (left_of c.open_first.new.self)
         c.in-Ok.ensures.opens.opens,
   );
-  old = goes_down g.S.ChunkSource.has g.S.ChunkSource.failures g.S.ChunkSource.is_place
+  old = goes_down g.S.ChunkSource.goes_over g.S.ChunkSource.failures g.S.ChunkSource.stands
       c.args.version c.args.old.now c.walk.old c.open_first.new.source c.args.before.now
       c.walk.before c.open_first.new.self c.walk.invariant.old c.in-Ok.ensures.lawful
       c.in-Ok.ensures.asked.0 c.in-Ok.ensures.asked.1;
@@ -123,7 +125,7 @@ walk-preserved-in_ok-note_new-in-Ok-open_first g c = record {
         c.in-Ok-open_first.ensures.opens.opens,
   );
   old = c.walk.invariant.old;
-  new = goes_down g.R.ChunkSource.has g.R.ChunkSource.failures g.R.ChunkSource.is_place
+  new = goes_down g.R.ChunkSource.goes_over g.R.ChunkSource.failures g.R.ChunkSource.stands
       c.args.version c.args.new.now c.walk.new c.open_first-in-OpenNew.new.source
       c.args.after.now c.walk.after c.open_first-in-OpenNew.new.self c.walk.invariant.new
       c.in-Ok-open_first.ensures.lawful c.in-Ok-open_first.ensures.asked.0
@@ -153,10 +155,10 @@ walk-preserved g c = record {
         c.in-Skip.ensures c.pass_pair.ensures.pair c.pass_pair.ensures.due
         c.pass_pair-in-Skip.ensures.pair c.pass_pair-in-Skip.ensures.due,
   );
-  old = goes_by g.S.ChunkSource.has g.S.ChunkSource.failures g.S.ChunkSource.is_place
+  old = goes_by g.S.ChunkSource.goes_over g.S.ChunkSource.failures g.S.ChunkSource.stands
       c.args.version c.args.old.now c.walk.old c.args.before.now c.walk.before c.pass_pair.new.self
       c.walk.invariant.old c.pass_pair.ensures.due;
-  new = goes_by g.R.ChunkSource.has g.R.ChunkSource.failures g.R.ChunkSource.is_place
+  new = goes_by g.R.ChunkSource.goes_over g.R.ChunkSource.failures g.R.ChunkSource.stands
       c.args.version c.args.new.now c.walk.new c.args.after.now c.walk.after
       c.pass_pair-in-Skip.new.self c.walk.invariant.new c.pass_pair-in-Skip.ensures.due;
   notes = c.walk.invariant.notes;

@@ -12,9 +12,9 @@ invariant-walk g l = record {
       (record { before = left_of l.before; after = left_of l.after });
   nearer : far (record { before = left_of l.before; after = left_of l.after }) ≤
       far (record { before = left_of l.fn.before; after = left_of l.fn.after });
-  old : GoesOn g.S.ChunkSource.has g.S.ChunkSource.failures g.S.ChunkSource.is_place l.version
+  old : GoesOn g.S.ChunkSource.goes_over g.S.ChunkSource.failures g.S.ChunkSource.stands l.version
       l.fn.old l.old l.fn.before l.before;
-  new : GoesOn g.R.ChunkSource.has g.R.ChunkSource.failures g.R.ChunkSource.is_place l.version
+  new : GoesOn g.R.ChunkSource.goes_over g.R.ChunkSource.failures g.R.ChunkSource.stands l.version
       l.fn.new l.new l.fn.after l.after;
   notes : is_some l.notes ≡ is_some l.fn.notes;
   noted : (from : Lefts) → AreNoted l.version from

@@ -9,17 +9,17 @@ use Rattle.prolly_root_diff.proofs.due_trees.read_first.Goals as goal
 
 pub returns-then-index-eq-LEAF-clause-lawful : goal.returns-then-index-eq-LEAF-clause-lawful
 returns-then-index-eq-LEAF-clause-lawful g c content has same due =
-    let all = subst (AllByRecursion (AreSiblingsOf g.S.ChunkSource.is_place content))
+    let all = subst (AllByRecursion (AreSiblingsOf g.S.ChunkSource.stands content))
     c.in-Some.ensures.items due in
-    put_lawful g.S.ChunkSource.is_place content c.read.new.self c.pop_front.new.self.items
+    put_lawful g.S.ChunkSource.stands content c.read.new.self c.pop_front.new.self.items
     c.put_others.new.due.items c.in_ok-put_others.ensures
     (c.in_ok-chunk.ensures.lawful content has same all.0).0 all.1
 
 pub returns-in-None-clause-lawful : goal.returns-in-None-clause-lawful
 returns-in-None-clause-lawful g c content has same due =
-    let all = subst (AllByRecursion (AreSiblingsOf g.S.ChunkSource.is_place content))
+    let all = subst (AllByRecursion (AreSiblingsOf g.S.ChunkSource.stands content))
     c.in-Some.ensures.items due in
-    put_lawful g.S.ChunkSource.is_place content c.read.new.self c.pop_front.new.self.items
+    put_lawful g.S.ChunkSource.stands content c.read.new.self c.pop_front.new.self.items
     c.put_others.new.due.items c.in_ok-put_others.ensures
     (c.in_ok-chunk.ensures.lawful content has same all.0).0 all.1
 
@@ -29,15 +29,15 @@ returns-in_ok-put_first-in-Some-2-clause-lawful g c content has same due =
     let high : 0 < level_of chunk = search rules in
     let children : AreChildrenOf c.args.version chunk c.in_ok-chunk.place c.in-Some-2.children =
     search rules in
-    let all = subst (AllByRecursion (AreSiblingsOf g.S.ChunkSource.is_place content))
+    let all = subst (AllByRecursion (AreSiblingsOf g.S.ChunkSource.stands content))
     c.in-Some.ensures.items due in
     let read = c.in_ok-chunk.ensures.lawful content has same all.0 in
-    subst (AllByRecursion (AreSiblingsOf g.S.ChunkSource.is_place content))
+    subst (AllByRecursion (AreSiblingsOf g.S.ChunkSource.stands content))
     (sym c.in_ok-put_first-in-Some-2.ensures) (
-      children_lawful g.S.ChunkSource.is_place content c.tops_are_read.ensures.read c.args.version
+      children_lawful g.S.ChunkSource.stands content c.tops_are_read.ensures.read c.args.version
           same c.in-Some.siblings.next.0 chunk c.in_ok-chunk.place c.in-Some-2.children read.1 high
           children,
-      put_lawful g.S.ChunkSource.is_place content c.read.new.self c.pop_front.new.self.items
+      put_lawful g.S.ChunkSource.stands content c.read.new.self c.pop_front.new.self.items
           c.put_others.new.due.items c.in_ok-put_others.ensures read.0 all.1,
     )
 

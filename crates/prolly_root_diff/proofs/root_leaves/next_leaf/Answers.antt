@@ -1,6 +1,7 @@
 use Rattle.std.proofs.Common.{◌≡◌, ◌==◌, ◌<◌, ◌∙◌, [], ap, arith, length, rules, sym}
 use Rattle.std.proofs.lemmas.List.{nil_from_length}
 use Rattle.prolly_look_up.specs.HeldPairs.{pairs_held}
+use Rattle.prolly_root.specs.lemmas.LawfulFiles.{has_still}
 use Rattle.prolly_root_diff.specs.DueTrees.{all_due}
 use Rattle.prolly_root_diff.proofs.Lists.{some_due}
 use Rattle.prolly_root_diff.proofs.LeafSteps.{gives_leaf, leaves_end, no_pairs, reads_lighter}
@@ -61,10 +62,10 @@ nodes-preserved g c =
         reads_lighter c.args.version (all_due c.nodes.due.items)
             (all_due c.read_first.new.due.items) c.in_ok-reference.reference.0 chunk reads,
       );
-      keeps = λ content has. c.in_ok-reference.ensures.asked.0 content (before.keeps content has);
+      goes = λ file goes. c.in_ok-reference.ensures.asked.0 file (before.goes file goes);
       failures = c.in_ok-reference.ensures.asked.1 ∙ before.failures;
       lawful = λ content has same due. c.in_ok-reference.ensures.lawful content
-          (before.keeps content has) same (before.lawful content has same due);
+          (has_still before.goes has) same (before.lawful content has same due);
     }
 
 pub returns-clause-gives : goal.returns-clause-gives

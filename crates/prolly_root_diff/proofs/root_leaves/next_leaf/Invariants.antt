@@ -1,5 +1,6 @@
 use Rattle.std.proofs.Common.{◌≡◌, ◌≤◌}
 use Rattle.prolly_look_up.specs.Content.{Content}
+use Rattle.prolly_root.specs.ChunkSource.{GoesOverStill, HasTree}
 use Rattle.prolly_root_diff.specs.DueTrees.{AreDueIn, all_due}
 use Rattle.prolly_root_diff.specs.ToGo.{weights}
 use Rattle.prolly_root_diff.proofs.LeafSteps.{LeavesStay}
@@ -9,12 +10,11 @@ abbrev pub invariant-nodes : goal.invariant-nodes
 invariant-nodes g l = record {
   stays : LeavesStay l.version (all_due l.fn.due.items) (all_due l.due.items);
   nearer : weights (all_due l.due.items) ≤ weights (all_due l.fn.due.items);
-  keeps : (content : Content) → g.S.ChunkSource.has l.fn.source content →
-      g.S.ChunkSource.has l.source content;
+  goes : GoesOverStill g.S.ChunkSource.goes_over l.fn.source l.source;
   failures : g.S.ChunkSource.failures l.source ≡ g.S.ChunkSource.failures l.fn.source;
-  lawful : (content : Content) → g.S.ChunkSource.has l.fn.source content →
-      l.version ≡ content.version → AreDueIn g.S.ChunkSource.is_place content l.fn.due.items →
-      AreDueIn g.S.ChunkSource.is_place content l.due.items;
+  lawful : (content : Content) → HasTree g.S.ChunkSource.goes_over l.fn.source content →
+      l.version ≡ content.version → AreDueIn g.S.ChunkSource.stands content l.fn.due.items →
+      AreDueIn g.S.ChunkSource.stands content l.due.items;
 }
 
 abbrev pub decreases-nodes : goal.decreases-nodes

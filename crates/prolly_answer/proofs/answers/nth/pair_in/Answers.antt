@@ -1,5 +1,8 @@
+use Rattle.std.proofs.Common.{rules}
+use Rattle.prolly_answer.specs.RootFaults.{MayRefuse}
+use Rattle.prolly_entry.specs.declared.version.Version.TheVariants.{Two}
 use Rattle.prolly_look_up.specs.Sought.Sought.{Number}
-use Rattle.prolly_answer.proofs.RootFaultSteps.{refuses_so}
+use Rattle.prolly_answer.proofs.RootFaultSteps.{none_refused, not_opened, refuses_so}
 use Rattle.prolly_entry.specs.declared.version.Version.TheVariants.{Two}
 use Rattle.prolly_root.specs.Reader.{way_of}
 use Rattle.prolly_answer.proofs.FoundByRoot.{pair_found}
@@ -13,9 +16,15 @@ pub returns-clause-refuses : goal.returns-clause-refuses
 returns-clause-refuses g c =
     let opened = c.in_ok-reader.ensures in
     let looked = c.nth.ensures in
-    refuses_so c.in_ok-reader.reader opened.of (Number c.args.n) (g.S.ChunkSource.has c.args.source.now)
-    (g.S.ChunkSource.goes_over c.args.source.now) c.nth.result
-    (λ content has same root. looked.looked.lawful content (opened.keeps content has)
-    (opened.kept content has same root)) (λ file goes.
+    refuses_so c.in_ok-reader.reader opened.of (Number c.args.n)
+    (g.S.ChunkSource.goes_over c.args.source.now)
+    c.lawful_files_are_read.ensures c.nth.result (λ file goes.
     let told = opened.tells file goes in
-    (told.0, looked.tells.tells file (opened.goes file goes) told.1))
+    (told.0, looked.looked.tells file (opened.asked.0 file goes) told.1))
+
+pub returns-in_err-reader-clause-refuses : goal.returns-in_err-reader-clause-refuses
+returns-in_err-reader-clause-refuses g c =
+    let may : MayRefuse (g.S.ChunkSource.goes_over c.args.source.now) Two c.args.root.now.0
+    (Number c.args.n) c.in_err-reader.field-0.0 = none_refused c.lawful_files_are_read.ensures
+    (λ file goes. not_opened file (c.in_err-reader.ensures.tells file goes)) in
+    search rules

@@ -18,10 +18,10 @@ walk-init g c = record {
       c.args.diff.now.new.now.0 c.args.diff.now.form c.args.diff.now.stat
       (lefts_of c.in-Ok.walk) c.in-Ok.ensures.begun.lefts c.in-Ok.walk.notes c.in-Ok.ensures.noted
       c.none-counts.result c.none-counts.ensures c.args.sink.now;
-  old = keeps_first g.S.ChunkSource.has g.S.ChunkSource.failures g.S.ChunkSource.is_place
+  old = keeps_first g.S.ChunkSource.goes_over g.S.ChunkSource.failures g.S.ChunkSource.stands
       c.args.diff.now.version c.args.diff.now.old.now.0 c.args.old.now
       c.in-Ok.walk.before c.in-Ok.ensures.begun.before;
-  new = keeps_first g.R.ChunkSource.has g.R.ChunkSource.failures g.R.ChunkSource.is_place
+  new = keeps_first g.R.ChunkSource.goes_over g.R.ChunkSource.failures g.R.ChunkSource.stands
       c.args.diff.now.version c.args.diff.now.new.now.0 c.args.new.now
       c.in-Ok.walk.after c.in-Ok.ensures.begun.after;
 }
@@ -40,8 +40,9 @@ returns-in-Ok-None-clause-ended g c = all_told g.W.Sink.seen c.args.diff.now.ver
     c.walk.invariant.gave.noted)))
     (subst (λ v. Gives v (lefts_of c.walk.walk) None (lefts_of c.next.new.self))
     c.walk.invariant.version (rw c.in-Ok-None.field-0-is at c.in-Ok-None.ensures.gives))
-    (RefusesNone (g.S.ChunkSource.has c.args.old.now) c.args.diff.now.version
-    c.args.diff.now.old.now.0) (RefusesNone (g.R.ChunkSource.has c.args.new.now) c.args.diff.now.version
+    (RefusesNone (g.S.ChunkSource.goes_over c.args.old.now) c.args.diff.now.version
+    c.args.diff.now.old.now.0)
+    (RefusesNone (g.R.ChunkSource.goes_over c.args.new.now) c.args.diff.now.version
     c.args.diff.now.new.now.0)
     (WrotePart g.W.Sink.seen c.args.diff.now.form c.args.sink.now c.walk.sink) c.told_of.result
     c.told_of.ensures.changed c.told_of.ensures.line c.told_of.ensures.err
@@ -58,8 +59,9 @@ returns-in-Ok-None-clause-reads_new g c = told_reads RootNew new_write _ _ new_m
 
 pub returns-in-Err-count-clause-ended : goal.returns-in-Err-count-clause-ended
 returns-in-Err-count-clause-ended g c = memory_stopped
-    (RefusesNone (g.S.ChunkSource.has c.args.old.now) c.args.diff.now.version
-    c.args.diff.now.old.now.0) (RefusesNone (g.R.ChunkSource.has c.args.new.now) c.args.diff.now.version
+    (RefusesNone (g.S.ChunkSource.goes_over c.args.old.now) c.args.diff.now.version
+    c.args.diff.now.old.now.0)
+    (RefusesNone (g.R.ChunkSource.goes_over c.args.new.now) c.args.diff.now.version
     c.args.diff.now.new.now.0)
     c.args.diff.now.version c.args.diff.now.old.now.0 c.args.diff.now.new.now.0
     (WroteSoFar g.W.Sink.seen c.args.diff.now.form c.args.sink.now c.walk.sink)
@@ -81,8 +83,9 @@ returns-in-Err-count-clause-reads_new g c = memory_tells RootNew new_write _ _ c
 
 pub returns-in-Err-clause-ended : goal.returns-in-Err-clause-ended
 returns-in-Err-clause-ended g c = rw c.fault_of.ensures (walk_stopped
-    (RefusesNone (g.S.ChunkSource.has c.args.old.now) c.args.diff.now.version
-    c.args.diff.now.old.now.0) (RefusesNone (g.R.ChunkSource.has c.args.new.now) c.args.diff.now.version
+    (RefusesNone (g.S.ChunkSource.goes_over c.args.old.now) c.args.diff.now.version
+    c.args.diff.now.old.now.0)
+    (RefusesNone (g.R.ChunkSource.goes_over c.args.new.now) c.args.diff.now.version
     c.args.diff.now.new.now.0)
     c.args.diff.now.version c.args.diff.now.old.now.0 c.args.diff.now.new.now.0
     (WroteSoFar g.W.Sink.seen c.args.diff.now.form c.args.sink.now c.walk.sink)
@@ -91,23 +94,25 @@ returns-in-Err-clause-ended g c = rw c.fault_of.ensures (walk_stopped
     c.args.diff.now.new.now.0 c.args.diff.now.form c.args.diff.now.stat
     (lefts_of c.walk.walk) c.walk.walk.notes c.walk.changed c.walk.counts c.args.sink.now
     c.walk.sink c.walk.invariant.gave)
-    (may_old g.S.ChunkSource.has g.S.ChunkSource.failures g.S.ChunkSource.is_place
+    (may_old g.S.ChunkSource.goes_over g.S.ChunkSource.failures g.S.ChunkSource.stands
     c.args.diff.now.version c.args.diff.now.old.now.0 c.args.old.now
     c.walk.walk.version c.walk.invariant.version c.walk.old c.next.new.old c.walk.walk.before
     c.next.new.self.before c.in-Err.fault c.walk.invariant.old c.in-Err.ensures.old)
-    (may_new g.R.ChunkSource.has g.R.ChunkSource.failures g.R.ChunkSource.is_place
+    (may_new g.R.ChunkSource.goes_over g.R.ChunkSource.failures g.R.ChunkSource.stands
     c.args.diff.now.version c.args.diff.now.new.now.0 c.args.new.now
     c.walk.walk.version c.walk.invariant.version c.walk.new c.next.new.new c.walk.walk.after
     c.next.new.self.after c.in-Err.fault c.walk.invariant.new c.in-Err.ensures.new))
 
 pub returns-in-Err-clause-reads_old : goal.returns-in-Err-clause-reads_old
-returns-in-Err-clause-reads_old g c = rw c.fault_of.ensures (walk_tells_old g.S.ChunkSource.has g.S.ChunkSource.failures g.S.ChunkSource.is_place
+returns-in-Err-clause-reads_old g c = rw c.fault_of.ensures
+    (walk_tells_old g.S.ChunkSource.goes_over g.S.ChunkSource.failures g.S.ChunkSource.stands
     c.walk.walk.version c.args.old.now c.walk.old c.next.new.old c.walk.walk.before
     c.next.new.self.before c.walk.invariant.old.still.failures_are c.in-Err.fault
     c.in-Err.ensures.old)
 
 pub returns-in-Err-clause-reads_new : goal.returns-in-Err-clause-reads_new
-returns-in-Err-clause-reads_new g c = rw c.fault_of.ensures (walk_tells_new g.R.ChunkSource.has g.R.ChunkSource.failures g.R.ChunkSource.is_place
+returns-in-Err-clause-reads_new g c = rw c.fault_of.ensures
+    (walk_tells_new g.R.ChunkSource.goes_over g.R.ChunkSource.failures g.R.ChunkSource.stands
     c.walk.walk.version c.args.new.now c.walk.new c.next.new.new c.walk.walk.after
     c.next.new.self.after c.walk.invariant.new.still.failures_are c.in-Err.fault
     c.in-Err.ensures.new)
@@ -121,8 +126,9 @@ returns-in-Err-write_change-clause-ended g c = rw c.from.ensures (unwritten g.W.
     (subst (λ v. Gives v (lefts_of c.walk.walk) (Some c.in-Ok-Some.change)
     (lefts_of c.next.new.self)) c.walk.invariant.version
     (rw c.in-Ok-Some.field-0-is at c.in-Ok-Some.ensures.gives))
-    (RefusesNone (g.S.ChunkSource.has c.args.old.now) c.args.diff.now.version
-    c.args.diff.now.old.now.0) (RefusesNone (g.R.ChunkSource.has c.args.new.now) c.args.diff.now.version
+    (RefusesNone (g.S.ChunkSource.goes_over c.args.old.now) c.args.diff.now.version
+    c.args.diff.now.old.now.0)
+    (RefusesNone (g.R.ChunkSource.goes_over c.args.new.now) c.args.diff.now.version
     c.args.diff.now.new.now.0)
     c.in-Err-write_change.fault c.write_change.new.sink c.in-Err-write_change.ensures)
 
@@ -156,11 +162,11 @@ walk-preserved g c = record {
       c.walk.invariant.gave.noted)))
       c.count.new.counts c.in_default-count.ensures.ok
       c.in_default-write_change.field-0 c.write_change.new.sink c.in_default-write_change.ensures;
-  old = keeps_on g.S.ChunkSource.has g.S.ChunkSource.failures g.S.ChunkSource.is_place
+  old = keeps_on g.S.ChunkSource.goes_over g.S.ChunkSource.failures g.S.ChunkSource.stands
       c.args.diff.now.version c.args.diff.now.old.now.0 c.args.old.now
       c.walk.walk.version c.walk.invariant.version c.walk.old c.next.new.old c.walk.walk.before
       c.next.new.self.before c.walk.invariant.old c.in-Ok-Some.ensures.old;
-  new = keeps_on g.R.ChunkSource.has g.R.ChunkSource.failures g.R.ChunkSource.is_place
+  new = keeps_on g.R.ChunkSource.goes_over g.R.ChunkSource.failures g.R.ChunkSource.stands
       c.args.diff.now.version c.args.diff.now.new.now.0 c.args.new.now
       c.walk.walk.version c.walk.invariant.version c.walk.new c.next.new.new c.walk.walk.after
       c.next.new.self.after c.walk.invariant.new c.in-Ok-Some.ensures.new;

@@ -9,9 +9,9 @@ invariant-walk g l = record {
   version : l.walk.version ≡ l.diff.version;
   gave : IsUnderWay g.W.Sink.seen l.diff.version l.diff.old.now.0 l.diff.new.now.0
       l.diff.form l.diff.stat (lefts_of l.walk) l.walk.notes l.changed l.counts l.fn.sink l.sink;
-  old : KeepsTo g.S.ChunkSource.has g.S.ChunkSource.failures g.S.ChunkSource.is_place
+  old : KeepsTo g.S.ChunkSource.goes_over g.S.ChunkSource.failures g.S.ChunkSource.stands
       l.diff.version l.diff.old.now.0 l.fn.old l.old l.walk.before;
-  new : KeepsTo g.R.ChunkSource.has g.R.ChunkSource.failures g.R.ChunkSource.is_place
+  new : KeepsTo g.R.ChunkSource.goes_over g.R.ChunkSource.failures g.R.ChunkSource.stands
       l.diff.version l.diff.new.now.0 l.fn.new l.new l.walk.after;
 }
 

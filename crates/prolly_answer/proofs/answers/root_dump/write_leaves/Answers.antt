@@ -4,7 +4,7 @@ use Rattle.prolly_look_up.specs.ScanWay.{EndsEmpty, next_key}
 use Rattle.prolly_root.specs.Reader.{way_of}
 use Rattle.prolly_answer.specs.RootDumps.{written_pairs}
 use Rattle.prolly_look_up.specs.Sought.Sought.{Key}
-use Rattle.prolly_answer.specs.RootFaults.{MayRefuseOf}
+use Rattle.prolly_answer.specs.RootFaults.{TellsFirstOf}
 use Rattle.prolly_text.specs.RecordForms.{written_records}
 use Rattle.prolly_tree.specs.Difference.{puts}
 use Rattle.prolly_answer.proofs.KeyRanks.{AreBytes, all_bytes, next_bytes, no_bytes}
@@ -23,8 +23,6 @@ loop-next-init g c = record {
       (λ ends. ends) refl;
   bytes = no_bytes c.new-next.result.items c.new-next.ensures.items;
   reads = refl;
-  keeps = λ content has. has;
-  opened = λ content has opened. opened;
   goes = λ file goes. goes;
   stands = λ file goes opened. opened;
 }
@@ -35,16 +33,13 @@ returns-in_err-seek_on-clause-dumped g c =
     let p = err_from_is_err_and c.from_residual.result c.from_residual.ensures.1 in
     rw (p.1, p.2) (seek_fails g.W.Sink.seen c.args.reader.version c.args.reader.root []
     EndsEmpty (written_pairs c.args.form) c.loop-next.next.items c.args.sink.now c.loop-next.sink c.loop-next.invariant.dump
-    (λ key. MayRefuseOf g.S.ChunkSource.is_place (g.S.ChunkSource.has c.args.source.now)
-    g.S.ChunkSource.stands (g.S.ChunkSource.goes_over c.args.source.now) c.args.reader (Key key))
-    c.in_err-seek_on.field-0.0 (
-      λ content has opened. c.in_err-seek_on.ensures.looked.lawful content
-          (inv.keeps content has) (inv.opened content has opened),
-      λ file goes opened. told_of c.args.reader c.loop-next.reader c.loop-next.next.items
-          c.deref.result.now inv.version inv.root c.deref.ensures.value file
-          (c.in_err-seek_on.ensures.tells.tells file (inv.goes file goes)
-          (inv.stands file goes opened)),
-    ))
+    (λ key. TellsFirstOf g.S.ChunkSource.stands (g.S.ChunkSource.goes_over c.args.source.now)
+    c.args.reader (Key key))
+    c.in_err-seek_on.field-0.0
+    (λ file goes opened. told_of c.args.reader c.loop-next.reader c.loop-next.next.items
+    c.deref.result.now inv.version inv.root c.deref.ensures.value file
+    (c.in_err-seek_on.ensures.looked.tells file
+    (inv.goes file goes) (inv.stands file goes opened))))
 
 pub returns-in_default-clause-dumped : goal.returns-in_default-clause-dumped
 returns-in_default-clause-dumped g c =
@@ -57,8 +52,8 @@ returns-in_default-clause-dumped g c =
     c.deref-in-loop-next.ensures.value c.in_ok-seek_on.ensures.found c.leaf_from-leaf.ensures in
     seek_ends g.W.Sink.seen c.args.reader.version c.args.reader.root [] EndsEmpty
     (written_pairs c.args.form) next c.args.sink.now c.loop-next.sink inv.dump
-    (λ key. MayRefuseOf g.S.ChunkSource.is_place (g.S.ChunkSource.has c.args.source.now)
-    g.S.ChunkSource.stands (g.S.ChunkSource.goes_over c.args.source.now) c.args.reader (Key key))
+    (λ key. TellsFirstOf g.S.ChunkSource.stands (g.S.ChunkSource.goes_over c.args.source.now)
+    c.args.reader (Key key))
     way leaf is (written_records c.args.form (puts leaf))
     (bytes_more c.args.form inv.dump.lists leaf)
     (none_behind inv.dump.lists leaf c.in_default.ensures.key)
@@ -77,8 +72,8 @@ returns-in_err-write_leaf-clause-dumped g c =
     c.from_residual-in_err-write_leaf.ensures.1 in
     rw (p.1, p.2) (leaf_unwritten g.W.Sink.seen c.args.reader.version c.args.reader.root []
     EndsEmpty (written_pairs c.args.form) next c.args.sink.now c.loop-next.sink inv.dump
-    (λ key. MayRefuseOf g.S.ChunkSource.is_place (g.S.ChunkSource.has c.args.source.now)
-    g.S.ChunkSource.stands (g.S.ChunkSource.goes_over c.args.source.now) c.args.reader (Key key))
+    (λ key. TellsFirstOf g.S.ChunkSource.stands (g.S.ChunkSource.goes_over c.args.source.now)
+    c.args.reader (Key key))
     way leaf is (written_records c.args.form (puts leaf))
     (bytes_more c.args.form inv.dump.lists leaf) c.write_leaf.new.sink c.in_err-write_leaf.field-0.0 c.in_err-write_leaf.ensures.err)
 
@@ -95,8 +90,8 @@ returns-in_err-next-clause-dumped g c =
     c.from_residual-in_err-next.ensures.1 in
     rw (p.1, p.2) (leaf_wants g.W.Sink.seen c.args.reader.version c.args.reader.root []
     EndsEmpty (written_pairs c.args.form) next c.args.sink.now c.loop-next.sink inv.dump
-    (λ key. MayRefuseOf g.S.ChunkSource.is_place (g.S.ChunkSource.has c.args.source.now)
-    g.S.ChunkSource.stands (g.S.ChunkSource.goes_over c.args.source.now) c.args.reader (Key key))
+    (λ key. TellsFirstOf g.S.ChunkSource.stands (g.S.ChunkSource.goes_over c.args.source.now)
+    c.args.reader (Key key))
     way leaf is (written_records c.args.form (puts leaf))
     (bytes_more c.args.form inv.dump.lists leaf) c.write_leaf.new.sink c.in_ok-write_leaf.ensures.ok c.write_leaf.ensures.keeping)
 
@@ -127,8 +122,8 @@ loop-next-preserved g c =
       root = c.in_ok-seek_on.ensures.looked.of.1 ∙ inv.root;
       dump = goes_on g.W.Sink.seen c.args.reader.version c.args.reader.root [] EndsEmpty
           (written_pairs c.args.form) next c.args.sink.now c.loop-next.sink inv.dump
-          (λ key. MayRefuseOf g.S.ChunkSource.is_place (g.S.ChunkSource.has c.args.source.now)
-          g.S.ChunkSource.stands (g.S.ChunkSource.goes_over c.args.source.now) c.args.reader (Key key))
+          (λ key. TellsFirstOf g.S.ChunkSource.stands (g.S.ChunkSource.goes_over c.args.source.now)
+          c.args.reader (Key key))
           way leaf is (written_records c.args.form (puts leaf))
           (bytes_more c.args.form inv.dump.lists leaf) c.write_leaf.new.sink
           c.in_ok-write_leaf.ensures.ok c.write_leaf.ensures.keeping c.in_ok-next.next.items
@@ -136,11 +131,8 @@ loop-next-preserved g c =
           (c.in_ok-next.ensures.behind ∙ ap next_key c.in-Some.ensures.key.1);
       bytes = subst AreBytes (sym c.in_ok-next.ensures.behind)
           (next_bytes c.in-Some.last.now (all_bytes c.in-Some.last.now c.key_behind.ensures.bytes));
-      reads = c.in_ok-seek_on.ensures.looked.reads ∙ inv.reads;
-      keeps = λ content has. c.in_ok-seek_on.ensures.looked.keeps content (inv.keeps content has);
-      opened = λ content has opened. c.in_ok-seek_on.ensures.looked.kept content (inv.keeps content has)
-          (inv.opened content has opened);
-      goes = λ file goes. c.in_ok-seek_on.ensures.tells.goes file (inv.goes file goes);
-      stands = λ file goes opened. c.in_ok-seek_on.ensures.tells.kept file (inv.goes file goes)
+      reads = c.in_ok-seek_on.ensures.looked.asked.1 ∙ inv.reads;
+      goes = λ file goes. c.in_ok-seek_on.ensures.looked.asked.0 file (inv.goes file goes);
+      stands = λ file goes opened. c.in_ok-seek_on.ensures.looked.kept file (inv.goes file goes)
           (inv.stands file goes opened);
     }

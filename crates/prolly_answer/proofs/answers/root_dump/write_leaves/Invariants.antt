@@ -1,9 +1,8 @@
 use Rattle.std.proofs.Common.{◌≡◌, []}
-use Rattle.prolly_look_up.specs.Content.{Content}
 use Rattle.prolly_look_up.specs.ScanWay.{EndsEmpty}
 use Rattle.prolly_root.specs.ChunkFile.{ChunkFile}
 use Rattle.prolly_root.specs.ChunkSource.{GoesOverStill}
-use Rattle.prolly_root.specs.Reader.{IsReaderIn, IsReaderOf}
+use Rattle.prolly_root.specs.Reader.{IsReaderIn}
 use Rattle.prolly_answer.specs.RootDumps.{written_pairs}
 use Rattle.prolly_answer.proofs.KeyRanks.{AreBytes, room_above}
 use Rattle.prolly_answer.proofs.RootSteps.{IsUnderWay}
@@ -17,11 +16,6 @@ invariant-loop-next g l = record {
       (written_pairs l.form) l.next.items l.initial.sink l.sink;
   bytes : AreBytes l.next.items;
   reads : g.S.ChunkSource.failures l.source ≡ g.S.ChunkSource.failures l.initial.source;
-  keeps : (content : Content) → g.S.ChunkSource.has l.initial.source content →
-      g.S.ChunkSource.has l.source content;
-  opened : (content : Content) → g.S.ChunkSource.has l.initial.source content →
-      IsReaderOf g.S.ChunkSource.is_place content l.fn.reader →
-      IsReaderOf g.S.ChunkSource.is_place content l.reader;
   goes : GoesOverStill g.S.ChunkSource.goes_over l.initial.source l.source;
   stands : (file : ChunkFile) → g.S.ChunkSource.goes_over l.initial.source file →
       IsReaderIn g.S.ChunkSource.stands file l.fn.reader →

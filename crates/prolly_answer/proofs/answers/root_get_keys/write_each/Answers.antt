@@ -2,7 +2,7 @@ use Rattle.std.proofs.Common.{◌∙◌, arith, option_map, refl, sym}
 use Rattle.std.proofs.lemmas.Result.{err_from_is_err_and}
 use Rattle.std.specs.Option.{option_copied}
 use Rattle.prolly_root.specs.Reader.{way_of}
-use Rattle.prolly_answer.specs.RootFaults.{MayRefuseFirstOf}
+use Rattle.prolly_answer.specs.RootFaults.{TellsFirstKeyOf}
 use Rattle.prolly_answer.proofs.KeySteps.{asking_begins, asking_cut_off, asking_fails, asks_on}
 use Rattle.prolly_answer.proofs.KeySteps.{way_found}
 use Rattle.prolly_answer.proofs.RootFaultSteps.{told_of}
@@ -15,8 +15,6 @@ loop-key-init g c = record {
   asking = asking_begins g.W.Sink.seen c.args.reader.version c.args.reader.root c.args.notation
       (λ k. k.items) c.args.keys.now c.args.sink.now;
   reads = refl;
-  keeps = λ content has. has;
-  opened = λ content has opened. opened;
   goes = λ file goes. goes;
   stands = λ file goes opened. opened;
 }
@@ -27,17 +25,14 @@ returns-in_err-value-clause-found g c =
     let p = err_from_is_err_and c.from_residual.result c.from_residual.ensures.1 in
     rw (p.1, p.2) (asking_fails g.W.Sink.seen c.args.reader.version c.args.reader.root
     c.args.notation (λ k. k.items) c.args.keys.now
-    (MayRefuseFirstOf g.S.ChunkSource.is_place (g.S.ChunkSource.has c.args.source.now)
-    g.S.ChunkSource.stands (g.S.ChunkSource.goes_over c.args.source.now) c.args.reader)
+    (TellsFirstKeyOf g.S.ChunkSource.stands (g.S.ChunkSource.goes_over c.args.source.now)
+    c.args.reader)
     c.loop-key.key-index c.args.sink.now c.loop-key.sink inv.asking c.key-item.result (omega arith)
-    c.key-item.is c.deref.result.now c.deref.ensures.value c.in_err-value.field-0.0 (λ left. (
-      λ content has opened. c.in_err-value.ensures.looked.lawful content (inv.keeps content has)
-          (inv.opened content has opened),
-      λ file goes opened. told_of c.args.reader c.loop-key.reader c.deref.result.now
-          c.deref.result.now inv.version inv.root refl file
-          (c.in_err-value.ensures.tells.tells file (inv.goes file goes)
-          (inv.stands file goes opened)),
-    )))
+    c.key-item.is c.deref.result.now c.deref.ensures.value c.in_err-value.field-0.0
+    (λ left. (λ file goes opened. told_of c.args.reader c.loop-key.reader c.deref.result.now
+    c.deref.result.now inv.version inv.root refl file
+    (c.in_err-value.ensures.looked.tells file
+    (inv.goes file goes) (inv.stands file goes opened)))))
 
 pub returns-in_err-write_found-clause-found : goal.returns-in_err-write_found-clause-found
 returns-in_err-write_found-clause-found g c =
@@ -52,8 +47,8 @@ returns-in_err-write_found-clause-found g c =
     c.in_ok-value.ensures.found in
     rw (p.1, p.2) (asking_cut_off g.W.Sink.seen c.args.reader.version c.args.reader.root
     c.args.notation (λ k. k.items) c.args.keys.now
-    (MayRefuseFirstOf g.S.ChunkSource.is_place (g.S.ChunkSource.has c.args.source.now)
-    g.S.ChunkSource.stands (g.S.ChunkSource.goes_over c.args.source.now) c.args.reader)
+    (TellsFirstKeyOf g.S.ChunkSource.stands (g.S.ChunkSource.goes_over c.args.source.now)
+    c.args.reader)
     c.loop-key.key-index c.args.sink.now c.loop-key.sink inv.asking c.key-item.result (omega arith)
     c.key-item.is c.deref-in-loop-key.result.now c.deref-in-loop-key.ensures.value
     (option_copied c.as_deref.result) (way_of c.get.new.self) one c.write_found.new.sink
@@ -73,18 +68,15 @@ loop-key-preserved g c =
       root = c.in_ok-value.ensures.looked.of.1 ∙ inv.root;
       asking = asks_on g.W.Sink.seen c.args.reader.version c.args.reader.root c.args.notation
           (λ k. k.items) c.args.keys.now
-          (MayRefuseFirstOf g.S.ChunkSource.is_place (g.S.ChunkSource.has c.args.source.now)
-          g.S.ChunkSource.stands (g.S.ChunkSource.goes_over c.args.source.now) c.args.reader)
+          (TellsFirstKeyOf g.S.ChunkSource.stands (g.S.ChunkSource.goes_over c.args.source.now)
+          c.args.reader)
           c.loop-key.key-index c.args.sink.now c.loop-key.sink inv.asking c.key-item.result
           (omega arith) c.key-item.is c.deref-in-loop-key.result.now
           c.deref-in-loop-key.ensures.value (option_copied c.as_deref.result)
           (way_of c.get.new.self) one c.write_found.new.sink c.in_ok-write_found.ensures.ok
           c.write_found.ensures.keeping;
-      reads = c.in_ok-value.ensures.looked.reads ∙ inv.reads;
-      keeps = λ content has. c.in_ok-value.ensures.looked.keeps content (inv.keeps content has);
-      opened = λ content has opened. c.in_ok-value.ensures.looked.kept content (inv.keeps content has)
-          (inv.opened content has opened);
-      goes = λ file goes. c.in_ok-value.ensures.tells.goes file (inv.goes file goes);
-      stands = λ file goes opened. c.in_ok-value.ensures.tells.kept file (inv.goes file goes)
+      reads = c.in_ok-value.ensures.looked.asked.1 ∙ inv.reads;
+      goes = λ file goes. c.in_ok-value.ensures.looked.asked.0 file (inv.goes file goes);
+      stands = λ file goes opened. c.in_ok-value.ensures.looked.kept file (inv.goes file goes)
           (inv.stands file goes opened);
     }

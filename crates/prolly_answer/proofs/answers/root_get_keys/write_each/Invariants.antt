@@ -1,8 +1,7 @@
 use Rattle.std.proofs.Common.{◌≡◌}
-use Rattle.prolly_look_up.specs.Content.{Content}
 use Rattle.prolly_root.specs.ChunkFile.{ChunkFile}
 use Rattle.prolly_root.specs.ChunkSource.{GoesOverStill}
-use Rattle.prolly_root.specs.Reader.{IsReaderIn, IsReaderOf}
+use Rattle.prolly_root.specs.Reader.{IsReaderIn}
 use Rattle.prolly_answer.proofs.KeySteps.{IsAsking}
 use Rattle.prolly_answer.proofs.answers.root_get_keys.write_each.Given as goal
 
@@ -13,11 +12,6 @@ invariant-loop-key g l = record {
   asking : IsAsking g.W.Sink.seen l.fn.reader.version l.fn.reader.root l.notation (λ k. k.items)
       l.keys l.key-index l.initial.sink l.sink;
   reads : g.S.ChunkSource.failures l.source ≡ g.S.ChunkSource.failures l.initial.source;
-  keeps : (content : Content) → g.S.ChunkSource.has l.initial.source content →
-      g.S.ChunkSource.has l.source content;
-  opened : (content : Content) → g.S.ChunkSource.has l.initial.source content →
-      IsReaderOf g.S.ChunkSource.is_place content l.fn.reader →
-      IsReaderOf g.S.ChunkSource.is_place content l.reader;
   goes : GoesOverStill g.S.ChunkSource.goes_over l.initial.source l.source;
   stands : (file : ChunkFile) → g.S.ChunkSource.goes_over l.initial.source file →
       IsReaderIn g.S.ChunkSource.stands file l.fn.reader →

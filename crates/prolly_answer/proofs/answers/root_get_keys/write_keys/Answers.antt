@@ -1,6 +1,6 @@
-use Rattle.std.proofs.Common.{inr, map}
+use Rattle.std.proofs.Common.{map}
 use Rattle.std.proofs.lemmas.Result.{err_from_is_err_and}
-use Rattle.prolly_answer.specs.RootFaults.{MayRefuseFirst, MayRefuseFirstOf}
+use Rattle.prolly_answer.specs.RootFaults.{MayRefuseFirst, TellsFirstKeyOf}
 use Rattle.prolly_answer.proofs.RootFaultSteps.{keys_not_opened, keys_told_of}
 use Rattle.prolly_answer.proofs.KeySteps.{keys_refused, keys_told}
 use Rattle.prolly_answer.proofs.answers.root_get_keys.write_keys.Goals as goal
@@ -10,11 +10,10 @@ returns-in_err-reader-clause-found g c =
     let p = err_from_is_err_and c.from_residual.result c.from_residual.ensures.1 in
     rw (p.1, p.2) (keys_refused g.W.Sink.seen c.args.version c.args.root.now.0 c.args.notation
     (map (λ k. k.items) c.args.keys.now)
-    (MayRefuseFirst (g.S.ChunkSource.has c.args.source.now)
-    (g.S.ChunkSource.goes_over c.args.source.now) c.args.version c.args.root.now.0)
+    (MayRefuseFirst (g.S.ChunkSource.goes_over c.args.source.now) c.args.version c.args.root.now.0)
     c.in_err-reader.field-0.0 c.args.sink.now
-    (keys_not_opened (map (λ k. k.items) c.args.keys.now)
-    (λ content has same root. inr (c.in_err-reader.ensures.lawful content has same root))
+    (keys_not_opened c.args.version c.args.root.now.0 c.lawful_files_are_read.ensures
+    (map (λ k. k.items) c.args.keys.now)
     c.in_err-reader.ensures.tells))
 
 pub returns-clause-found : goal.returns-clause-found
@@ -22,16 +21,11 @@ returns-clause-found g c =
     let reader = c.in_ok-reader.reader in
     keys_told g.W.Sink.seen c.args.version c.args.root.now.0 c.args.notation
     (map (λ k. k.items) c.args.keys.now)
-    (MayRefuseFirst (g.S.ChunkSource.has c.args.source.now)
-    (g.S.ChunkSource.goes_over c.args.source.now) c.args.version c.args.root.now.0)
-    (MayRefuseFirstOf g.S.ChunkSource.is_place (g.S.ChunkSource.has c.open.new.source)
-    g.S.ChunkSource.stands (g.S.ChunkSource.goes_over c.open.new.source) reader)
+    (MayRefuseFirst (g.S.ChunkSource.goes_over c.args.source.now) c.args.version c.args.root.now.0)
+    (TellsFirstKeyOf g.S.ChunkSource.stands (g.S.ChunkSource.goes_over c.open.new.source) reader)
     reader.version reader.root c.args.sink.now c.write_each-outcome.new.sink c.settled.new.sink
     c.write_each-outcome.result c.settled.result c.write_each-outcome.ensures.found
     c.in_ok-reader.ensures.of c.write_each-outcome.ensures.keeping c.settled.ensures
-    (λ left fault may. keys_told_of reader c.in_ok-reader.ensures.of left fault
-    (λ content has same root. (
-      c.in_ok-reader.ensures.keeps content has,
-      c.in_ok-reader.ensures.kept content has same root,
-    )) c.in_ok-reader.ensures.goes
+    (λ left fault may. keys_told_of reader c.in_ok-reader.ensures.of
+    c.lawful_files_are_read.ensures left fault c.in_ok-reader.ensures.asked.0
     c.in_ok-reader.ensures.tells may)

@@ -4,7 +4,7 @@ use Rattle.prolly_look_up.specs.ScanWay.{next_key}
 use Rattle.prolly_root.specs.Reader.{way_of}
 use Rattle.prolly_answer.specs.LookUps.{pair_lines}
 use Rattle.prolly_look_up.specs.Sought.Sought.{Key}
-use Rattle.prolly_answer.specs.RootFaults.{MayRefuseOf}
+use Rattle.prolly_answer.specs.RootFaults.{TellsFirstOf}
 use Rattle.prolly_answer.specs.RootScans.{AreEnough, limited_lines}
 use Rattle.prolly_answer.proofs.RootFaultSteps.{told_of}
 use Rattle.prolly_answer.proofs.RootSteps.{begins, goes_on, leaf_fills, leaf_found, leaf_unwritten}
@@ -20,8 +20,8 @@ returns-in_err-next-clause-scanned g c =
     rw (p.1, p.2) (wants_first g.W.Sink.seen c.args.reader.version c.args.reader.root
     c.args.scan.now.from.now (AreEnough c.args.scan.now.limit)
     (limited_lines c.args.scan.now.notation c.args.scan.now.limit)
-    (λ key. MayRefuseOf g.S.ChunkSource.is_place (g.S.ChunkSource.has c.args.source.now)
-    g.S.ChunkSource.stands (g.S.ChunkSource.goes_over c.args.source.now) c.args.reader (Key key))
+    (λ key. TellsFirstOf g.S.ChunkSource.stands (g.S.ChunkSource.goes_over c.args.source.now)
+    c.args.reader (Key key))
     c.args.sink.now (take_none c.args.scan.now.notation c.args.scan.now.limit))
 
 pub loop-next-init : goal.loop-next-init
@@ -38,8 +38,6 @@ loop-next-init g c = record {
     c.requires,
   );
   reads = refl;
-  keeps = λ content has. has;
-  opened = λ content has opened. opened;
   goes = λ file goes. goes;
   stands = λ file goes opened. opened;
 }
@@ -53,16 +51,13 @@ returns-in_err-seek_on-clause-scanned g c =
     c.args.scan.now.from.now (AreEnough c.args.scan.now.limit)
     (limited_lines c.args.scan.now.notation c.args.scan.now.limit) c.loop-next.next.items
     c.args.sink.now c.loop-next.sink inv.scan.0
-    (λ key. MayRefuseOf g.S.ChunkSource.is_place (g.S.ChunkSource.has c.args.source.now)
-    g.S.ChunkSource.stands (g.S.ChunkSource.goes_over c.args.source.now) c.args.reader (Key key))
-    c.in_err-seek_on.field-0.0 (
-      λ content has opened. c.in_err-seek_on.ensures.looked.lawful content
-          (inv.keeps content has) (inv.opened content has opened),
-      λ file goes opened. told_of c.args.reader c.loop-next.reader c.loop-next.next.items
-          c.deref.result.now inv.version inv.root c.deref.ensures.value file
-          (c.in_err-seek_on.ensures.tells.tells file (inv.goes file goes)
-          (inv.stands file goes opened)),
-    ))
+    (λ key. TellsFirstOf g.S.ChunkSource.stands (g.S.ChunkSource.goes_over c.args.source.now)
+    c.args.reader (Key key))
+    c.in_err-seek_on.field-0.0
+    (λ file goes opened. told_of c.args.reader c.loop-next.reader c.loop-next.next.items
+    c.deref.result.now inv.version inv.root c.deref.ensures.value file
+    (c.in_err-seek_on.ensures.looked.tells file
+    (inv.goes file goes) (inv.stands file goes opened))))
 
 pub returns-in_default-clause-scanned : goal.returns-in_default-clause-scanned
 returns-in_default-clause-scanned g c =
@@ -79,8 +74,8 @@ returns-in_default-clause-scanned g c =
     seek_ends g.W.Sink.seen c.args.reader.version c.args.reader.root c.args.scan.now.from.now
     (AreEnough limit) (limited_lines notation limit) next c.args.sink.now c.loop-next.sink
     inv.scan.0
-    (λ key. MayRefuseOf g.S.ChunkSource.is_place (g.S.ChunkSource.has c.args.source.now)
-    g.S.ChunkSource.stands (g.S.ChunkSource.goes_over c.args.source.now) c.args.reader (Key key))
+    (λ key. TellsFirstOf g.S.ChunkSource.stands (g.S.ChunkSource.goes_over c.args.source.now)
+    c.args.reader (Key key))
     way leaf is (pair_lines notation (take left leaf))
     (lines_more notation limit left inv.scan.0.lists leaf inv.scan.1 inv.scan.2)
     (inr (none_behind inv.scan.0.lists leaf c.in_default.ensures.key))
@@ -104,8 +99,8 @@ returns-in_err-left-clause-scanned g c =
     rw (p.1, p.2) (leaf_unwritten g.W.Sink.seen c.args.reader.version c.args.reader.root c.args.scan.now.from.now
     (AreEnough limit) (limited_lines notation limit) next c.args.sink.now c.loop-next.sink
     inv.scan.0
-    (λ key. MayRefuseOf g.S.ChunkSource.is_place (g.S.ChunkSource.has c.args.source.now)
-    g.S.ChunkSource.stands (g.S.ChunkSource.goes_over c.args.source.now) c.args.reader (Key key))
+    (λ key. TellsFirstOf g.S.ChunkSource.stands (g.S.ChunkSource.goes_over c.args.source.now)
+    c.args.reader (Key key))
     way leaf is (pair_lines notation (take left leaf))
     (lines_more notation limit left inv.scan.0.lists leaf inv.scan.1 inv.scan.2)
     c.write_leaf.new.sink c.in_err-left.field-0.0 c.in_err-left.ensures.err)
@@ -125,8 +120,8 @@ returns-then-left-eq0-clause-scanned g c =
     leaf_fills g.W.Sink.seen c.args.reader.version c.args.reader.root c.args.scan.now.from.now
     (AreEnough limit) (limited_lines notation limit) next c.args.sink.now c.loop-next.sink
     inv.scan.0
-    (λ key. MayRefuseOf g.S.ChunkSource.is_place (g.S.ChunkSource.has c.args.source.now)
-    g.S.ChunkSource.stands (g.S.ChunkSource.goes_over c.args.source.now) c.args.reader (Key key))
+    (λ key. TellsFirstOf g.S.ChunkSource.stands (g.S.ChunkSource.goes_over c.args.source.now)
+    c.args.reader (Key key))
     way leaf is (pair_lines notation (take left leaf))
     (lines_more notation limit left inv.scan.0.lists leaf inv.scan.1 inv.scan.2)
     c.write_leaf.new.sink c.in_ok-left.ensures.ok c.write_leaf.ensures.keeping
@@ -150,8 +145,8 @@ returns-in_err-next-2-clause-scanned g c =
     rw (p.1, p.2) (leaf_wants g.W.Sink.seen c.args.reader.version c.args.reader.root c.args.scan.now.from.now
     (AreEnough limit) (limited_lines notation limit) next c.args.sink.now c.loop-next.sink
     inv.scan.0
-    (λ key. MayRefuseOf g.S.ChunkSource.is_place (g.S.ChunkSource.has c.args.source.now)
-    g.S.ChunkSource.stands (g.S.ChunkSource.goes_over c.args.source.now) c.args.reader (Key key))
+    (λ key. TellsFirstOf g.S.ChunkSource.stands (g.S.ChunkSource.goes_over c.args.source.now)
+    c.args.reader (Key key))
     way leaf is (pair_lines notation (take left leaf))
     (lines_more notation limit left inv.scan.0.lists leaf inv.scan.1 inv.scan.2)
     c.write_leaf.new.sink c.in_ok-left.ensures.ok c.write_leaf.ensures.keeping)
@@ -184,8 +179,8 @@ loop-next-preserved g c =
         goes_on g.W.Sink.seen c.args.reader.version c.args.reader.root c.args.scan.now.from.now
             (AreEnough limit) (limited_lines notation limit) next c.args.sink.now c.loop-next.sink
             inv.scan.0
-            (λ key. MayRefuseOf g.S.ChunkSource.is_place (g.S.ChunkSource.has c.args.source.now)
-            g.S.ChunkSource.stands (g.S.ChunkSource.goes_over c.args.source.now) c.args.reader (Key key))
+            (λ key. TellsFirstOf g.S.ChunkSource.stands
+            (g.S.ChunkSource.goes_over c.args.source.now) c.args.reader (Key key))
             way leaf is (pair_lines notation (take left leaf))
             (lines_more notation limit left inv.scan.0.lists leaf inv.scan.1 inv.scan.2)
             c.write_leaf.new.sink c.in_ok-left.ensures.ok c.write_leaf.ensures.keeping
@@ -197,11 +192,8 @@ loop-next-preserved g c =
         c.in_ok-left.ensures.left ∙ are_left limit left lists leaf inv.scan.1,
         omega (arith, c.if-left-eq0.false),
       );
-      reads = c.in_ok-seek_on.ensures.looked.reads ∙ inv.reads;
-      keeps = λ content has. c.in_ok-seek_on.ensures.looked.keeps content (inv.keeps content has);
-      opened = λ content has opened. c.in_ok-seek_on.ensures.looked.kept content (inv.keeps content has)
-          (inv.opened content has opened);
-      goes = λ file goes. c.in_ok-seek_on.ensures.tells.goes file (inv.goes file goes);
-      stands = λ file goes opened. c.in_ok-seek_on.ensures.tells.kept file (inv.goes file goes)
+      reads = c.in_ok-seek_on.ensures.looked.asked.1 ∙ inv.reads;
+      goes = λ file goes. c.in_ok-seek_on.ensures.looked.asked.0 file (inv.goes file goes);
+      stands = λ file goes opened. c.in_ok-seek_on.ensures.looked.kept file (inv.goes file goes)
           (inv.stands file goes opened);
     }

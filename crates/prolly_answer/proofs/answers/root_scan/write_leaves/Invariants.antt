@@ -1,9 +1,8 @@
 use Rattle.std.proofs.Common.{◌≡◌, ◌-◌, ◌<◌, length}
-use Rattle.prolly_look_up.specs.Content.{Content}
 use Rattle.prolly_look_up.specs.ScanWay.{joined}
 use Rattle.prolly_root.specs.ChunkFile.{ChunkFile}
 use Rattle.prolly_root.specs.ChunkSource.{GoesOverStill}
-use Rattle.prolly_root.specs.Reader.{IsReaderIn, IsReaderOf}
+use Rattle.prolly_root.specs.Reader.{IsReaderIn}
 use Rattle.prolly_answer.specs.RootScans.{AreEnough, limited_lines}
 use Rattle.prolly_answer.proofs.RootSteps.{IsUnderWay}
 use Rattle.prolly_answer.proofs.answers.root_scan.write_leaves.Given as goal
@@ -16,11 +15,6 @@ invariant-loop-next g l = record {
       (AreEnough l.fn.scan.limit) (limited_lines l.fn.scan.notation l.fn.scan.limit) l.next.items
       l.initial.sink l.sink) × (l.left ≡ l.fn.scan.limit - length (joined s.lists)) × (0 < l.left);
   reads : g.S.ChunkSource.failures l.source ≡ g.S.ChunkSource.failures l.initial.source;
-  keeps : (content : Content) → g.S.ChunkSource.has l.initial.source content →
-      g.S.ChunkSource.has l.source content;
-  opened : (content : Content) → g.S.ChunkSource.has l.initial.source content →
-      IsReaderOf g.S.ChunkSource.is_place content l.fn.reader →
-      IsReaderOf g.S.ChunkSource.is_place content l.reader;
   goes : GoesOverStill g.S.ChunkSource.goes_over l.initial.source l.source;
   stands : (file : ChunkFile) → g.S.ChunkSource.goes_over l.initial.source file →
       IsReaderIn g.S.ChunkSource.stands file l.fn.reader →

@@ -23,7 +23,7 @@ returns-clause-lawful g c content has same l is =
     let met : map met_of c.in_ok-met.met.items ≡ map seen_met (met_in (λ c. c.key) 0
     (Some (set_of c.args.self.due.set)) (children_in c.args.version (drop 1 chunk))) =
     rw (behind_first chunk) at c.in_ok-met.ensures in
-    c.locate.ensures.lawful content has (children_there g.S.ChunkSource.is_place content
+    c.locate.ensures.lawful content has (children_there g.S.ChunkSource.stands content
     c.tops_are_read.ensures.child c.tops_are_read.ensures.read l.at.level l.at.t
     (set_of c.args.self.due.set) chunk c.args.self.place (map met_of c.in_ok-met.met.items)
     l.at.below l.at.stands is high (subst (λ version. map met_of c.in_ok-met.met.items ≡

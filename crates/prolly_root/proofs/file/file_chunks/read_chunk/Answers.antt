@@ -1,7 +1,7 @@
 use Rattle.std.proofs.Common.{◌≡◌, ◌∙◌, length, ap, arith, drop, take}
 use Rattle.std.proofs.lemmas.List.{length-take-le}
 use Rattle.prolly_root.specs.ChunkFile.{nth_in}
-use Rattle.prolly_root.proofs.Subtrees.{chunk_there, read_whole}
+use Rattle.prolly_root.proofs.FileBytes.{chunk_there, read_whole}
 use Rattle.prolly_root.proofs.file.file_chunks.read_chunk.Goals as goal
 
 pub returns-then-count-len-clause-is : goal.returns-then-count-len-clause-is

@@ -3,8 +3,7 @@ use Rattle.std.specs.List.{AllByRecursion}
 use Rattle.prolly_look_up.specs.Sought.{sought_of}
 use Rattle.prolly_look_up.specs.Way.{IsNamed}
 use Rattle.prolly_entry.specs.lemmas.Lists.{all_append}
-use Rattle.prolly_root.specs.Descent.{GoesOnAt, IsKeptOf, IsOnward, IsTested, StandsInPlace}
-use Rattle.prolly_root.specs.Descent.{StepsDown, chunks_on_way}
+use Rattle.prolly_root.specs.Descent.{GoesOnAt, IsKeptOf, IsOnward, IsTested, chunks_on_way}
 use Rattle.prolly_root.specs.LookUpFault.{at_root}
 use Rattle.prolly_root.specs.declared.root_fault.RootFault.TheVariants.{Memory}
 use Rattle.prolly_root.proofs.Descending.{Descended, asked_on, handed_on, less_room, next_kept}
@@ -22,19 +21,14 @@ returns-in_err-chunk g c =
     let fault = c.in_err-chunk.field-0.0 in
     rw (handed_on fault c.from_residual.result c.from_residual.ensures) (record {
       found = tt;
-      lawful = λ content has same top keeps.
-          let on = before.lawful content has same top keeps in
-          c.in_err-chunk.ensures.lawful content (before.asked.0 content has) same
-          (next_kept (StandsInPlace g.S.ChunkSource.is_place content)
-          _ _ _ c.next.ensures.items on.left).0 on.at;
       tells = λ file goes top keeps.
           let come = before.tells file goes top keeps in
           stops g.S.ChunkSource.stands c.args.version file _ _ come
-          (c.in_err-chunk.ensures.tells file come.at (before.goes file goes)
+          (c.in_err-chunk.ensures.tells file come.at (before.asked.0 file goes)
           (next_kept (IsKeptOf g.S.ChunkSource.stands file) _ _ _ c.next.ensures.items
           come.kept_there).0 come.due_at);
-      goes = λ file goes. c.in_err-chunk.ensures.goes file (before.goes file goes);
-      asked = asked_on {T = Unit {0}} g.S.ChunkSource.has g.S.ChunkSource.failures (Err fault) before.asked
+      asked = asked_on {T = Unit {0}} g.S.ChunkSource.goes_over g.S.ChunkSource.failures (Err fault)
+          before.asked
           c.in_err-chunk.ensures.asked;
     })
 
@@ -44,44 +38,35 @@ returns-in_err-onward g c =
     let at = c.in_ok-chunk.ensures in
     let stepped = c.in_err-onward.ensures in
     let fault = c.in_err-onward.field-0.0 in
-    let has = g.S.ChunkSource.has in
+    let over = g.S.ChunkSource.goes_over in
     let failures = g.S.ChunkSource.failures in
     rw (handed_on fault c.from_residual-in_err-onward.result
     c.from_residual-in_err-onward.ensures) (record {
       found = tt;
-      lawful = λ content h same top keeps.
-          let on = before.lawful content h same top keeps in
-          let kept = at.lawful content (before.asked.0 content h) same
-          (next_kept (StandsInPlace g.S.ChunkSource.is_place content)
-          _ _ _ c.next.ensures.items on.left).0 on.at in
-          (stepped.lawful content (at.asked.0 content (before.asked.0 content h)) same kept).1;
       tells = λ file goes top keeps.
           let stands = g.S.ChunkSource.stands in
           let come = before.tells file goes top keeps in
-          let there = at.tells file come.at (before.goes file goes)
+          let there = at.tells file come.at (before.asked.0 file goes)
           (next_kept (IsKeptOf stands file) _ _ _ c.next.ensures.items come.kept_there).0
           come.due_at in
           let due = has_due stands c.args.version file _ _ come at.is there in
           stops stands c.args.version file _ _ come
-          (stepped.tells file come.at (at.goes file (before.goes file goes)) there due
+          (stepped.tells file come.at (at.asked.0 file (before.asked.0 file goes)) there due
           come.due_at.sought).1;
-      goes = λ file goes. stepped.goes file (at.goes file (before.goes file goes));
-      asked = asked_on {T = Unit {0}} has failures (Err fault)
-          (asked_on {T = Unit {0}} has failures (Ok tt) before.asked at.asked) stepped.asked;
+      asked = asked_on {T = Unit {0}} over failures (Err fault)
+          (asked_on {T = Unit {0}} over failures (Ok tt) before.asked at.asked) stepped.asked;
     })
 
 pub returns-in_err-keep : goal.returns-in_err-keep
 returns-in_err-keep g c =
-    let has = g.S.ChunkSource.has in
+    let over = g.S.ChunkSource.goes_over in
     let failures = g.S.ChunkSource.failures in
     rw (handed_on Memory c.from_residual-in_err-keep.result
     c.from_residual-in_err-keep.ensures) (record {
       found = tt;
-      lawful = λ content h same top keeps. inl refl;
       tells = λ file goes top keeps. inl (inl refl);
-      goes = λ file goes. c.in_ok-onward.ensures.goes file (c.in_ok-chunk.ensures.goes file
-          (c.loop-levels.invariant.goes file goes));
-      asked = asked_on {T = Unit {0}} has failures (Ok tt) (asked_on {T = Unit {0}} has failures (Ok tt)
+      asked = asked_on {T = Unit {0}} over failures (Ok tt)
+          (asked_on {T = Unit {0}} over failures (Ok tt)
           c.loop-levels.invariant.asked c.in_ok-chunk.ensures.asked) c.in_ok-onward.ensures.asked;
     })
 
@@ -109,19 +94,6 @@ returns-in-End-clause-found g c =
           (stepped.level, tt));
     }
 
-pub returns-in-End-clause-lawful : goal.returns-in-End-clause-lawful
-returns-in-End-clause-lawful g c content has same top keeps =
-    let P = StandsInPlace g.S.ChunkSource.is_place content in
-    let before = c.loop-levels.invariant in
-    let on = before.lawful content has same top keeps in
-    let next = next_kept P _ _ _ c.next.ensures.items on.left in
-    let had = before.asked.0 content has in
-    let kept = c.in_ok-chunk.ensures.lawful content had same next.0 on.at in
-    let later = c.in_ok-onward.ensures.lawful content
-    (c.in_ok-chunk.ensures.asked.0 content had) same kept in
-    subst (AllByRecursion P) (sym c.in_ok-keep.ensures)
-    (all_append P c.loop-levels.levels.items (c.step.new.self ∷ []) on.met (later.0, tt))
-
 pub returns-in-End-clause-tells : goal.returns-in-End-clause-tells
 returns-in-End-clause-tells g c file goes top keeps =
     let stands = g.S.ChunkSource.stands in
@@ -129,10 +101,11 @@ returns-in-End-clause-tells g c file goes top keeps =
     let before = c.loop-levels.invariant in
     let at = c.in_ok-chunk.ensures in
     let come = before.tells file goes top keeps in
-    let there = at.tells file come.at (before.goes file goes)
+    let there = at.tells file come.at (before.asked.0 file goes)
     (next_kept P _ _ _ c.next.ensures.items come.kept_there).0 come.due_at in
     let due = has_due stands c.args.version file _ _ come at.is there in
-    let later = c.in_ok-onward.ensures.tells file come.at (at.goes file (before.goes file goes)) there
+    let later = c.in_ok-onward.ensures.tells file come.at
+    (at.asked.0 file (before.asked.0 file goes)) there
     due come.due_at.sought in (
       subst (AllByRecursion P) (sym c.in_ok-keep.ensures)
           (all_append P c.loop-levels.levels.items (c.step.new.self ∷ []) come.met_there
@@ -141,10 +114,6 @@ returns-in-End-clause-tells g c file goes top keeps =
           (subst (IsOnward c.args.version (sought_of c.loop-levels.due.sought)
           c.in_ok-chunk.chunk.chunk.items) c.in-End.is c.in_ok-onward.ensures.is),
     )
-
-pub returns-in-End-clause-goes : goal.returns-in-End-clause-goes
-returns-in-End-clause-goes g c file goes = c.in_ok-onward.ensures.goes file
-    (c.in_ok-chunk.ensures.goes file (c.loop-levels.invariant.goes file goes))
 
 pub loop-levels-preserved : goal.loop-levels-preserved
 loop-levels-preserved g c =
@@ -170,33 +139,20 @@ loop-levels-preserved g c =
           (all_append (IsTested version) above (c.step.new.self ∷ []) before.tested
           (stepped.level, tt));
       kept = (next_kept (IsTested version) _ _ _ c.next.ensures.items before.kept).1;
-      asked = asked_on {T = Unit {0}} g.S.ChunkSource.has g.S.ChunkSource.failures (Ok tt)
-          (asked_on {T = Unit {0}} g.S.ChunkSource.has g.S.ChunkSource.failures (Ok tt) before.asked
+      asked = asked_on {T = Unit {0}} g.S.ChunkSource.goes_over g.S.ChunkSource.failures (Ok tt)
+          (asked_on {T = Unit {0}} g.S.ChunkSource.goes_over g.S.ChunkSource.failures (Ok tt)
+          before.asked
           c.in_ok-chunk.ensures.asked) stepped.asked;
-      lawful = λ content has same top keeps.
-          let P = StandsInPlace g.S.ChunkSource.is_place content in
-          let on = before.lawful content has same top keeps in
-          let next = next_kept P _ _ _ c.next.ensures.items on.left in
-          let kept = c.in_ok-chunk.ensures.lawful content (before.asked.0 content has) same next.0
-          on.at in
-          let late = c.in_ok-chunk.ensures.asked.0 content (before.asked.0 content has) in
-          let down = stepped.lawful content late same kept in record {
-            at = subst (StepsDown g.S.ChunkSource.is_place content) c.in-Below.is down.1;
-            met = subst (AllByRecursion P) (sym more)
-                (all_append P above (c.step.new.self ∷ []) on.met (down.0, tt));
-            left = next.1;
-          };
-      goes = λ file goes. stepped.goes file (c.in_ok-chunk.ensures.goes file
-          (before.goes file goes));
       tells = λ file goes top keeps.
           let stands = g.S.ChunkSource.stands in
           let P = IsKeptOf stands file in
           let at = c.in_ok-chunk.ensures in
           let come = before.tells file goes top keeps in
           let next = next_kept P _ _ _ c.next.ensures.items come.kept_there in
-          let there = at.tells file come.at (before.goes file goes) next.0 come.due_at in
+          let there = at.tells file come.at (before.asked.0 file goes) next.0 come.due_at in
           let due = has_due stands version file _ _ come at.is there in
-          let later = stepped.tells file come.at (at.goes file (before.goes file goes)) there due
+          let later = stepped.tells file come.at (at.asked.0 file (before.asked.0 file goes)) there
+          due
           come.due_at.sought in
           comes_on stands version file _ _ come
           (subst (GoesOnAt stands version file come.at) c.in-Below.is later.1)
@@ -209,10 +165,7 @@ loop-levels-init g c = rw (c.new-levels.ensures.items, c.into_iter-kept.ensures.
   way = record { lead = (refl, refl); down = tt; above = refl };
   tested = tt;
   kept = c.requires;
-  asked = (λ content has. has, refl);
-  lawful = λ content has same top keeps.
-      record { at = record { at = top; falls = tt }; met = tt; left = keeps };
-  goes = λ file goes. goes;
+  asked = (λ file goes. goes, refl);
   tells = λ file goes top keeps. record {
     steps = [];
     at = at_root file c.args.root.now.0 (sought_of c.args.sought);
@@ -234,6 +187,6 @@ loop-levels-smaller g c =
 
 pub returns-in-End-clause-asked : goal.returns-in-End-clause-asked
 returns-in-End-clause-asked g c =
-    asked_on {T = Unit {0}} g.S.ChunkSource.has g.S.ChunkSource.failures (Ok tt)
-    (asked_on {T = Unit {0}} g.S.ChunkSource.has g.S.ChunkSource.failures (Ok tt)
+    asked_on {T = Unit {0}} g.S.ChunkSource.goes_over g.S.ChunkSource.failures (Ok tt)
+    (asked_on {T = Unit {0}} g.S.ChunkSource.goes_over g.S.ChunkSource.failures (Ok tt)
     c.loop-levels.invariant.asked c.in_ok-chunk.ensures.asked) c.in_ok-onward.ensures.asked

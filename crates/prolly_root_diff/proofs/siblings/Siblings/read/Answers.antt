@@ -1,6 +1,7 @@
 use Rattle.std.proofs.Common.{ap, rules, subst, ◌∙◌}
 use Rattle.prolly_look_up.specs.Way.{FallsTo}
 use Rattle.prolly_root.specs.RootFault.{MayFail}
+use Rattle.prolly_root.specs.lemmas.LawfulFiles.{has_still}
 use Rattle.prolly_root_diff.proofs.Subtrees.{same_level, stands_below}
 use Rattle.prolly_root_diff.proofs.siblings.Siblings.read.Goals as goal
 
@@ -13,8 +14,8 @@ pub returns-in_err-chunk-clause-lawful : goal.returns-in_err-chunk-clause-lawful
 returns-in_err-chunk-clause-lawful g c content has same at =
     let found = c.in_ok-place.ensures.lawful content has same at in
     let only : MayFail c.in_err-chunk.field-0.0 =
-    c.in_err-chunk.ensures.lawful content (c.find.ensures.asked.0 content has) same
-    (stands_below g.S.ChunkSource.is_place content c.find.new.self.next.0
+    c.in_err-chunk.ensures.lawful content (has_still c.find.ensures.asked.0 has) same
+    (stands_below g.S.ChunkSource.stands content c.find.new.self.next.0
     c.args.self.now.next.0 c.in_ok-place.place (ap (λ r. r.0) c.find.ensures.same.next)
     c.above-above.result _ (c.above-above.ensures ∙ same_level c.args.self.now.parent
     c.find.new.self.parent c.find.ensures.same.above) found.1) in
@@ -26,8 +27,8 @@ returns-clause-lawful g c content has same at =
       found.0,
       record {
         at = found.1.at;
-        is = c.in_ok-chunk.ensures.lawful content (c.find.ensures.asked.0 content has) same
-            (stands_below g.S.ChunkSource.is_place content c.find.new.self.next.0
+        is = c.in_ok-chunk.ensures.lawful content (has_still c.find.ensures.asked.0 has) same
+            (stands_below g.S.ChunkSource.stands content c.find.new.self.next.0
             c.args.self.now.next.0 c.in_ok-place.place (ap (λ r. r.0) c.find.ensures.same.next)
             c.above-above.result _ (c.above-above.ensures ∙ same_level c.args.self.now.parent
             c.find.new.self.parent c.find.ensures.same.above) found.1);

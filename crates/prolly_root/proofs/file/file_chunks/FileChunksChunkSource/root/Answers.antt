@@ -1,8 +1,6 @@
 use Rattle.std.proofs.Common.{refl, ◌∙◌}
-use Rattle.prolly_root.specs.ChunkFile.{chunk_file}
 use Rattle.prolly_root.proofs.Descending.{handed_on}
-use Rattle.prolly_root.proofs.Sources.{finds_only, frames_told, header_told, holds_again}
-use Rattle.prolly_root.proofs.Subtrees.{root_is_place}
+use Rattle.prolly_root.proofs.Sources.{frames_told, header_told}
 use Rattle.prolly_root.proofs.Walking.{holds_chunks_still}
 use Rattle.prolly_root.proofs.file.file_chunks.FileChunksChunkSource.root.Goals as goal
 
@@ -13,12 +11,6 @@ returns-in_err-below-clause-finds g c file goes =
     rw (handed_on c.in_err-below.field-0.0 c.from_residual.result c.from_residual.ensures)
     (header_told c.args.version file (c.in_err-below.ensures.begins file goes.0.0))
 
-pub returns-in_err-below-clause-place : goal.returns-in_err-below-clause-place
-returns-in_err-below-clause-place g c content has same =
-    rw (handed_on c.in_err-below.field-0.0 c.from_residual.result c.from_residual.ensures)
-    (finds_only has.0.is same (header_told c.args.version (chunk_file content)
-    (c.in_err-below.ensures.begins (chunk_file content) has.1.0.0)))
-
 -- ---- or the frames
 
 pub returns-in_err-frame-clause-finds : goal.returns-in_err-frame-clause-finds
@@ -28,15 +20,6 @@ returns-in_err-frame-clause-finds g c file goes =
     c.from_residual-in_err-frame.ensures)
     (frames_told c.args.version file first.0 (c.in_err-frame.ensures.last file
     (holds_chunks_still c.in_ok-below.ensures.read.0 goes.0.0) first.2 first.1))
-
-pub returns-in_err-frame-clause-place : goal.returns-in_err-frame-clause-place
-returns-in_err-frame-clause-place g c content has same =
-    let file = chunk_file content in
-    let first = c.in_ok-below.ensures.begins file has.1.0.0 in
-    rw (handed_on c.in_err-frame.field-0.0 c.from_residual-in_err-frame.result
-    c.from_residual-in_err-frame.ensures)
-    (finds_only has.0.is same (frames_told c.args.version file first.0 (c.in_err-frame.ensures.last file
-    (holds_chunks_still c.in_ok-below.ensures.read.0 has.1.0.0) first.2 first.1)))
 
 -- ---- or the root is found
 
@@ -55,37 +38,15 @@ returns-clause-finds g c file goes =
       },
     )
 
-pub returns-clause-place : goal.returns-clause-place
-returns-clause-place g c content has same =
-    let file = chunk_file content in
-    let first = c.in_ok-below.ensures.begins file has.1.0.0 in
-    let last = c.in_ok-frame.ensures.last file
-    (holds_chunks_still c.in_ok-below.ensures.read.0 has.1.0.0) first.2 first.1 in
-    (root_is_place content _ first.2 first.1 last.1 last.2, tt)
-
 pub returns-clause-asked : goal.returns-clause-asked
 returns-clause-asked g c =
     let below = c.in_ok-below.ensures in
     let last = c.in_ok-frame.ensures in (
-      λ content has.
-          let file = chunk_file content in
-          let held = holds_chunks_still below.read.0 has.1.0.0 in
-          let first = below.begins file has.1.0.0 in (
-            holds_again has.0 (holds_chunks_still last.read.0 held),
-            (
-              (holds_chunks_still last.read.0 held, (last.last file held first.2 first.1).3),
-              has.1.1,
-            ),
+      λ file goes.
+          let held = holds_chunks_still below.read.0 goes.0.0 in
+          let first = below.begins file goes.0.0 in (
+            (holds_chunks_still last.read.0 held, (last.last file held first.2 first.1).3),
+            goes.1,
           ),
       last.read.1 ∙ below.read.1,
-    )
-
-pub returns-clause-goes : goal.returns-clause-goes
-returns-clause-goes g c file goes =
-    let below = c.in_ok-below.ensures in
-    let last = c.in_ok-frame.ensures in
-    let held = holds_chunks_still below.read.0 goes.0.0 in
-    let first = below.begins file goes.0.0 in (
-      (holds_chunks_still last.read.0 held, (last.last file held first.2 first.1).3),
-      goes.1,
     )

@@ -2,7 +2,8 @@ use Rattle.std.proofs.Common.{◌≡◌, refl, subst, sym, arith}
 use Rattle.prolly_root.specs.Subtree.{FindsNth}
 use Rattle.prolly_root.specs.Walk.{IsBehind}
 use Rattle.prolly_root.proofs.Descending.{handed_on}
-use Rattle.prolly_root.proofs.Subtrees.{behind_next, nth_next, misses}
+use Rattle.prolly_root.specs.lemmas.Levels.{behind_next, nth_next}
+use Rattle.prolly_root.proofs.Sources.{misses}
 use Rattle.prolly_root.proofs.Walking.{holds_chunks_still, reads_on}
 use Rattle.prolly_root.proofs.file.subtree.Subtree.child.Goals as goal
 

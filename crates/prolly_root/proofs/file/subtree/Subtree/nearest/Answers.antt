@@ -1,6 +1,6 @@
 use Rattle.std.proofs.Common.{subst}
 use Rattle.prolly_root.specs.Subtree.{KeepsLastChild}
-use Rattle.prolly_root.proofs.Subtrees.{suc_behind}
+use Rattle.prolly_root.specs.lemmas.Levels.{suc_behind}
 use Rattle.prolly_root.proofs.file.subtree.Subtree.nearest.Goals as goal
 
 pub returns-in-Some-default-clause-reached : goal.returns-in-Some-default-clause-reached

@@ -1,38 +1,7 @@
-use Rattle.std.proofs.Common.{Ok, Err, refl, rules}
-use Rattle.prolly_look_up.specs.Sought.{sought_of}
+use Rattle.std.proofs.Common.{refl}
 use Rattle.prolly_root.proofs.Descending.{handed_on}
-use Rattle.prolly_root.proofs.FaultSteps.{lacks, one_below, steps_to}
-use Rattle.prolly_root.proofs.LawfulSteps.{level_read, steps_down}
+use Rattle.prolly_root.proofs.FaultSteps.{lacks, level_read, one_below, steps_to}
 use Rattle.prolly_root.proofs.look_up.chunk_on_way.ChunkOnWay.step.Goals as goal
-
-pub returns-in_err-place-clause-lawful : goal.returns-in_err-place-clause-lawful
-returns-in_err-place-clause-lawful g c content has same kept =
-    let level = level_read c.args.version c.args.self.now.chunk.items _
-    c.requires.named.ordered.whole c.index-level.ensures in
-    let down = steps_down g.S.ChunkSource.is_place content c.tops_are_read.ensures.child
-    c.tops_are_read.ensures.read c.args.version same c.args.self.now _ refl refl kept
-    (sought_of c.args.sought) c.in-Some.child c.in-Some.ensures.on c.index-level.result.now level
-    (Err c.in_err-place.field-0.0) (record {
-      node = λ ts. c.in_err-place.ensures.node content ts has;
-      child = λ ts t. c.in_err-place.ensures.place content ts t has;
-    }) in
-    (down.0, search rules)
-
-pub returns-clause-lawful : goal.returns-clause-lawful
-returns-clause-lawful g c content has same kept =
-    let level = level_read c.args.version c.args.self.now.chunk.items _
-    c.requires.named.ordered.whole c.index-level.ensures in
-    steps_down g.S.ChunkSource.is_place content c.tops_are_read.ensures.child
-    c.tops_are_read.ensures.read c.args.version same c.args.self.now _ refl refl kept
-    (sought_of c.args.sought) c.in-Some.child c.in-Some.ensures.on c.index-level.result.now level
-    (Ok c.in_ok-place.place) (record {
-      node = λ ts. c.in_ok-place.ensures.node content ts has;
-      child = λ ts t. c.in_ok-place.ensures.place content ts t has;
-    })
-
-pub returns-in_default-clause-lawful : goal.returns-in_default-clause-lawful
-returns-in_default-clause-lawful g c content has same kept =
-    (record { at = kept.at; is = kept.is }, tt)
 
 pub returns-in_err-place-clause-tells : goal.returns-in_err-place-clause-tells
 returns-in_err-place-clause-tells g c file at goes here due asked =

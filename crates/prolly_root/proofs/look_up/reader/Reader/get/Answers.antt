@@ -4,7 +4,6 @@ use Rattle.prolly_look_up.specs.lemmas.HeldPairs.{held_rise}
 use Rattle.prolly_tree.specs.LookUp.{find}
 use Rattle.prolly_tree.specs.lemmas.Maps.{rises}
 use Rattle.prolly_root.proofs.Descending.{find_from, finds, hands_on, looks_up_so, some_way}
-use Rattle.prolly_root.proofs.Descending.{hands_on_in, looks_up_in_so}
 use Rattle.prolly_root.proofs.look_up.reader.Reader.get.Goals as goal
 
 pub leaf_from-requires : goal.leaf_from-requires
@@ -14,17 +13,9 @@ pub returns-in_err-descend-clause-looked : goal.returns-in_err-descend-clause-lo
 returns-in_err-descend-clause-looked g c = looks_up_so c.in_err-descend.field-0.0
     c.from_residual.result c.from_residual.ensures c.in_err-descend.ensures.looked
 
-pub returns-in_err-descend-clause-tells : goal.returns-in_err-descend-clause-tells
-returns-in_err-descend-clause-tells g c = looks_up_in_so c.in_err-descend.field-0.0
-    c.from_residual.result c.from_residual.ensures c.in_err-descend.ensures.tells
-
 pub returns-clause-looked : goal.returns-clause-looked
 returns-clause-looked g c = hands_on c.first_value-value.result c.hand_on.result c.hand_on.ensures.ok
     c.hand_on.ensures.err c.in_ok-descend.ensures.looked
-
-pub returns-clause-tells : goal.returns-clause-tells
-returns-clause-tells g c = hands_on_in c.first_value-value.result c.hand_on.result c.hand_on.ensures.ok
-    c.hand_on.ensures.err c.in_ok-descend.ensures.tells
 
 pub returns-clause-found : goal.returns-clause-found
 returns-clause-found g c =

@@ -5,7 +5,6 @@ use Rattle.prolly_look_up.specs.Sought.Sought.{Number}
 use Rattle.prolly_look_up.specs.Way.{IsCountWay, IsWayTo, nth_sought}
 use Rattle.prolly_root.specs.Reader.{way_of}
 use Rattle.prolly_root.proofs.Descending.{all_from, finds, hands_on, looks_up_so, some_way}
-use Rattle.prolly_root.proofs.Descending.{hands_on_in, looks_up_in_so}
 use Rattle.prolly_root.proofs.look_up.reader.Reader.nth.Goals as goal
 
 pub leaf_from-requires : goal.leaf_from-requires
@@ -15,17 +14,9 @@ pub returns-in_err-there-clause-looked : goal.returns-in_err-there-clause-looked
 returns-in_err-there-clause-looked g c = looks_up_so c.in_err-there.field-0.0
     c.from_residual.result c.from_residual.ensures c.in_err-there.ensures.looked
 
-pub returns-in_err-there-clause-tells : goal.returns-in_err-there-clause-tells
-returns-in_err-there-clause-tells g c = looks_up_in_so c.in_err-there.field-0.0
-    c.from_residual.result c.from_residual.ensures c.in_err-there.ensures.tells
-
 pub returns-clause-looked : goal.returns-clause-looked
 returns-clause-looked g c = hands_on c.copy_of-pair.result c.hand_on.result c.hand_on.ensures.ok
     c.hand_on.ensures.err c.in_ok-there.ensures.looked
-
-pub returns-clause-tells : goal.returns-clause-tells
-returns-clause-tells g c = hands_on_in c.copy_of-pair.result c.hand_on.result c.hand_on.ensures.ok
-    c.hand_on.ensures.err c.in_ok-there.ensures.tells
 
 pub returns-clause-found : goal.returns-clause-found
 returns-clause-found g c =

@@ -4,24 +4,15 @@ use Rattle.prolly_root.specs.ProofFile.{IsSomeProof, proof_file}
 use Rattle.prolly_root.specs.Reader.{way_of}
 use Rattle.prolly_tree.specs.LookUp.{find}
 use Rattle.prolly_root.proofs.Descending.{finds, hands_on, looks_up_so}
-use Rattle.prolly_root.proofs.Descending.{hands_on_in, looks_up_in_so}
 use Rattle.prolly_root.proofs.look_up.reader.Reader.prove.Goals as goal
 
 pub returns-in_err-descend-clause-looked : goal.returns-in_err-descend-clause-looked
 returns-in_err-descend-clause-looked g c = looks_up_so c.in_err-descend.field-0.0
     c.from_residual.result c.from_residual.ensures c.in_err-descend.ensures.looked
 
-pub returns-in_err-descend-clause-tells : goal.returns-in_err-descend-clause-tells
-returns-in_err-descend-clause-tells g c = looks_up_in_so c.in_err-descend.field-0.0
-    c.from_residual.result c.from_residual.ensures c.in_err-descend.ensures.tells
-
 pub returns-clause-looked : goal.returns-clause-looked
 returns-clause-looked g c = hands_on c.proof-proof.result c.hand_on.result c.hand_on.ensures.ok
     c.hand_on.ensures.err c.in_ok-descend.ensures.looked
-
-pub returns-clause-tells : goal.returns-clause-tells
-returns-clause-tells g c = hands_on_in c.proof-proof.result c.hand_on.result c.hand_on.ensures.ok
-    c.hand_on.ensures.err c.in_ok-descend.ensures.tells
 
 pub returns-clause-proves : goal.returns-clause-proves
 returns-clause-proves g c =
