@@ -8,11 +8,12 @@ import tempfile
 from functools import partial
 from pathlib import Path
 
-from cases.look_ups import LONG, NUMBERS, leaf
+from cases.look_ups import LONG, NUMBERS, assembled, leaf
 from cases.proofs import BAD_ROOT, Asked, cut, node, random_key, some_pairs, turned_bits
 from cases.scratch import ABC
 from oracle.proof import BAD_HEADER, FRAME_SIZE, HEADER, HEADER_SIZE, MORE, TRUNCATED, WRONG_VERSION, another, bad_chunk, bad_frame, out_of_order, proof_of, wrong_level
 from oracle.range_proof import chunks_met, range_proof_of, range_proof_of_chunks, read_range_proof, within
+from oracle.reader import MISSING
 from oracle.trees import chunk_file, reference, reference_text, tree
 from support.by_root import lines_of
 from support.harness import BAD_KEY, BAD_TEXT_KEY, FOLDER, Case
@@ -258,6 +259,9 @@ def prove_cases():
     by_root = ["prove", "--root", reference_text(top.reference), *words[1:]]
     turned = chunk_file(ABC, 0).replace(leaf(ABC[1]), leaf((b"b", b"2")))
     number = [part.chunk for part in top.trees()].index(leaf(ABC[1]))
+    two = node(1, (b"a", leaf(ABC[0])), (b"b", leaf(ABC[1])))
+    lacking = {"in.prl": assembled([leaf((b"a", b"2")), two], bytes(20)), "p": old}
+    of_two = ["prove", "--root", reference_text(reference(two)), "in.prl", "p", "--from", "61"]
     return [
         Case("prove --from: a range", words, before=good, after={"p": proof}),
         Case("prove --from: without an end", ["prove", "in.prl", "p", "--from", "61"], before=good, after={"p": range_proof_of(top, b"a", None, 1)}),
@@ -275,6 +279,8 @@ def prove_cases():
         Case("prove --from --root", by_root, before=good, after={"p": proof}),
         Case("prove --from --root: a chunk is another, and OUT is as it was", by_root, status=4, err=f"prolly: chunk file: {another(number)}\n".encode(), before={"in.prl": turned, "p": old}),
         Case("prove --from --root: a chunk elsewhere is another", [*by_root[:3], "--from", "61", "--to", "62", "in.prl", "p"], before={"in.prl": chunk_file(ABC, 0).replace(leaf(ABC[2]), leaf((b"c", b"2")))}, after={"p": range_proof_of(top, b"a", b"b", 1)}),
+        Case("prove --from --root: a child is missing, and the one before it is another", of_two, status=4, err=f"prolly: chunk file: {MISSING}\n".encode(), before=lacking),
+        Case("prove --from --root: no key is sought in the child that is missing", [*of_two, "--to", "61"], status=4, err=f"prolly: chunk file: {another(0)}\n".encode(), before=lacking),
     ]
 
 

@@ -10,6 +10,7 @@ use Rattle.prolly_entry.specs.Pair.{Pair, IsPair}
 use Rattle.prolly_entry.specs.declared.version.Version.{Version}
 use Rattle.prolly_io.specs.Frame.{IsSmall}
 use Rattle.prolly_io.specs.Sink.{IsSettled, SinkView}
+use Rattle.prolly_range.specs.SetFault.{TellsFirst}
 use Rattle.prolly_range.specs.KeySet.{KeySet, is_before}
 use Rattle.prolly_range.specs.KeySet.KeySet.{Keys, Range}
 use Rattle.prolly_range.specs.Prover.{MayFailTo, MayStop, TellsSink, TellsSource, WritesPart}
@@ -71,6 +72,13 @@ abbrev pub RefusesNoProof : (ChunkFile → Type 0) → Version → List ℕ → 
 RefusesNoProof goes_over version root fault = (content : Content) → IsLawful content →
     goes_over (chunk_file content) → version ≡ content.version →
     root ≡ root_reference (sha512_cut content.bits) content.version content.pairs → MayFailTo fault
+
+-- Why the proof of a set of keys is refused to who names the root: of the file that the source goes
+-- over what is wrong first is told, but for a failed write, a failed read, or want of memory; and a
+-- lawful file of the root is not refused.
+abbrev pub MayRefuseProof : (ChunkFile → Type 0) → Version → List ℕ → KeySet → ProveFault → Type 0
+MayRefuseProof goes_over version root set fault = RefusesNoProof goes_over version root fault ×
+    ((file : ChunkFile) → goes_over file → TellsFirst version file root set fault)
 
 -- What happens to a source of chunks and to a sink: how many calls of the source had failed before
 -- and after, and how the sink was seen before and after.

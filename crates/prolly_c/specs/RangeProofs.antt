@@ -12,16 +12,19 @@ use Rattle.prolly_entry.specs.declared.version.Version.{Version}
 use Rattle.prolly_io.specs.Frame.{IsSmall}
 use Rattle.prolly_range.specs.KeySet.{KeySet, pairs_wanted}
 use Rattle.prolly_range.specs.KeySet.KeySet.{Range}
+use Rattle.prolly_range.specs.SetFault.{IsFirstSetFault}
 use Rattle.prolly_range.specs.SetProof.{AreTaken, Due, IsSetProof, ShowsClash, pairs_there}
 use Rattle.prolly_range.specs.SetProof.{root_due, set_file}
 use Rattle.prolly_range.specs.Start.{IsSetStartFault}
 use Rattle.prolly_range.specs.Verifier.{IsProofFault}
 use Rattle.prolly_range.specs.declared.fault.SetFault.{SetFault}
 use Rattle.prolly_range.specs.declared.fault.SetFault.TheVariants as sets
+use Rattle.prolly_root.specs.ChunkFile.{ChunkFile}
+use Rattle.prolly_root.specs.declared.root_fault.RootFault.{RootFault}
 use Rattle.prolly_root.specs.declared.proof.fault.ProofFault.{ProofFault}
 use Rattle.prolly_tree.specs.Events.{greatest_count}
 use Rattle.prolly_c.specs.Cursor.{IsAt, first_place}
-use Rattle.prolly_c.specs.Proofs.{status_of_proof}
+use Rattle.prolly_c.specs.Proofs.{status_of_proof, status_of_root}
 use Rattle.prolly_c.specs.Runs.{AreRuns, runs_in}
 use Rattle.prolly_c.specs.declared.run.Run.{Run}
 
@@ -53,7 +56,17 @@ pub record HasRangeProof (version : ℕ) (root : List ℕ) (set : KeySet) (count
   pub proves : ProvesRange version root set bytes
   pub many : count ≡ length bytes
 
--- So they are, and the runs hold the pairs that they show.
+-- The status is that of the first fault of the file for the proof of such a set, where the version
+-- is the number of one, and this is the chunk that it names.
+pub record TellsFirstOfRange (version : ℕ) (file : ChunkFile) (root : List ℕ) (set : KeySet)
+    (status chunk : ℕ) : Type 0 where
+  pub format : Version
+  pub format_is : version_byte format ≡ version
+  pub fault : RootFault
+  pub first : IsFirstSetFault format file root set fault
+  pub is : status_of_root fault ≡ (status, chunk)
+
+-- The bytes are such a proof, and the runs hold the pairs that they show.
 pub record ShowsRange (version : ℕ) (root : List ℕ) (set : KeySet) (bytes : List ℕ)
     (runs : List Run) : Type 0 where
   pub format : Version

@@ -5,7 +5,9 @@ ghost use Rattle.prolly_entry.specs.Version.{version_byte};
 ghost use Rattle.prolly_tree.specs.File.{root_reference};
 ghost use Rattle.prolly_look_up.specs.Content.{Content, IsFileOf};
 ghost use Rattle.prolly_c.specs.Proofs.{TellsFault};
-ghost use Rattle.prolly_c.specs.RangeProofs.{HasRangeProof, ProvesRange, range_of};
+ghost use Rattle.prolly_root.specs.ChunkFile.{ChunkFile, IsCut};
+ghost use Rattle.prolly_c.specs.RangeProofs.{HasRangeProof, ProvesRange, TellsFirstOfRange};
+ghost use Rattle.prolly_c.specs.RangeProofs.{range_of};
 
 use crate::prover::range_proof_in;
 use crate::put::put_bytes;
@@ -46,6 +48,9 @@ pub extern "C" fn prolly_prove_range(
         (result ≡ 0) ⊎ ((result ≡ 2) ⊎ (result ≡ 3)) }
     ensures refused { (result ≡ 0) ⊎ ((result ≡ 2) ⊎ ((result ≡ 3) ⊎ ((result ≡ 6) ⊎
         TellsFault result chunk.new))) }
+    ensures first { (file : ChunkFile) → file.bytes ≡ bytes.now → IsCut file → 6 < result →
+        TellsFirstOfRange version file root.now (range_of from.now to.now bounded) result
+        chunk.new }
     ensures stays { result ≢ 0 → out.new ≡ out.old }
     ensures uncounted { result ≢ 0 → result ≢ 3 → count.new ≡ count.old }
     ensures unnamed { result ≤ 6 → chunk.new ≡ chunk.old }

@@ -9,6 +9,7 @@ ghost use Rattle.prolly_root.specs.LookUpFault.{IsFirstFault};
 ghost use Rattle.prolly_root.specs.ProofFile.{IsSomeProof};
 ghost use Rattle.prolly_root.specs.declared.root_fault.RootFault.TheVariants.{Memory, Read};
 ghost use Rattle.prolly_range.specs.KeySet.{set_of};
+ghost use Rattle.prolly_range.specs.SetFault.{IsFirstSetFault};
 ghost use Rattle.prolly_c.specs.RangeProofs.{IsSomeRangeProof};
 
 use crate::gathered::Gathered;
@@ -63,6 +64,9 @@ pub(crate) fn range_proof_in(
         content.version ≡ version →
         root.now.0 ≡ root_reference (sha512_cut content.bits) content.version content.pairs →
         IfErr result (λ fault. fault ≡ Memory) }
+    ensures first { (file : ChunkFile) → file.bytes ≡ bytes.now → IsCut file →
+        IfErr result (λ fault. (fault ≡ Memory) ⊎
+        IsFirstSetFault version file root.now.0 (set_of set.entry) fault) }
     ensures unread { IfErr result (λ fault. fault ≢ Read) }
 {
     let mut chunks = FileChunks::new(InMemory::new(bytes));

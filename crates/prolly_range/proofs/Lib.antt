@@ -16,6 +16,10 @@ mod Accepting
 mod Weights
 -- Where the chunks that are due stand in a lawful tree.
 mod Locating
+-- Where the chunks that are due stand in a chunk file of any bytes.
+mod Finds
+-- That one fault is the first.
+mod OneSetFault
 -- Writing the chunks of a proof, one after another.
 mod Writing
 -- What is known of a key from the pairs that were shown.

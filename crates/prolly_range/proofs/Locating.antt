@@ -35,7 +35,8 @@ module _ {T : Type 0} (stands_at : ChunkFile → T → ℕ → ℕ → Type 0)
 
   found_at : (level : ℕ) (met : SeenMet) (ts : List (Tree (level - 1))) → 0 < level →
       (there : IsChildThere content (level - 1) ts met) → (found : Result T RootFault) →
-      IsOrFails (IsTreePlace stands_at content (level - 1) there.t) OnlyRead found → FoundAt met level found
+      IsOrFails (IsTreePlace stands_at content (level - 1) there.t) OnlyRead found →
+      FoundAt met level found
   found_at level met ts high there (Ok place) stands = record {
     at = record {
       level = level - 1;
@@ -108,7 +109,8 @@ module _ {T : Type 0} (stands_at : ChunkFile → T → ℕ → ℕ → Type 0)
   pub children_there : ((version : Version) → ChildIsTree version) →
       ((version : Version) → TopIsRead version) → (level : ℕ) (t : Tree level) (set : KeySet)
       (chunk : List ℕ) (place : T) (met : List SeenMet) →
-      IsTreeOf content.version (chunks_of content) level t → IsTreePlace stands_at content level t place →
+      IsTreeOf content.version (chunks_of content) level t →
+      IsTreePlace stands_at content level t place →
       chunk ≡ bytes_of content.version level t → 0 < level_of chunk → met ≡ map seen_met
       (met_in (λ c. c.key) 0 (Some set) (children_in content.version (drop 1 chunk))) →
       AreChildrenThere stands_at content (level_of chunk - 1) place met

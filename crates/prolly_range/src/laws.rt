@@ -1,6 +1,7 @@
-//! Laws of proofs of sets of keys. They are the contract of a function that does nothing: to call it
-//! is to know the laws, and to prove the crate is to prove them.
+//! Laws of proofs of sets of keys, and of which fault is told. They are the contract of a function
+//! that does nothing: to call it is to know the laws, and to prove the crate is to prove them.
 ghost use Rattle.prolly_range.specs.Found.{KeysAreFound, ShownInOrder};
+ghost use Rattle.prolly_range.specs.SetFault.{SetFaultsAreOne};
 ghost use Rattle.prolly_range.specs.SetProof.{SetProofsAreRight, TakenAreRight};
 
 use prolly_look_up::laws::tops_are_read;
@@ -24,4 +25,10 @@ pub fn keys_are_found()
 /// What chunks show of a list of keys comes in the order of the list, whatever the chunks are.
 pub fn shown_in_order()
     ensures { ShownInOrder }
+{}
+
+/// For the proof of a set of keys one fault of a chunk file is the first, and there is none where
+/// the file has all chunks of the proof.
+pub fn set_faults_are_one()
+    ensures { SetFaultsAreOne }
 {}

@@ -1,18 +1,22 @@
 //! The chunks that are due, and where they stand.
-ghost use Rattle.std.specs.Prelude.{◌≡◌, ◌<◌, ◌-◌, ◌++◌, ◌∷◌, [], map, IfOk, OnOk};
+ghost use Rattle.std.specs.Prelude.{◌≡◌, ◌<◌, ◌-◌, ◌++◌, ◌∷◌, ◌⊎◌, ℕ, [], map, IfOk, OnOk};
 ghost use Rattle.std.specs.List.{AllByRecursion};
 ghost use Rattle.prolly_look_up.specs.Content.{Content};
 ghost use Rattle.prolly_look_up.specs.Entries.{IsWhole};
 ghost use Rattle.prolly_look_up.specs.Kinds.{kind_of};
 ghost use Rattle.prolly_look_up.specs.Way.{FallsTo, IsNamed, level_of};
+ghost use Rattle.prolly_root.specs.ChunkFile.{ChunkFile, nth_in};
 ghost use Rattle.prolly_root.specs.ChunkSource.{HasAsked, HasTree};
+ghost use Rattle.prolly_root.specs.LookUpFault.{IsFaultOfChunk};
 ghost use Rattle.prolly_root.specs.RootFault.{IsOrFails, MayFail};
 ghost use Rattle.prolly_tree.specs.Tree.{bytes_of};
 ghost use Rattle.prolly_range.specs.Children.{met_of};
 ghost use Rattle.prolly_range.specs.Dues.{seen_due};
 ghost use Rattle.prolly_range.specs.KeySet.{set_of};
 ghost use Rattle.prolly_range.specs.Prover.{AreChildrenThere, IsLocated, located_due};
+ghost use Rattle.prolly_range.specs.SetFault.{numbers_met};
 ghost use Rattle.prolly_range.specs.SetProof.{due_below};
+ghost use Rattle.prolly_range.specs.Standing.{AreFound, MayLack};
 
 use crate::children::{ChildMet, children_met};
 use crate::due::Due;
@@ -45,6 +49,10 @@ impl<'a, T: Copy + Drop> Located<'a, T> {
             version ≡ content.version → (l : IsLocated S.stands content self.now) →
             IsOrFails (λ chunk. chunk.items ≡ bytes_of content.version l.at.level l.at.t)
             MayFail result }
+        ensures tells { (file : ChunkFile) (n from : ℕ) → S.goes_over source.old file →
+            S.stands file self.now.place n from → IsOrFails (λ chunk. chunk.items ≡ nth_in file n)
+            (λ fault. MayFail fault ⊎ IsFaultOfChunk version self.now.due.reference.0
+            self.now.due.above (nth_in file n) n fault) result }
         ensures asked { HasAsked S.goes_over S.failures source.old source.new result }
     {
         let Due {
@@ -70,6 +78,12 @@ impl<'a, T: Copy + Drop> Located<'a, T> {
             version ≡ content.version → (l : IsLocated S.stands content self.entry) →
             chunk.now ≡ bytes_of content.version l.at.level l.at.t → IsOrFails (λ found.
             AllByRecursion (IsLocated S.stands content) found.items) MayFail result }
+        ensures tells { (file : ChunkFile) (n from : ℕ) → S.goes_over source.old file →
+            S.stands file self.entry.place n from → chunk.now ≡ nth_in file n →
+            IsOrFails (λ found. AreFound S.stands file (level_of (nth_in file n) - 1) from
+            (numbers_met (set_of self.entry.due.set) (kind_of version (nth_in file n))) found.items)
+            (MayLack file (level_of (nth_in file n) - 1) from
+            (numbers_met (set_of self.entry.due.set) (kind_of version (nth_in file n)))) result }
         ensures asked { HasAsked S.goes_over S.failures source.old source.new result }
     {
         // By this law the children of a chunk of a lawful tree are the tops of the trees below it.
@@ -97,6 +111,11 @@ fn locate<'a, T: Copy + Drop, S: ChunkSource<Place = T>>(
         AreChildrenThere S.stands content (level - 1) place (map met_of met.entry.items) →
         IsOrFails (λ found. AllByRecursion (IsLocated S.stands content) found.items)
         MayFail result }
+    ensures tells { (file : ChunkFile) (n from : ℕ) → S.goes_over source.old file →
+        S.stands file place n from → level ≡ level_of (nth_in file n) →
+        IsOrFails (λ found. AreFound S.stands file (level - 1) from
+        (map (λ m. m.number) (map met_of met.entry.items)) found.items)
+        (MayLack file (level - 1) from (map (λ m. m.number) (map met_of met.entry.items))) result }
     ensures asked { HasAsked S.goes_over S.failures source.old source.new result }
 {
     let mut found = VecDeque::new(alloc);

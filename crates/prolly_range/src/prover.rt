@@ -1,10 +1,13 @@
 //! Writing the proof of what a map has at the keys of a set.
-ghost use Rattle.std.specs.Prelude.{◌≡◌, ◌++◌, ◌∷◌, [], true, map, option_map, IfErr, IfOk, OnErr};
+ghost use Rattle.std.specs.Prelude.{◌≡◌, ◌++◌, ◌∷◌, ◌⊎◌, [], List, None, Some, true, map};
+ghost use Rattle.std.specs.Prelude.{option_map};
+ghost use Rattle.std.specs.Prelude.{IfErr, IfOk, OnErr};
 ghost use Rattle.std.specs.Prelude.{OnOk};
 ghost use Rattle.std.specs.List.{AllByRecursion};
 ghost use Rattle.prolly_look_up.specs.Content.{Content};
 ghost use Rattle.prolly_entry.specs.Cut.{sha512_cut};
 ghost use Rattle.prolly_io.specs.Sink.{IsSettled};
+ghost use Rattle.prolly_root.specs.ChunkFile.{ChunkFile, file_fault};
 ghost use Rattle.prolly_root.specs.ChunkSource.{GoesOverStill, HasAsked, HasTree};
 ghost use Rattle.prolly_root.specs.RootFault.{IsOrFails, MayFail};
 ghost use Rattle.prolly_tree.specs.File.{root_reference};
@@ -12,7 +15,9 @@ ghost use Rattle.prolly_range.specs.KeySet.{set_of};
 ghost use Rattle.prolly_range.specs.Prover.{IsLocated, MayFailTo, ProvesNext, TellsSink};
 ghost use Rattle.prolly_range.specs.Prover.{TellsSource};
 ghost use Rattle.prolly_range.specs.Prover.{WritesPart, WritesProof, WritesRest, located_due};
+ghost use Rattle.prolly_range.specs.SetFault.{DueAt, TellsSetFault, root_at};
 ghost use Rattle.prolly_range.specs.SetProof.{root_due, set_start};
+ghost use Rattle.prolly_range.specs.Standing.{StandAs, TellsNext, TellsRest};
 ghost use Rattle.prolly_range.specs.ToGo.{ComesNearer};
 
 use crate::due::Due;
@@ -50,9 +55,14 @@ pub fn prove_set<S: ChunkSource, W: Sink>(
         (set_start version) (W.seen sink.old) (W.seen sink.new)) }
 
     // A lawful tree with this root is never refused, and a failed read or write is told.
-    ensures lawful { (content : Content) → HasTree S.goes_over source.old content → version ≡ content.version →
+    ensures lawful { (content : Content) → HasTree S.goes_over source.old content →
+        version ≡ content.version →
         root.now.0 ≡ root_reference (sha512_cut content.bits) content.version content.pairs →
         IfErr result MayFailTo }
+
+    // Of a chunk file of any bytes what is wrong first is told.
+    ensures tells { (file : ChunkFile) → S.goes_over source.old file →
+        TellsSetFault version file root.now.0 (set_of set.entry) result }
     ensures goes { GoesOverStill S.goes_over source.old source.new }
     ensures reads { TellsSource (S.failures source.old) (S.failures source.new) result }
     ensures writes { TellsSink (W.seen sink.old).failures (W.seen sink.new).failures result }
@@ -74,9 +84,14 @@ fn whole_tree<'a, T: Copy + Drop, S: ChunkSource<Place = T>>(
 ) -> Result<VecDeque<Located<'a, T>>, RootFault>
     ensures due { IfOk result (λ due.
         map located_due due.items ≡ root_due root.now.0 (set_of set.entry) ∷ []) }
-    ensures lawful { (content : Content) → HasTree S.goes_over source.old content → version ≡ content.version →
+    ensures lawful { (content : Content) → HasTree S.goes_over source.old content →
+        version ≡ content.version →
         root.now.0 ≡ root_reference (sha512_cut content.bits) content.version content.pairs →
         IsOrFails (λ due. AllByRecursion (IsLocated S.stands content) due.items) MayFail result }
+    ensures tells { (file : ChunkFile) → S.goes_over source.old file → IsOrFails (λ due.
+        (file_fault version file ≡ None) × StandAs S.stands file due.items
+        (root_at file root.now.0 (set_of set.entry) ∷ []))
+        (λ fault. MayFail fault ⊎ (file_fault version file ≡ Some fault)) result }
     ensures asked { HasAsked S.goes_over S.failures source.old source.new result }
 {
     // By this law a lawful tree has the chunks that the root leads to.
@@ -115,8 +130,11 @@ fn write_chunks<'a, T: Copy + Drop, S: ChunkSource<Place = T>, W: Sink>(
     ensures part { OnErr result (WritesPart version (map located_due due.old.items) []
         (W.seen sink.old) (W.seen sink.new)) }
     ensures keeping { (W.seen sink.old).is_keeping ≡ true → (W.seen sink.new).is_keeping ≡ true }
-    ensures lawful { (content : Content) → HasTree S.goes_over source.old content → version ≡ content.version →
+    ensures lawful { (content : Content) → HasTree S.goes_over source.old content →
+        version ≡ content.version →
         AllByRecursion (IsLocated S.stands content) due.old.items → IfErr result MayFailTo }
+    ensures tells { (file : ChunkFile) (at : List DueAt) → S.goes_over source.old file →
+        StandAs S.stands file due.old.items at → TellsRest version file at result }
     ensures goes { GoesOverStill S.goes_over source.old source.new }
     ensures reads { TellsSource (S.failures source.old) (S.failures source.new) result }
     ensures writes { TellsSink (W.seen sink.old).failures (W.seen sink.new).failures result }
@@ -138,10 +156,14 @@ fn next_chunk<'a, T: Copy + Drop, S: ChunkSource<Place = T>>(
         (option_map (λ c. c.items) chunk) (map located_due due.new.items)) }
     ensures nearer { IfOk result (λ chunk. ComesNearer (map located_due due.old.items) chunk
         (map located_due due.new.items)) }
-    ensures lawful { (content : Content) → HasTree S.goes_over source.old content → version ≡ content.version →
+    ensures lawful { (content : Content) → HasTree S.goes_over source.old content →
+        version ≡ content.version →
         AllByRecursion (IsLocated S.stands content) due.old.items →
         IsOrFails (λ _. AllByRecursion (IsLocated S.stands content) due.new.items)
         MayFail result }
+    ensures tells { (file : ChunkFile) (at : List DueAt) → S.goes_over source.old file →
+        StandAs S.stands file due.old.items at →
+        TellsNext S.stands version file at due.new.items result }
     ensures asked { HasAsked S.goes_over S.failures source.old source.new result }
 {
     let Some(first) = due.pop_front() else {

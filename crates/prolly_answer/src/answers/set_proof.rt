@@ -4,7 +4,7 @@ ghost use Rattle.prolly_range.specs.KeySet.{set_of};
 ghost use Rattle.prolly_range.specs.declared.prove_fault.ProveFault.{ProveFault as ProveFaultValue};
 ghost use Rattle.prolly_answer.specs.LookUps.{ShowsFailedRead};
 ghost use Rattle.prolly_answer.specs.SetProofs.{IsProveSet, IsProveSetByRoot, IsStoppedByRoot};
-ghost use Rattle.prolly_answer.specs.SetProofs.{IsStoppedProof, RefusesNoProof};
+ghost use Rattle.prolly_answer.specs.SetProofs.{IsStoppedProof, MayRefuseProof};
 
 use prolly_check::{ChunkHasher, check_by};
 use prolly_entry::{Ref, Version};
@@ -68,7 +68,8 @@ pub fn answer_prove_set_by_root<S: ChunkSource, W: Sink>(
     sink: &mut W,
 ) -> Result<Answer, AllocError>
     ensures ok { IfOk result (IsProveSetByRoot
-        (RefusesNoProof (S.goes_over source.old) version root.now.0) version root.now.0
+        (MayRefuseProof (S.goes_over source.old) version root.now.0 (set_of set.entry)) version
+        root.now.0
         (set_of set.entry) (record {
           reads_before = S.failures source.old;
           reads_after = S.failures source.new;
@@ -76,7 +77,8 @@ pub fn answer_prove_set_by_root<S: ChunkSource, W: Sink>(
           sink_after = W.seen sink.new;
         })) }
     ensures err { OnErr result ((fault : ProveFaultValue) × IsStoppedByRoot
-        (RefusesNoProof (S.goes_over source.old) version root.now.0) version root.now.0
+        (MayRefuseProof (S.goes_over source.old) version root.now.0 (set_of set.entry)) version
+        root.now.0
         (set_of set.entry) (record {
           reads_before = S.failures source.old;
           reads_after = S.failures source.new;

@@ -1,13 +1,18 @@
-use Rattle.std.proofs.Common.{◌≡◌, ◌-◌, ◌++◌, ◌∷◌, ◌∙◌, [], List, ap, inr, map, rules, subst, sym}
+use Rattle.std.proofs.Common.{refl, ◌≡◌, ◌-◌, ◌++◌, ◌∷◌, ◌∙◌, [], List, ap, inr, map, rules, subst}
+use Rattle.std.proofs.Common.{sym}
+use Rattle.std.proofs.lemmas.List.{nil_from_length}
 use Rattle.prolly_entry.specs.lemmas.Lists.{all_append}
 use Rattle.prolly_root.specs.ChunkFile.{chunk_file}
 use Rattle.prolly_root.specs.Descent.{StandsBelow}
 use Rattle.prolly_root.specs.RootFault.{MayFail, OnlyRead}
 use Rattle.std.specs.List.{AllByRecursion}
-use Rattle.std.proofs.Common.{Some}
+use Rattle.std.proofs.Common.{refl, Some}
 use Rattle.prolly_range.specs.Children.{met_of}
 use Rattle.prolly_range.specs.Dues.{seen_due}
 use Rattle.prolly_range.specs.Prover.{AreChildrenThere, IsLocated, located_due}
+use Rattle.prolly_range.specs.Standing.{MayLack}
+use Rattle.prolly_root.specs.ChunkSource.{FindsChild}
+use Rattle.prolly_range.proofs.Finds.{Finding, all_found, may_lack, none_found, one_found}
 use Rattle.prolly_range.proofs.Locating.{FoundAt, next_there}
 use Rattle.prolly_range.proofs.located.locate.Goals as goal
 
@@ -30,7 +35,8 @@ returns-in_err-there-clause-lawful g c content has there =
     (λ n from. c.child.ensures.stays (chunk_file content) n from still)
     (λ n from. c.child.ensures.finds (chunk_file content) n from still) in
     let only : OnlyRead c.in_err-there.field-0.0 =
-    subst (FoundAt stands_at content (met_of c.in-Some.child) c.args.level) c.in_err-there.was next.1
+    subst (FoundAt stands_at content (met_of c.in-Some.child) c.args.level) c.in_err-there.was
+    next.1
     in
     let may : MayFail c.in_err-there.field-0.0 = inr only in
     search rules
@@ -71,4 +77,50 @@ loop-child-preserved g c =
                   tt,
                 )),
           );
+      tells = λ file n from over at high.
+          let inv = c.loop-child.invariant.tells file n from over at high in
+          let still = c.loop-child.invariant.goes file over in
+          let lower = ap (λ l. l - 1) high in
+          let finding = subst (Finding stands_at file (level - 1) from before
+          (map (λ m. m.number) (map met_of c.args.met.items)))
+          (ap (λ ms. map (λ m. m.number) (map met_of ms)) c.in-Some.ensures.items) inv.1 in (
+            c.child.ensures.stays file n from still inv.0 lower,
+            one_found stands_at file finding _
+                (subst (FindsChild stands_at file (level - 1) from child.number) c.in_ok-there.was
+                (c.child.ensures.finds file n from still inv.0 lower)) c.keep.new.found.items
+                c.in_ok-keep.ensures,
+          );
     }
+
+pub returns-in_err-there-clause-tells : goal.returns-in_err-there-clause-tells
+returns-in_err-there-clause-tells g c file n from over at high =
+    let stands_at = g.S.ChunkSource.stands in
+    let level = c.args.level in
+    let child = c.in-Some.child in
+    let all = map (λ m. m.number) (map met_of c.args.met.items) in
+    let fault = c.in_err-there.field-0.0 in
+    let inv = c.loop-child.invariant.tells file n from over at high in
+    let finding = subst (Finding stands_at file (level - 1) from c.loop-child.found.items all)
+    (ap (λ ms. map (λ m. m.number) (map met_of ms)) c.in-Some.ensures.items) inv.1 in
+    let may : MayLack file (level - 1) from all fault = may_lack stands_at file finding fault
+    (subst (FindsChild stands_at file (level - 1) from child.number) c.in_err-there.was
+    (c.child.ensures.finds file n from (c.loop-child.invariant.goes file over) inv.0
+    (ap (λ l. l - 1) high))) in
+    search rules
+
+pub returns-clause-tells : goal.returns-clause-tells
+returns-clause-tells g c file n from over at high =
+    all_found g.S.ChunkSource.stands file
+    (c.loop-child.invariant.tells file n from over at high).1
+    (ap (λ ms. map (λ m. m.number) (map met_of ms))
+    (nil_from_length c.loop-child.met.items (search rules)))
+
+pub loop-child-init : goal.loop-child-init
+loop-child-init g c = rw c.new-found.ensures.items (record {
+  due = refl;
+  goes = λ file goes. goes;
+  failures = refl;
+  lawful = λ content has there. (there, tt);
+  tells = λ file n from over at high.
+      (at, none_found g.S.ChunkSource.stands file (c.args.level - 1) from _);
+})

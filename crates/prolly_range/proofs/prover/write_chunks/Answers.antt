@@ -1,9 +1,11 @@
-use Rattle.std.proofs.Common.{◌++◌, ◌∙◌, ap, map, option_map, subst}
+use Rattle.std.proofs.Common.{◌++◌, ◌∙◌, Ok, ap, map, option_map, subst}
 use Rattle.std.proofs.lemmas.Result.{err_from_is_err_and}
 use Rattle.prolly_io.specs.Frame.{framed}
 use Rattle.prolly_io.specs.Sink.{TakesPrefix}
 use Rattle.prolly_root.specs.lemmas.LawfulFiles.{has_still}
 use Rattle.prolly_range.specs.Prover.{ProvesNext, located_due}
+use Rattle.prolly_range.specs.Standing.{TellsNext}
+use Rattle.prolly_range.proofs.Finds.{ends_there, goes_further, stops_there}
 use Rattle.prolly_range.proofs.Writing.{frame_part, one_written}
 use Rattle.prolly_range.proofs.prover.write_chunks.Goals as goal
 
@@ -45,4 +47,26 @@ loop-chunk-preserved g c =
       lawful = λ content has same all. c.in_ok-chunk.ensures.lawful content
           (has_still c.loop-chunk.invariant.goes has) same
           (c.loop-chunk.invariant.lawful content has same all);
+      tells = λ file at over stand.
+          let gone = c.loop-chunk.invariant.tells file at over stand in
+          let next = subst (λ r. TellsNext g.S.ChunkSource.stands c.args.version file gone.0
+          c.next_chunk.new.due.items (Ok r)) c.in-Some.is
+          (c.in_ok-chunk.ensures.tells file gone.0 (c.loop-chunk.invariant.goes file over) gone.2)
+          in
+          (next.0, goes_further c.args.version file gone.1 next.1, next.2);
     }
+
+pub returns-in_err-chunk-clause-tells : goal.returns-in_err-chunk-clause-tells
+returns-in_err-chunk-clause-tells g c file at over stand =
+    let gone = c.loop-chunk.invariant.tells file at over stand in
+    let p = err_from_is_err_and c.from_residual.result c.from_residual.ensures.1 in
+    rw (p.1, p.2) (stops_there c.args.version file gone.1
+    (c.in_err-chunk.ensures.tells file gone.0 (c.loop-chunk.invariant.goes file over) gone.2))
+
+pub returns-clause-tells : goal.returns-clause-tells
+returns-clause-tells g c file at over stand =
+    let gone = c.loop-chunk.invariant.tells file at over stand in
+    ends_there c.args.version file gone.1
+    (subst (λ r. TellsNext g.S.ChunkSource.stands c.args.version file gone.0
+    c.next_chunk.new.due.items (Ok r)) c.in_default.is
+    (c.in_ok-chunk.ensures.tells file gone.0 (c.loop-chunk.invariant.goes file over) gone.2))
