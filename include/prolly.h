@@ -327,8 +327,8 @@ uint32_t prolly_verify_range(uint8_t version, const uint8_t root[20], const uint
                              uint64_t *chunk);
 
 /* The proof of what the tree of version 1 or 2 with this root has in a range, out of its chunk file,
- * which need not be checked. Else as prolly_prove: the fault is the first one that is met on the way
- * over the chunks of the proof. prolly_verify_range takes what is written.
+ * which need not be checked. Else as prolly_prove, but that the first fault is the one for the proof of
+ * the range. prolly_verify_range takes what is written.
  *
  * Cost: goes over the frames of the file, and hashes the chunks of the proof. Takes memory for the
  * proof. */

@@ -16,7 +16,7 @@ use Rattle.prolly_root.specs.RootFault.{TellsFailure}
 use Rattle.prolly_root.specs.declared.root_fault.RootFault.{RootFault}
 use Rattle.prolly_root.specs.declared.root_fault.RootFault.TheVariants as roots
 use Rattle.prolly_root.specs.ChunkFile.{ChunkFile}
-use Rattle.prolly_root.specs.ChunkSource.{HasTree}
+use Rattle.prolly_root.specs.ChunkSource.{GoesOverTree}
 use Rattle.prolly_root.specs.lemmas.LawfulFiles.{has_still}
 use Rattle.prolly_root_diff.specs.Sides.{IsAtRoot, IsSideOf}
 use Rattle.prolly_root_diff.specs.Notes.{AreNoted, TellsMissing}
@@ -60,8 +60,8 @@ pub record KeepsTo {S T : Type 0} (goes_over : S → ChunkFile → Type 0) (fail
     (stands_at : ChunkFile → T → ℕ → ℕ → Type 0) (version : Version)
     (root : List ℕ) (old new : S) (side : Side T) : Type 0 where
   pub still : HasStill goes_over failures old new
-  pub lawful : (content : Content) → HasTree goes_over old content → version ≡ content.version →
-      root ≡ root_reference (sha512_cut content.bits) content.version content.pairs →
+  pub lawful : (content : Content) → GoesOverTree goes_over old content →
+      version ≡ content.version → root ≡ root_reference (sha512_cut content.bits) content.version content.pairs →
       IsSideOf stands_at content side
 
 module _ {S T : Type 0} (goes_over : S → ChunkFile → Type 0) (failures : S → ℕ)
@@ -92,7 +92,7 @@ module _ {S T : Type 0} (goes_over : S → ChunkFile → Type 0) (failures : S �
       FailsAt goes_over failures stands_at walked mid new side fault →
       RefusesNone (goes_over old) version root fault
   may_fail walked same mid new side fault keeps at content lawful goes is named =
-      let has : HasTree goes_over old content = record { lawful = lawful; goes = goes } in
+      let has : GoesOverTree goes_over old content = record { lawful = lawful; goes = goes } in
       at.lawful content (has_still keeps.still.goes_still has) (same ∙ is)
       (keeps.lawful content has is named)
 

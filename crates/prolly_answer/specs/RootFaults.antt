@@ -36,7 +36,7 @@ abbrev pub TellsFirstOf : {T : Type 0} → (ChunkFile → T → ℕ → ℕ → 
 TellsFirstOf stands goes_over reader sought fault = (file : ChunkFile) → goes_over file →
     IsReaderIn stands file reader → MayTell reader.version file reader.root sought fault
 
--- It is that of the look-up of the first of these keys.
+-- The fault is that of the look-up of the first of these keys.
 abbrev pub TellsFirstKeyOf : {T : Type 0} → (ChunkFile → T → ℕ → ℕ → Type 0) →
     (ChunkFile → Type 0) → ReaderView T → List (List ℕ) → RootFault → Type 0
 TellsFirstKeyOf stands goes_over reader [] fault = ⊥
@@ -45,7 +45,8 @@ TellsFirstKeyOf stands goes_over reader (key ∷ keys) fault =
 
 -- ---- of both
 
--- Why a look-up by the root is refused.
+-- Why a look-up by the root is refused. (The first follows from the second. It is told too, since
+-- it is what a user asks.)
 abbrev pub MayRefuse : (ChunkFile → Type 0) → Version → List ℕ → Sought → RootFault → Type 0
 MayRefuse goes_over version root sought fault =
     RefusesNone goes_over version root fault × TellsFirst goes_over version root sought fault

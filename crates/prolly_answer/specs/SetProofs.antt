@@ -10,7 +10,7 @@ use Rattle.prolly_entry.specs.Pair.{Pair, IsPair}
 use Rattle.prolly_entry.specs.declared.version.Version.{Version}
 use Rattle.prolly_io.specs.Frame.{IsSmall}
 use Rattle.prolly_io.specs.Sink.{IsSettled, SinkView}
-use Rattle.prolly_range.specs.SetFault.{TellsFirst}
+use Rattle.prolly_range.specs.FirstFault.{TellsFirstFault}
 use Rattle.prolly_range.specs.KeySet.{KeySet, is_before}
 use Rattle.prolly_range.specs.KeySet.KeySet.{Keys, Range}
 use Rattle.prolly_range.specs.Prover.{MayFailTo, MayStop, TellsSink, TellsSource, WritesPart}
@@ -78,7 +78,7 @@ RefusesNoProof goes_over version root fault = (content : Content) → IsLawful c
 -- lawful file of the root is not refused.
 abbrev pub MayRefuseProof : (ChunkFile → Type 0) → Version → List ℕ → KeySet → ProveFault → Type 0
 MayRefuseProof goes_over version root set fault = RefusesNoProof goes_over version root fault ×
-    ((file : ChunkFile) → goes_over file → TellsFirst version file root set fault)
+    ((file : ChunkFile) → goes_over file → TellsFirstFault version file root set fault)
 
 -- What happens to a source of chunks and to a sink: how many calls of the source had failed before
 -- and after, and how the sink was seen before and after.

@@ -4,7 +4,7 @@ ghost use Rattle.std.specs.Prelude.{OnErr, OnOk};
 ghost use Rattle.prolly_look_up.specs.Content.{Content};
 ghost use Rattle.prolly_look_up.specs.HeldPairs.{pairs_held};
 ghost use Rattle.prolly_entry.specs.Cut.{sha512_cut};
-ghost use Rattle.prolly_root.specs.ChunkSource.{HasAsked, HasTree};
+ghost use Rattle.prolly_root.specs.ChunkSource.{HasAsked, GoesOverTree};
 ghost use Rattle.prolly_root.specs.RootFault.{IsOrFails, MayFail};
 ghost use Rattle.prolly_root_diff.specs.LeafWalk.{GivesNext, IsLeafRead, WalksIn, due_of_walk};
 ghost use Rattle.prolly_root_diff.specs.ToGo.{weights};
@@ -62,9 +62,9 @@ pub fn load_old<S: ReadAhead, O: Out<OldLeaf>, R: Wait + Threads + Sync>(
 
     // A failed read is told, and a tree that the source has is not refused.
     ensures reads { TellsReadsOf (S.failures source) (S.failures result.source) result.fault }
-    ensures keeps { (content : Content) → HasTree S.goes_over source content →
-        HasTree S.goes_over result.source content }
-    ensures lawful { (content : Content) → HasTree S.goes_over source content →
+    ensures keeps { (content : Content) → GoesOverTree S.goes_over source content →
+        GoesOverTree S.goes_over result.source content }
+    ensures lawful { (content : Content) → GoesOverTree S.goes_over source content →
         version ≡ content.version →
         root.now.0 ≡ root_reference (sha512_cut content.bits) content.version content.pairs →
         IfSome result.fault MayFail }
@@ -102,7 +102,7 @@ fn send_leaves<S: ReadAhead, O: Out<OldLeaf>, R: Wait + Threads + Sync>(
         None) }
     ensures err { IfErr result (λ fault. IsOldLoaded version root.now.0 (O.sent out.old)
         (O.sent out.new) (Some fault)) }
-    ensures lawful { (content : Content) → HasTree S.goes_over source.old content →
+    ensures lawful { (content : Content) → GoesOverTree S.goes_over source.old content →
         version ≡ content.version →
         root.now.0 ≡ root_reference (sha512_cut content.bits) content.version content.pairs →
         IfErr result MayFail }
@@ -141,7 +141,7 @@ fn next_leaf<S: ReadAhead, R: Threads + Sync>(
     ensures nearer { IfOk result (λ leaf. IfSome leaf (λ _.
         weights (due_of_walk leaves.new) < weights (due_of_walk leaves.old))) }
     ensures goes_on { OnOk result (leaves.new.fault ≡ None) }
-    ensures lawful { (content : Content) → HasTree S.goes_over source.old content →
+    ensures lawful { (content : Content) → GoesOverTree S.goes_over source.old content →
         leaves.old.version ≡ content.version → WalksIn S.stands content leaves.old →
         IsOrFails (λ _. WalksIn S.stands content leaves.new) MayFail result }
     ensures asked { HasAsked S.goes_over S.failures source.old source.new result }

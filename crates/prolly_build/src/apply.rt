@@ -6,7 +6,7 @@ ghost use Rattle.prolly_build.specs.Config.{AreLawful};
 ghost use Rattle.prolly_build.specs.GivenBack.{IsGivenBack};
 ghost use Rattle.prolly_build.specs.OldBase.{AreChangesPaired};
 ghost use Rattle.prolly_report.specs.declared.apply_fault.ApplyFault.TheVariants.{Run};
-ghost use Rattle.prolly_root.specs.ChunkSource.{HasTree};
+ghost use Rattle.prolly_root.specs.ChunkSource.{GoesOverTree};
 
 use crate::config::Config;
 use crate::links::{StageLinks, both};
@@ -55,11 +55,11 @@ where
     requires leaves { old.base.out.link ≡ old.base.leaves.old.link }
     requires changes { AreChangesPaired (vec_len sources.old) old.base.feed.outs.items
         old.base.leaves.changes old.idle }
-    ensures outcome { IsApplyOutcome S.seen (HasTree D.goes_over old.base.middle.source)
+    ensures outcome { IsApplyOutcome S.seen (GoesOverTree D.goes_over old.base.middle.source)
         lent.now.config old.base.middle.root.0 sources.old.items sources.new.items (W.seen sink.old)
         (W.seen sink.new) (sink.new ≡ sink.old) result.answer }
     ensures counted { result.answer ≡ Err (Run TooManyFiles) → ⊥ }
-    ensures given_back { IsGivenBack (HasTree D.goes_over) D.failures old.base.middle.source
+    ensures given_back { IsGivenBack (GoesOverTree D.goes_over) D.failures old.base.middle.source
         result.source result.answer }
 {
     let OldBase { base, idle } = old;
@@ -133,10 +133,10 @@ pub fn apply_changes_with<
 where
     D::Place: Send,
     ensures too_many { (result.answer ≡ Err (Run TooManyFiles)) ↔ (15 < vec_len sources.old) }
-    ensures outcome { IsApplyOutcome S.seen (HasTree D.goes_over old) config.now root.now.0
+    ensures outcome { IsApplyOutcome S.seen (GoesOverTree D.goes_over old) config.now root.now.0
         sources.old.items sources.new.items (W.seen sink.old) (W.seen sink.new) (sink.new ≡ sink.old)
         result.answer }
-    ensures given_back { IsGivenBack (HasTree D.goes_over) D.failures old result.source
+    ensures given_back { IsGivenBack (GoesOverTree D.goes_over) D.failures old result.source
         result.answer }
 {
     if sources.len() > CHANGES_LIMIT {
@@ -183,10 +183,10 @@ pub fn apply_changes<
 where
     D::Place: Send,
     ensures too_many { (result.answer ≡ Err (Run TooManyFiles)) ↔ (15 < vec_len sources.old) }
-    ensures outcome { IsApplyOutcome S.seen (HasTree D.goes_over old) config.now root.now.0
+    ensures outcome { IsApplyOutcome S.seen (GoesOverTree D.goes_over old) config.now root.now.0
         sources.old.items sources.new.items (W.seen sink.old) (W.seen sink.new) (sink.new ≡ sink.old)
         result.answer }
-    ensures given_back { IsGivenBack (HasTree D.goes_over) D.failures old result.source
+    ensures given_back { IsGivenBack (GoesOverTree D.goes_over) D.failures old result.source
         result.answer }
 {
     apply_changes_with(rt, alloc, config, root, old, sources, sink, gate, &AllStart)

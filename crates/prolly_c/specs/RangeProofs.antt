@@ -12,7 +12,7 @@ use Rattle.prolly_entry.specs.declared.version.Version.{Version}
 use Rattle.prolly_io.specs.Frame.{IsSmall}
 use Rattle.prolly_range.specs.KeySet.{KeySet, pairs_wanted}
 use Rattle.prolly_range.specs.KeySet.KeySet.{Range}
-use Rattle.prolly_range.specs.SetFault.{IsFirstSetFault}
+use Rattle.prolly_range.specs.FirstFault.{IsFirstSetFault}
 use Rattle.prolly_range.specs.SetProof.{AreTaken, Due, IsSetProof, ShowsClash, pairs_there}
 use Rattle.prolly_range.specs.SetProof.{root_due, set_file}
 use Rattle.prolly_range.specs.Start.{IsSetStartFault}

@@ -9,7 +9,7 @@ ghost use Rattle.prolly_root.specs.LookUpFault.{IsFirstFault};
 ghost use Rattle.prolly_root.specs.ProofFile.{IsSomeProof};
 ghost use Rattle.prolly_root.specs.declared.root_fault.RootFault.TheVariants.{Memory, Read};
 ghost use Rattle.prolly_range.specs.KeySet.{set_of};
-ghost use Rattle.prolly_range.specs.SetFault.{IsFirstSetFault};
+ghost use Rattle.prolly_range.specs.FirstFault.{IsFirstSetFault};
 ghost use Rattle.prolly_c.specs.RangeProofs.{IsSomeRangeProof};
 
 use crate::gathered::Gathered;

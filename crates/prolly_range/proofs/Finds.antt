@@ -9,20 +9,20 @@ use Rattle.prolly_look_up.specs.Way.{FallsTo, IsNamed, level_of}
 use Rattle.prolly_entry.specs.declared.version.Version.{Version}
 use Rattle.prolly_root.specs.ChunkFile.{ChunkFile, nth_in}
 use Rattle.prolly_root.specs.ChunkSource.{FindsChild}
-use Rattle.prolly_root.specs.Leads.{Leads}
+use Rattle.prolly_root.specs.Path.{IsPath}
 use Rattle.prolly_root.specs.LookUpFault.{IsFaultOfChunk}
 use Rattle.prolly_root.specs.RootFault.{MayFail}
 use Rattle.prolly_root.specs.declared.root_fault.RootFault.{RootFault}
-use Rattle.prolly_root.specs.lemmas.Leads.{leads_more}
+use Rattle.prolly_root.specs.lemmas.Paths.{path_more}
 use Rattle.prolly_root.specs.Subtree.{HasNoNth}
 use Rattle.prolly_root.specs.Walk.{IsBehind, IsNth}
 use Rattle.prolly_range.specs.Children.{SeenMet, seen_met}
 use Rattle.prolly_range.specs.KeySet.{KeySet, met_in, set_of}
 use Rattle.prolly_range.specs.Prover.{located_due}
-use Rattle.prolly_range.specs.SetFault.{AreChildren, DueAt, EndsBehind, GoesOn, IsDue, LacksOne}
-use Rattle.prolly_range.specs.SetFault.{StopsBehind, StopsWith, chunk_at, numbers_met}
+use Rattle.prolly_range.specs.FirstFault.{AreChildren, DueAt, EndsBehind, GoesOn, IsDue, LacksOne}
+use Rattle.prolly_range.specs.FirstFault.{StopsBehind, StopsWith, chunk_at, numbers_met}
 use Rattle.prolly_range.specs.SetProof.{due_below}
-use Rattle.prolly_range.specs.Standing.{AreFound, MayLack, StandAs, StandsAs}
+use Rattle.prolly_range.specs.Places.{AreFound, MayLack, EachStandsAs, StandsAs}
 use Rattle.prolly_range.specs.declared.located.Located.{Located}
 
 -- the numbers of the children of a node that are met
@@ -35,13 +35,6 @@ numbers_node version set (zero ∷ entries) met high e = absurd (omega (arith, h
 numbers_node version set (suc level ∷ entries) met high e =
     ap (map (λ m. m.number)) e ∙ map-map (λ m. m.number) seen_met
     (met_in (λ c. c.key) 0 (Some set) (children_in version entries))
-
--- a leaf has none
-pub no_numbers : (version : Version) (set : KeySet) (chunk : List ℕ) → level_of chunk ≡ 0 →
-    numbers_met set (kind_of version chunk) ≡ []
-no_numbers version set [] low = refl
-no_numbers version set (zero ∷ entries) low = refl
-no_numbers version set (suc level ∷ entries) low = absurd (omega (arith, low))
 
 -- ---- one child behind the others
 
@@ -65,8 +58,8 @@ one_lacks file level from (n ∷ ns) number others none =
 module _ {T : Type 0} (stands : ChunkFile → T → ℕ → ℕ → Type 0) (file : ChunkFile) where
   -- those of two lists, one behind the other
   pub stand_both : (located more : List (Located T)) (at behind : List DueAt) →
-      StandAs stands file located at → StandAs stands file more behind →
-      StandAs stands file (located ++ more) (at ++ behind)
+      EachStandsAs stands file located at → EachStandsAs stands file more behind →
+      EachStandsAs stands file (located ++ more) (at ++ behind)
   stand_both [] more [] behind h k = k
   stand_both [] more (a ∷ at) behind h k = absurd h
   stand_both (l ∷ located) more [] behind h k = absurd h
@@ -74,8 +67,8 @@ module _ {T : Type 0} (stands : ChunkFile → T → ℕ → ℕ → Type 0) (fil
       (h.0, stand_both located more at behind h.1 k)
 
   -- what stands there is what is due
-  pub same_dues : (located : List (Located T)) (at : List DueAt) → StandAs stands file located at →
-      map (λ d. d.due) at ≡ map located_due located
+  pub same_dues : (located : List (Located T)) (at : List DueAt) →
+      EachStandsAs stands file located at → map (λ d. d.due) at ≡ map located_due located
   same_dues [] [] h = refl
   same_dues [] (a ∷ at) h = absurd h
   same_dues (l ∷ located) [] h = absurd h
@@ -89,10 +82,10 @@ module _ {T : Type 0} (stands : ChunkFile → T → ℕ → ℕ → Type 0) (fil
     pub left : List DueAt
     pub are : at ≡ there ∷ left
     pub stands_there : StandsAs stands file first there
-    pub others_stand : StandAs stands file others left
+    pub others_stand : EachStandsAs stands file others left
 
   pub first_there : (first : Located T) (others : List (Located T)) (at : List DueAt) →
-      StandAs stands file (first ∷ others) at → First first others at
+      EachStandsAs stands file (first ∷ others) at → First first others at
   first_there first others [] h = absurd h
   first_there first others (a ∷ at) h = record {
     there = a;
@@ -102,7 +95,7 @@ module _ {T : Type 0} (stands : ChunkFile → T → ℕ → ℕ → Type 0) (fil
     others_stand = h.1;
   }
 
-  pub none_there : (at : List DueAt) → StandAs stands file [] at → at ≡ []
+  pub none_there : (at : List DueAt) → EachStandsAs stands file [] at → at ≡ []
   none_there [] h = refl
   none_there (a ∷ at) h = absurd h
 
@@ -113,7 +106,7 @@ module _ {T : Type 0} (stands : ChunkFile → T → ℕ → ℕ → Type 0) (fil
     pub passed : List ℕ
     pub children : List DueAt
     pub are : AreChildren file level from passed children
-    pub stand : StandAs stands file found children
+    pub stand : EachStandsAs stands file found children
     pub all_are : all ≡ passed ++ left
 
   pub none_found : (level from : ℕ) (all : List ℕ) → Finding level from [] all all
@@ -131,7 +124,7 @@ module _ {T : Type 0} (stands : ChunkFile → T → ℕ → ℕ → Type 0) (fil
           passed = f.passed ++ number ∷ [];
           children = f.children ++ child ∷ [];
           are = one_more_child file level from f.passed f.children number child f.are is.3 is.4;
-          stand = subst (λ ls. StandAs stands file ls (f.children ++ child ∷ [])) (sym more)
+          stand = subst (λ ls. EachStandsAs stands file ls (f.children ++ child ∷ [])) (sym more)
               (stand_both found (located ∷ []) f.children (child ∷ []) f.stand ((refl, is.2), tt));
           all_are = f.all_are ∙ sym (append_assoc f.passed (number ∷ []) others);
         }
@@ -210,7 +203,7 @@ module _ {T : Type 0} (stands : ChunkFile → T → ℕ → ℕ → Type 0) (fil
             AreFound stands file (level_of (nth_in file f.there.number) - 1) f.there.from
             (numbers (set_of first.due.set)) below → (new : List (Located T)) →
             new ≡ below ++ others →
-            (next : List DueAt) × GoesOn version file at next × StandAs stands file new next
+            (next : List DueAt) × GoesOn version file at next × EachStandsAs stands file new next
         goes_on below dues found new all = (
           found.0 ++ f.left,
           record {
@@ -227,7 +220,7 @@ module _ {T : Type 0} (stands : ChunkFile → T → ℕ → ℕ → Type 0) (fil
                 f.there.from (numbers d.set) found.0) f.stands_there.0 found.1;
             is = refl;
           },
-          subst (λ ls. StandAs stands file ls (found.0 ++ f.left)) (sym all)
+          subst (λ ls. EachStandsAs stands file ls (found.0 ++ f.left)) (sym all)
               (stand_both below others found.0 f.left found.2 f.others_stand),
         )
 
@@ -237,13 +230,13 @@ module _ (version : Version) (file : ChunkFile) where
   -- it came so far
   pub record HasGone (due at : List DueAt) : Type 0 where
     pub steps : List (List DueAt)
-    pub leads : Leads (GoesOn version file) due steps at
+    pub leads : IsPath (GoesOn version file) due steps at
 
   pub goes_further : {due at next : List DueAt} → HasGone due at → GoesOn version file at next →
       HasGone due next
   goes_further {due = due} {at = at} {next = next} gone step = record {
     steps = gone.steps ++ next ∷ [];
-    leads = leads_more (GoesOn version file) due gone.steps at next gone.leads step;
+    leads = path_more (GoesOn version file) due gone.steps at next gone.leads step;
   }
 
   pub stops_there : {due at : List DueAt} → HasGone due at → {fault : RootFault} →
@@ -256,5 +249,5 @@ module _ (version : Version) (file : ChunkFile) where
   pub ends_there : {due at : List DueAt} → HasGone due at → at ≡ [] → EndsBehind version file due
   ends_there {due = due} gone none = record {
     steps = gone.steps;
-    leads = subst (Leads (GoesOn version file) due gone.steps) none gone.leads;
+    leads = subst (IsPath (GoesOn version file) due gone.steps) none gone.leads;
   }

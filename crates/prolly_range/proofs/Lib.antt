@@ -14,8 +14,8 @@ mod Below
 mod Accepting
 -- How far a walk has to go yet.
 mod Weights
--- Where the chunks that are due stand in a lawful tree.
-mod Locating
+-- That the proof of a set of keys has no fault in the chunk file of a lawful content.
+mod LawfulSets
 -- Where the chunks that are due stand in a chunk file of any bytes.
 mod Finds
 -- That one fault is the first.

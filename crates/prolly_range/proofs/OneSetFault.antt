@@ -13,13 +13,14 @@ use Rattle.prolly_root.specs.ChunkFile.{ChunkFile}
 use Rattle.prolly_root.specs.LookUpFault.{fault_of_flaw}
 use Rattle.prolly_root.specs.declared.root_fault.RootFault.{RootFault}
 use Rattle.prolly_root.specs.lemmas.Flaws.{one_flaw}
-use Rattle.prolly_root.specs.lemmas.Leads.{one_end}
+use Rattle.prolly_root.specs.lemmas.Paths.{one_end}
 use Rattle.prolly_root.specs.lemmas.Levels.{behind_one, nth_one}
 use Rattle.prolly_range.specs.KeySet.{KeySet}
-use Rattle.prolly_range.specs.SetFault.{AreChildren, DueAt, EndsBehind, GoesOn, HasProof, IsDue}
-use Rattle.prolly_range.specs.SetFault.{IsFaultAt}
-use Rattle.prolly_range.specs.SetFault.{IsFirstSetFault, LacksOne, SetFaultsAreOne, StopsBehind}
-use Rattle.prolly_range.specs.SetFault.{StopsWith, chunk_at, numbers_met}
+use Rattle.prolly_range.specs.FirstFault.{AreChildren, DueAt, EndsBehind, GoesOn, HasAllChunks}
+use Rattle.prolly_range.specs.FirstFault.{IsDue}
+use Rattle.prolly_range.specs.FirstFault.{IsFaultAt}
+use Rattle.prolly_range.specs.FirstFault.{IsFirstSetFault, LacksOne, SetFaultsAreOne, StopsBehind}
+use Rattle.prolly_range.specs.FirstFault.{StopsWith, chunk_at, numbers_met}
 use Rattle.prolly_range.specs.SetProof.{Due, due_below}
 
 -- the children of a node stand in one place each
@@ -150,7 +151,7 @@ one_first version file root set fault other (inr f) (inr g) =
     stops_once version file _ fault other f.1 g.1
 
 no_first : (version : Version) (file : ChunkFile) (root : List ℕ) (set : KeySet)
-    (fault : RootFault) → HasProof version file root set →
+    (fault : RootFault) → HasAllChunks version file root set →
     IsFirstSetFault version file root set fault → ⊥
 no_first version file root set fault has (inl f) = some_none (sym f ∙ has.0)
 no_first version file root set fault has (inr f) = no_stop version file _ fault has.1 f.1

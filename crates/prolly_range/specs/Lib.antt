@@ -23,8 +23,8 @@ pub mod ToGo
 -- Writing a proof, from a source of chunks.
 pub mod Prover
 -- Why the proof of a set of keys is not made from a chunk file of any bytes.
-pub mod SetFault
+pub mod FirstFault
 -- Where the chunks that are due stand in a chunk file of any bytes, as a source finds them.
-pub mod Standing
+pub mod Places
 -- Lemmas for the crates above, by subject.
 pub mod lemmas

@@ -1,22 +1,14 @@
 -- Writing the proof of a set of keys, from a source of chunks.
-use Rattle.std.specs.Prelude.{◌≡◌, ℕ, suc, true, List, [], ◌++◌, Option, Some, None, Result, Ok}
+use Rattle.std.specs.Prelude.{◌≡◌, ℕ, true, List, [], ◌++◌, Option, Some, None, Result, Ok}
 use Rattle.std.specs.Prelude.{Err}
 use Rattle.std.specs.List.{AllByRecursion, flat_map}
-use Rattle.prolly_look_up.specs.Content.{chunks_of, Content}
-use Rattle.prolly_look_up.specs.MapTree.{IsTreeOf}
 use Rattle.prolly_entry.specs.Pair.{Pair}
-use Rattle.prolly_entry.specs.Reference.{reference_of}
 use Rattle.prolly_entry.specs.declared.version.Version.{Version}
 use Rattle.prolly_io.specs.Failures.{after_failure}
 use Rattle.prolly_io.specs.Frame.{framed, IsSmall}
 use Rattle.prolly_io.specs.Sink.{SinkView, TakesPrefix}
-use Rattle.prolly_root.specs.ChunkFile.{ChunkFile}
-use Rattle.prolly_root.specs.FileTrees.{IsChildNumber, IsTreePlace}
-use Rattle.prolly_root.specs.Descent.{StandsBelow}
 use Rattle.prolly_root.specs.RootFault.{MayFail, TellsFailure}
 use Rattle.prolly_root.specs.declared.root_fault.RootFault.TheVariants.{Memory}
-use Rattle.prolly_tree.specs.Tree.{Tree, bytes_of}
-use Rattle.prolly_range.specs.Children.{SeenMet}
 use Rattle.prolly_range.specs.Dues.{due_of}
 use Rattle.prolly_range.specs.KeySet.{KeySet}
 use Rattle.prolly_range.specs.SetProof.{AreTaken, Due, IsSetProof, Takes}
@@ -35,30 +27,6 @@ abbrev pub ProvesNext : Version → List Due → Option (List ℕ) → List Due 
 ProvesNext version old None new = (old ≡ []) × (new ≡ [])
 ProvesNext version old (Some chunk) new = (pairs : List Pair) × Takes version old chunk pairs new ×
     IsSmall chunk
-
--- ---- in a lawful tree
-
--- The chunk that is due is the top of a tree of the content, and stands in its place.
-abbrev pub IsLocated : {T : Type 0} → (ChunkFile → T → ℕ → ℕ → Type 0) → Content →
-    Located T → Type 0
-IsLocated stands_at content located = StandsBelow stands_at content located.due.reference.0
-    located.due.above located.place
-
--- The child is the top of one of these trees.
-pub record IsChildThere (content : Content) (level : ℕ) (ts : List (Tree level)) (met : SeenMet)
-    : Type 0 where
-  pub t : Tree level
-  pub at : IsChildNumber level ts met.number t
-  pub of : IsTreeOf content.version (chunks_of content) level t
-  pub named : met.reference ≡ reference_of (bytes_of content.version level t)
-
--- The children are tops of the trees below the node that stands in this place.
-pub record AreChildrenThere {T : Type 0}
-    (stands_at : ChunkFile → T → ℕ → ℕ → Type 0) (content : Content) (level : ℕ)
-    (place : T) (met : List SeenMet) : Type 0 where
-  pub ts : List (Tree level)
-  pub stands : IsTreePlace stands_at content (suc level) ts place
-  pub each : AllByRecursion (IsChildThere content level ts) met
 
 -- ---- what a sink took
 

@@ -1,7 +1,7 @@
-//! Laws of proofs of sets of keys, and of which fault is told. They are the contract of a function
-//! that does nothing: to call it is to know the laws, and to prove the crate is to prove them.
+//! Laws of proofs of sets of keys, and of which fault is told. Each is the contract of a function
+//! that does nothing: to call it is to know the law, and to prove the crate is to prove it.
 ghost use Rattle.prolly_range.specs.Found.{KeysAreFound, ShownInOrder};
-ghost use Rattle.prolly_range.specs.SetFault.{SetFaultsAreOne};
+ghost use Rattle.prolly_range.specs.FirstFault.{LawfulFilesHaveProofs, SetFaultsAreOne};
 ghost use Rattle.prolly_range.specs.SetProof.{SetProofsAreRight, TakenAreRight};
 
 use prolly_look_up::laws::tops_are_read;
@@ -32,3 +32,11 @@ pub fn shown_in_order()
 pub fn set_faults_are_one()
     ensures { SetFaultsAreOne }
 {}
+
+/// In the chunk file of a lawful tree no proof of a set of keys, by its root, has a fault. So none
+/// is refused, but for want of memory, a failed read or a failed write.
+pub fn lawful_files_have_proofs()
+    ensures { LawfulFilesHaveProofs }
+{
+    tops_are_read();
+}

@@ -1,28 +1,24 @@
 //! The chunks that are due, and where they stand.
 ghost use Rattle.std.specs.Prelude.{◌≡◌, ◌<◌, ◌-◌, ◌++◌, ◌∷◌, ◌⊎◌, ℕ, [], map, IfOk, OnOk};
-ghost use Rattle.std.specs.List.{AllByRecursion};
-ghost use Rattle.prolly_look_up.specs.Content.{Content};
 ghost use Rattle.prolly_look_up.specs.Entries.{IsWhole};
 ghost use Rattle.prolly_look_up.specs.Kinds.{kind_of};
 ghost use Rattle.prolly_look_up.specs.Way.{FallsTo, IsNamed, level_of};
 ghost use Rattle.prolly_root.specs.ChunkFile.{ChunkFile, nth_in};
-ghost use Rattle.prolly_root.specs.ChunkSource.{HasAsked, HasTree};
+ghost use Rattle.prolly_root.specs.ChunkSource.{HasAsked};
 ghost use Rattle.prolly_root.specs.LookUpFault.{IsFaultOfChunk};
 ghost use Rattle.prolly_root.specs.RootFault.{IsOrFails, MayFail};
-ghost use Rattle.prolly_tree.specs.Tree.{bytes_of};
 ghost use Rattle.prolly_range.specs.Children.{met_of};
 ghost use Rattle.prolly_range.specs.Dues.{seen_due};
 ghost use Rattle.prolly_range.specs.KeySet.{set_of};
-ghost use Rattle.prolly_range.specs.Prover.{AreChildrenThere, IsLocated, located_due};
-ghost use Rattle.prolly_range.specs.SetFault.{numbers_met};
+ghost use Rattle.prolly_range.specs.Prover.{located_due};
+ghost use Rattle.prolly_range.specs.FirstFault.{numbers_met};
 ghost use Rattle.prolly_range.specs.SetProof.{due_below};
-ghost use Rattle.prolly_range.specs.Standing.{AreFound, MayLack};
+ghost use Rattle.prolly_range.specs.Places.{AreFound, MayLack};
 
 use crate::children::{ChildMet, children_met};
 use crate::due::Due;
 use prolly_entry::Version;
 use prolly_look_up::LEAF;
-use prolly_look_up::laws::tops_are_read;
 use prolly_root::{ChunkSource, RootFault, tested_chunk};
 use std::alloc::{AllocError, Global};
 use std::collections::VecDeque;
@@ -45,10 +41,6 @@ impl<'a, T: Copy + Drop> Located<'a, T> {
         ensures named { IfOk result (λ chunk.
             IsNamed version self.now.due.reference.0 chunk.items) }
         ensures falls { IfOk result (λ chunk. FallsTo self.now.due.above chunk.items) }
-        ensures lawful { (content : Content) → HasTree S.goes_over source.old content →
-            version ≡ content.version → (l : IsLocated S.stands content self.now) →
-            IsOrFails (λ chunk. chunk.items ≡ bytes_of content.version l.at.level l.at.t)
-            MayFail result }
         ensures tells { (file : ChunkFile) (n from : ℕ) → S.goes_over source.old file →
             S.stands file self.now.place n from → IsOrFails (λ chunk. chunk.items ≡ nth_in file n)
             (λ fault. MayFail fault ⊎ IsFaultOfChunk version self.now.due.reference.0
@@ -74,10 +66,6 @@ impl<'a, T: Copy + Drop> Located<'a, T> {
         requires { IsWhole version chunk.now }
         ensures due { IfOk result (λ found. map located_due found.items ≡
             due_below (level_of chunk.now) (set_of self.entry.due.set) (kind_of version chunk.now)) }
-        ensures lawful { (content : Content) → HasTree S.goes_over source.old content →
-            version ≡ content.version → (l : IsLocated S.stands content self.entry) →
-            chunk.now ≡ bytes_of content.version l.at.level l.at.t → IsOrFails (λ found.
-            AllByRecursion (IsLocated S.stands content) found.items) MayFail result }
         ensures tells { (file : ChunkFile) (n from : ℕ) → S.goes_over source.old file →
             S.stands file self.entry.place n from → chunk.now ≡ nth_in file n →
             IsOrFails (λ found. AreFound S.stands file (level_of (nth_in file n) - 1) from
@@ -86,8 +74,6 @@ impl<'a, T: Copy + Drop> Located<'a, T> {
             (numbers_met (set_of self.entry.due.set) (kind_of version (nth_in file n)))) result }
         ensures asked { HasAsked S.goes_over S.failures source.old source.new result }
     {
-        // By this law the children of a chunk of a lawful tree are the tops of the trees below it.
-        tops_are_read();
         if chunk[0] == LEAF {
             return Ok(VecDeque::new(alloc));
         }
@@ -107,10 +93,6 @@ fn locate<'a, T: Copy + Drop, S: ChunkSource<Place = T>>(
     requires { 0 < level }
     ensures due { IfOk result (λ found.
         map located_due found.items ≡ map (seen_due level) (map met_of met.entry.items)) }
-    ensures lawful { (content : Content) → HasTree S.goes_over source.old content →
-        AreChildrenThere S.stands content (level - 1) place (map met_of met.entry.items) →
-        IsOrFails (λ found. AllByRecursion (IsLocated S.stands content) found.items)
-        MayFail result }
     ensures tells { (file : ChunkFile) (n from : ℕ) → S.goes_over source.old file →
         S.stands file place n from → level ≡ level_of (nth_in file n) →
         IsOrFails (λ found. AreFound S.stands file (level - 1) from

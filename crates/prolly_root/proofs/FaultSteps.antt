@@ -16,7 +16,7 @@ use Rattle.prolly_root.specs.Descent.{GoesOnAt, IsAt, IsAtDue, IsDueAt, IsKeptOf
 use Rattle.prolly_root.specs.LookUpFault.{ComesToEnd, GoesOnIn, HasDue, LeadsTo, MayStop, MayTell, Standing}
 use Rattle.prolly_root.specs.LookUpFault.{StepsTo, at_root, chunk_of}
 use Rattle.prolly_root.specs.Walk.{IsBehind, IsNth}
-use Rattle.prolly_root.specs.lemmas.Leads.{leads_more}
+use Rattle.prolly_root.specs.lemmas.Paths.{path_more}
 use Rattle.prolly_root.specs.declared.look_up.chunk_on_way.ChunkOnWay.{ChunkOnWay}
 use Rattle.prolly_root.specs.declared.look_up.chunk_on_way.Onward.TheVariants.{Below}
 use Rattle.prolly_root.specs.declared.root_fault.RootFault.{RootFault}
@@ -165,7 +165,7 @@ module _ {T : Type 0} (stands : ChunkFile → T → ℕ → ℕ → Type 0) (ver
     comes_on on now left = record {
       steps = c.steps ++ on.0 ∷ [];
       at = on.0;
-      leads = leads_more (StepsTo version file) (at_root file root sought) c.steps c.at on.0 c.leads
+      leads = path_more (StepsTo version file) (at_root file root sought) c.steps c.at on.0 c.leads
           on.1;
       due_at = on.2;
       met_there = now;

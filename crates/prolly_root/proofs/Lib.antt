@@ -16,7 +16,7 @@ pub mod Endings
 pub mod LawfulLookUps
 -- Counting the chunks of each level on the way to the root.
 pub mod Marking
--- What a source over the frames of a file finds, and keeps between two calls.
+-- What a source over the frames of a file finds.
 pub mod Sources
 -- Going down in a chunk file of any bytes, from where a look-up stands to where it stands next.
 pub mod FaultSteps

@@ -20,7 +20,7 @@ use Rattle.prolly_root.specs.LookUpFault.{fault_of_flaw}
 use Rattle.prolly_root.specs.Walk.{IsBehind, IsNth}
 use Rattle.prolly_root.specs.declared.root_fault.RootFault.{RootFault}
 use Rattle.prolly_root.specs.lemmas.Flaws.{one_flaw}
-use Rattle.prolly_root.specs.lemmas.Leads.{one_end}
+use Rattle.prolly_root.specs.lemmas.Paths.{one_end}
 use Rattle.prolly_root.specs.lemmas.Levels.{behind_one, nth_one}
 
 -- ---- a child stands once among those whose keys rise

@@ -1,4 +1,4 @@
--- What a source over the frames of a file finds, and keeps between two calls.
+-- What a source over the frames of a file finds.
 use Rattle.std.proofs.Common.{◌≡◌, ◌≤◌, ◌<◌, ◌^◌, ◌⊎◌, ℕ, ◌-◌, List, length, Option, Some, None}
 use Rattle.std.proofs.Common.{inl}
 use Rattle.std.proofs.Common.{inr, Ok, refl, sym, subst}
@@ -38,12 +38,6 @@ pub frames_told : (version : Version) (file : ChunkFile) {fault : RootFault} →
     OnlyRead fault ⊎ (file_fault version file ≡ Some fault)
 frames_told version file fine (inl only) = inl only
 frames_told version file fine (inr told) = inr (rw (fine, told) refl)
-
--- ---- between two calls
-
-pub keeps_chunks : {old new : DeviceView} (marks : Option Marks) {file : ChunkFile} →
-    StaysSame old new → HasChunksOf old marks file → HasChunksOf new marks file
-keeps_chunks marks same has = (holds_chunks_still same has.0, has.1)
 
 -- ---- a lawful file
 

@@ -36,15 +36,6 @@ use Rattle.prolly_root.proofs.Starts.{TellsStart, starts_as}
 -- ---- a device between two calls
 
 -- the file that it held it holds still
-pub holds_still : {old new : DeviceView} {content : Content} → StaysSame old new →
-    HoldsFile old content → HoldsFile new content
-holds_still {content = content} same holds =
-    let kept = same holds.honest in record {
-      honest = kept.0;
-      short = subst (λ bytes. length bytes < 2 ^ 64) (sym kept.1) holds.short;
-      is = subst (λ bytes. IsFileOf bytes content) (sym kept.1) holds.is;
-    }
-
 pub holds_chunks_still : {old new : DeviceView} {file : ChunkFile} → StaysSame old new →
     HoldsChunks old file → HoldsChunks new file
 holds_chunks_still same holds =

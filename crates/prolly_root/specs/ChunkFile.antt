@@ -65,7 +65,8 @@ chunk_file content = record {
       (length (chunks (sha512_cut content.bits) content.version content.pairs));
 }
 
--- It is the file of a map, no two of whose chunks have one reference.
+-- The content is lawful: it has at most 24 bits, its pairs are lawful and rise, and no two chunks
+-- of its tree have one reference.
 abbrev pub IsLawful : Content → Type 0
 IsLawful content = IsFileOf (chunk_file content).bytes content
 

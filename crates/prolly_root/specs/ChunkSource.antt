@@ -9,7 +9,7 @@ use Rattle.prolly_root.specs.Walk.{IsBehind, IsNth}
 use Rattle.prolly_root.specs.declared.root_fault.RootFault.{RootFault}
 
 -- It goes over the chunk file of this content, and the content is lawful.
-pub record HasTree {S : Type 0} (goes_over : S → ChunkFile → Type 0) (source : S)
+pub record GoesOverTree {S : Type 0} (goes_over : S → ChunkFile → Type 0) (source : S)
     (content : Content) : Type 0 where
   pub lawful : IsLawful content
   pub goes : goes_over source (chunk_file content)

@@ -19,7 +19,7 @@ pub mod Subtree
 -- Where the trees of a content stand in its chunk file.
 pub mod FileTrees
 -- Going on from one to the next, step by step.
-pub mod Leads
+pub mod Path
 -- Why a look-up in a chunk file of any bytes finds no answer.
 pub mod LookUpFault
 -- Leaves of a chunk file that are read before they are asked for.

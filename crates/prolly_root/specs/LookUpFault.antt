@@ -15,7 +15,7 @@ use Rattle.prolly_entry.specs.Cut.{sha512_cut}
 use Rattle.prolly_root.specs.ChunkFile.{ChunkFile, IsLawful, chunk_file, fault_behind, file_fault}
 use Rattle.prolly_root.specs.ChunkFile.{nth_in}
 use Rattle.prolly_tree.specs.File.{root_reference}
-use Rattle.prolly_root.specs.Leads.{Leads}
+use Rattle.prolly_root.specs.Path.{IsPath}
 use Rattle.prolly_root.specs.RootFault.{MayFail}
 use Rattle.prolly_root.specs.Subtree.{HasNoNth}
 use Rattle.prolly_root.specs.Walk.{IsBehind, IsNth}
@@ -92,7 +92,7 @@ pub record StepsTo (version : Version) (file : ChunkFile) (at next : Standing) :
 
 -- It goes down by these steps.
 abbrev pub LeadsTo : Version → ChunkFile → Standing → List Standing → Standing → Type 0
-LeadsTo version file = Leads (StepsTo version file)
+LeadsTo version file = IsPath (StepsTo version file)
 
 -- There is no chunk where the child should stand in which the look-up goes on.
 pub record LacksChild (version : Version) (file : ChunkFile) (at : Standing) (fault : RootFault)

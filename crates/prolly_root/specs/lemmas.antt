@@ -3,7 +3,7 @@
 -- The tops of trees, and where they stand.
 pub mod Places
 -- Going on step by step, where there is one step at most.
-pub mod Leads
+pub mod Paths
 -- What is wrong with a chunk, and that it is one flaw.
 pub mod Flaws
 -- The chunks of a level in a file, one behind another.

@@ -26,8 +26,9 @@ pub trait ChunkSource {
     /// How many of its calls failed.
     ghost failures: { Self → ℕ };
 
-    /// It goes over the frames of this file, one behind another. A source that goes over none may say
-    /// so of no file.
+    /// It goes over the frames of this file, one behind another. A source that goes over none says
+    /// so of no file. Then nothing is promised of its faults, nor that a lawful tree is not
+    /// refused.
     ghost goes_over: { Self → ChunkFile → Type 0 };
 
     /// The chunk of this number of the file stands there, and the frames below it begin with that of

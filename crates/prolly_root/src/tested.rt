@@ -4,7 +4,7 @@ ghost use Rattle.prolly_look_up.specs.Content.{Content};
 ghost use Rattle.prolly_look_up.specs.Way.{FallsTo, IsNamed, IsOrdered};
 ghost use Rattle.prolly_entry.specs.Reference.{reference_of};
 ghost use Rattle.prolly_root.specs.ChunkFile.{ChunkFile, nth_in};
-ghost use Rattle.prolly_root.specs.ChunkSource.{HasAsked, HasTree};
+ghost use Rattle.prolly_root.specs.ChunkSource.{HasAsked, GoesOverTree};
 ghost use Rattle.prolly_root.specs.Descent.{StandsBelow};
 ghost use Rattle.prolly_root.specs.LookUpFault.{IsFaultOfChunk};
 ghost use Rattle.prolly_root.specs.RootFault.{IsOrFails, MayFail};
@@ -34,7 +34,7 @@ pub fn tested_chunk<S: ChunkSource>(
     ensures falls { IfOk result (λ chunk. FallsTo above chunk.items) }
 
     // The chunk of a lawful tree is never refused.
-    ensures lawful { (content : Content) → HasTree S.goes_over source.old content →
+    ensures lawful { (content : Content) → GoesOverTree S.goes_over source.old content →
         version ≡ content.version →
         (due : StandsBelow S.stands content reference.now.0 above place.now) → IsOrFails (λ chunk.
         chunk.items ≡ bytes_of content.version due.at.level due.at.t) MayFail result }

@@ -8,7 +8,7 @@ use Rattle.prolly_entry.specs.Pair.{Pair}
 use Rattle.prolly_entry.specs.declared.version.Version.{Version}
 use Rattle.prolly_tree.specs.lemmas.Maps.{FirstAbove}
 use Rattle.prolly_root.specs.ChunkFile.{ChunkFile}
-use Rattle.prolly_root.specs.ChunkSource.{GoesOverStill, HasTree}
+use Rattle.prolly_root.specs.ChunkSource.{GoesOverStill, GoesOverTree}
 use Rattle.prolly_root.specs.lemmas.LawfulFiles.{has_still}
 use Rattle.prolly_root_diff.specs.Left.{Due}
 use Rattle.prolly_root_diff.specs.Sides.{AreOne, AreSiblingsOf, IsSideOf, PassesFirst, dues}
@@ -61,7 +61,7 @@ module _ {S T : Type 0} (goes_over : S → ChunkFile → Type 0) (failures : S �
 
   pub goes_down : (start old new : S) (side before after : Side T) →
       GoesOn goes_over failures stands_at version start old side before →
-      ((content : Content) → HasTree goes_over old content → version ≡ content.version →
+      ((content : Content) → GoesOverTree goes_over old content → version ≡ content.version →
       IsSideOf stands_at content before → IsSideOf stands_at content after) →
       GoesOverStill goes_over old new → failures new ≡ failures old →
       GoesOn goes_over failures stands_at version start new side after

@@ -17,7 +17,7 @@ use Rattle.prolly_look_up.specs.Way.{Clash, IsNamed}
 use Rattle.prolly_tree.specs.Walks.{AreAlike, AreMaps, IsFirstChange, Maps}
 use Rattle.prolly_tree.specs.lemmas.Maps.{FirstAbove}
 use Rattle.prolly_root.specs.ChunkFile.{ChunkFile}
-use Rattle.prolly_root.specs.ChunkSource.{GoesOverStill, HasTree}
+use Rattle.prolly_root.specs.ChunkSource.{GoesOverStill, GoesOverTree}
 use Rattle.prolly_root.specs.RootFault.{MayFail, TellsFailure}
 use Rattle.prolly_root.specs.declared.root_fault.RootFault.{RootFault}
 use Rattle.prolly_root_diff.specs.Left.{Due, IsLeft, Left, Opens, left_of_root}
@@ -244,8 +244,8 @@ pub record GoesOn {S T : Type 0} (goes_over : S → ChunkFile → Type 0) (failu
     (stands_at : ChunkFile → T → ℕ → ℕ → Type 0) (version : Version) (old new : S)
     (before after : Side T) : Type 0 where
   pub still : HasStill goes_over failures old new
-  pub lawful : (content : Content) → HasTree goes_over old content → version ≡ content.version →
-      IsSideOf stands_at content before → IsSideOf stands_at content after
+  pub lawful : (content : Content) → GoesOverTree goes_over old content →
+      version ≡ content.version → IsSideOf stands_at content before → IsSideOf stands_at content after
 
 -- The fault is that of the source: a failed read is told where one more call failed, and only there;
 -- and what it has is not refused.
@@ -254,8 +254,8 @@ pub record FailsAt {S T : Type 0} (goes_over : S → ChunkFile → Type 0) (fail
     (before : Side T) (fault : RootFault) : Type 0 where
   pub goes_still : GoesOverStill goes_over old new
   pub told : TellsFailure (failures old) (failures new) fault
-  pub lawful : (content : Content) → HasTree goes_over old content → version ≡ content.version →
-      IsSideOf stands_at content before → MayFail fault
+  pub lawful : (content : Content) → GoesOverTree goes_over old content →
+      version ≡ content.version → IsSideOf stands_at content before → MayFail fault
 
 -- What a call tells of the source of the old tree, and of that of the new one.
 abbrev pub TellsOld : {S T C : Type 0} → (S → ChunkFile → Type 0) → (S → ℕ) →

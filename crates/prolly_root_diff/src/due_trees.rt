@@ -1,7 +1,7 @@
 //! The subtrees of a tree that are due.
 ghost use Rattle.std.specs.Prelude.{◌≡◌, ◌<◌, ◌∷◌, length, OnOk, IfOk};
 ghost use Rattle.prolly_look_up.specs.Content.{Content};
-ghost use Rattle.prolly_root.specs.ChunkSource.{HasAsked, HasTree};
+ghost use Rattle.prolly_root.specs.ChunkSource.{HasAsked, GoesOverTree};
 ghost use Rattle.prolly_root.specs.RootFault.{IsOrFails, MayFail};
 ghost use Rattle.prolly_root_diff.specs.DueTrees.{AreDueIn, IsWholeTree, ReadsFirst, all_due};
 ghost use Rattle.prolly_root_diff.specs.Sides.{PutBehindFirst};
@@ -37,7 +37,7 @@ pub(crate) fn read_first<S: ChunkSource>(
     requires { 0 < length (all_due due.old.items) }
     ensures reads { IfOk result (λ read. ReadsFirst version (all_due due.old.items) read.0.0
         read.1.items (all_due due.new.items)) }
-    ensures lawful { (content : Content) → HasTree S.goes_over source.old content →
+    ensures lawful { (content : Content) → GoesOverTree S.goes_over source.old content →
         version ≡ content.version → AreDueIn S.stands content due.old.items →
         IsOrFails (λ _. AreDueIn S.stands content due.new.items) MayFail result }
     ensures asked { HasAsked S.goes_over S.failures source.old source.new result }

@@ -2,7 +2,7 @@
 ghost use Rattle.std.specs.Prelude.{◌≡◌, ◌<◌, [], true, false, length, None, Some, Err, IfOk};
 ghost use Rattle.std.specs.Prelude.{IfErr, IfSome, OnOk};
 ghost use Rattle.prolly_look_up.specs.Content.{Content};
-ghost use Rattle.prolly_root.specs.ChunkSource.{HasAsked, HasTree};
+ghost use Rattle.prolly_root.specs.ChunkSource.{HasAsked, GoesOverTree};
 ghost use Rattle.prolly_root.specs.RootFault.{IsOrFails, MayFail};
 ghost use Rattle.prolly_root.specs.declared.root_fault.RootFault.{RootFault as RootFaultValue};
 ghost use Rattle.prolly_root_diff.specs.DueTrees.{AreDueIn, all_due};
@@ -96,7 +96,7 @@ impl<T: Copy + Drop> RootLeaves<T> {
             (result ≡ Err fault) × (source.new ≡ source.old) }
 
         // The tree, where the source has it, is not refused, and a failed read is told.
-        ensures lawful { (content : Content) → HasTree S.goes_over source.old content →
+        ensures lawful { (content : Content) → GoesOverTree S.goes_over source.old content →
             self.old.version ≡ content.version → self.old.fault ≡ None →
             WalksIn S.stands content self.old →
             IsOrFails (λ _. WalksIn S.stands content self.new) MayFail result }
@@ -126,7 +126,7 @@ fn next_leaf<S: ChunkSource>(
         (all_due due.new.items)) }
     ensures nearer { IfOk result (λ leaf. IfSome leaf (λ _.
         weights (all_due due.new.items) < weights (all_due due.old.items))) }
-    ensures lawful { (content : Content) → HasTree S.goes_over source.old content →
+    ensures lawful { (content : Content) → GoesOverTree S.goes_over source.old content →
         version ≡ content.version → AreDueIn S.stands content due.old.items →
         IsOrFails (λ _. AreDueIn S.stands content due.new.items) MayFail result }
     ensures asked { HasAsked S.goes_over S.failures source.old source.new result }

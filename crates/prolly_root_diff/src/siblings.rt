@@ -4,7 +4,7 @@ ghost use Rattle.std.specs.Prelude.{IfOk, MatchOption};
 ghost use Rattle.prolly_look_up.specs.Content.{Content};
 ghost use Rattle.prolly_look_up.specs.Entries.{IsNode, IsWhole, children_in};
 ghost use Rattle.prolly_look_up.specs.Way.{FallsTo, IsNamed, level_of};
-ghost use Rattle.prolly_root.specs.ChunkSource.{HasAsked, HasTree};
+ghost use Rattle.prolly_root.specs.ChunkSource.{HasAsked, GoesOverTree};
 ghost use Rattle.prolly_root.specs.Descent.{StandsBelow};
 ghost use Rattle.prolly_root.specs.RootFault.{IsOrFails, MayFail, OnlyRead};
 ghost use Rattle.prolly_root_diff.specs.Sides.{AreChildrenOf, AreSiblingsOf, HaveSame};
@@ -127,7 +127,7 @@ impl<T: Copy + Drop> Siblings<T> {
         version: Version,
     ) -> Result<T, RootFault>
         ensures same { HaveSame self.old self.new }
-        ensures lawful { (content : Content) → HasTree S.goes_over source.old content →
+        ensures lawful { (content : Content) → GoesOverTree S.goes_over source.old content →
             version ≡ content.version → AreSiblingsOf S.stands content self.old →
             AreSiblingsOf S.stands content self.new × IsOrFails (StandsBelow S.stands content
             self.old.next.0 (level_above self.old)) OnlyRead result }
@@ -155,7 +155,7 @@ impl<T: Copy + Drop> Siblings<T> {
         ensures named { IfOk result (λ read. IsNamed version self.old.next.0 read.0.items) }
         ensures falls { IfOk result (λ read. FallsTo (level_above self.old) read.0.items) }
         ensures same { HaveSame self.old self.new }
-        ensures lawful { (content : Content) → HasTree S.goes_over source.old content →
+        ensures lawful { (content : Content) → GoesOverTree S.goes_over source.old content →
             version ≡ content.version → AreSiblingsOf S.stands content self.old →
             AreSiblingsOf S.stands content self.new × IsOrFails (λ read. IsTopThere S.stands
             content self.old.next.0 (read.0.items, read.1)) MayFail result }

@@ -1,9 +1,9 @@
 //! What is left of one tree.
-ghost use Rattle.std.specs.Prelude.{◌≡◌, ◌<◌, [], ◌∷◌, length, List, true, false, None, OnOk, IfOk};
-ghost use Rattle.std.specs.Prelude.{IfErr, MatchOption};
+ghost use Rattle.std.specs.Prelude.{◌≡◌, ◌<◌, [], ◌∷◌, length, List, true, false, OnOk, IfOk};
+ghost use Rattle.std.specs.Prelude.{MatchOption};
 ghost use Rattle.prolly_look_up.specs.Content.{Content};
 ghost use Rattle.prolly_entry.specs.Pair.{Pair as PairValue};
-ghost use Rattle.prolly_root.specs.ChunkSource.{HasAsked, HasTree};
+ghost use Rattle.prolly_root.specs.ChunkSource.{HasAsked, GoesOverTree};
 ghost use Rattle.prolly_root.specs.RootFault.{IsOrFails, MayFail};
 ghost use Rattle.prolly_root_diff.specs.Left.{Due};
 ghost use Rattle.prolly_root_diff.specs.Notes.{Reads};
@@ -78,7 +78,7 @@ impl<T: Copy + Drop> Side<T> {
     ) -> Result<Note, RootFault>
         requires { IsDue (left_of self.old) }
         ensures opens { IfOk result (Reads version (left_of self.old) (left_of self.new)) }
-        ensures lawful { (content : Content) → HasTree S.goes_over source.old content →
+        ensures lawful { (content : Content) → GoesOverTree S.goes_over source.old content →
             version ≡ content.version → IsSideOf S.stands content self.old →
             IsOrFails (λ _. IsSideOf S.stands content self.new) MayFail result }
         ensures asked { HasAsked S.goes_over S.failures source.old source.new result }

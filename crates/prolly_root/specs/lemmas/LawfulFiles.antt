@@ -17,7 +17,7 @@ use Rattle.prolly_tree.specs.Tree.{Tree}
 use Rattle.prolly_root.specs.ChunkFile.{ChunkFile, IsLawful, chunk_file, fault_at_end, file_fault}
 use Rattle.prolly_root.specs.ChunkFile.{frames_fault, header_or_version_fault, nth_in}
 use Rattle.prolly_root.specs.ChunkFile.{no_chunk_fault}
-use Rattle.prolly_root.specs.ChunkSource.{FindsChild, FindsRoot, GoesOverStill, HasTree}
+use Rattle.prolly_root.specs.ChunkSource.{FindsChild, FindsRoot, GoesOverStill, GoesOverTree}
 use Rattle.prolly_root.specs.FileTrees.{IsChildNumber, IsTreePlace, root_level, root_tree}
 use Rattle.prolly_root.specs.RootFault.{IsOrFails, OnlyRead}
 use Rattle.prolly_root.specs.declared.root_fault.RootFault.{RootFault}
@@ -146,7 +146,7 @@ module _ {T : Type 0} (stands : ChunkFile → T → ℕ → ℕ → Type 0) (con
 
 -- Where it goes over still what it went over, it has still the trees that it had.
 pub has_still : {S : Type 0} {goes_over : S → ChunkFile → Type 0} {old new : S}
-    {content : Content} → GoesOverStill goes_over old new → HasTree goes_over old content →
-    HasTree goes_over new content
+    {content : Content} → GoesOverStill goes_over old new → GoesOverTree goes_over old content →
+    GoesOverTree goes_over new content
 has_still {content = content} still has =
     record { lawful = has.lawful; goes = still (chunk_file content) has.goes }

@@ -3,7 +3,7 @@ ghost use Rattle.std.specs.Prelude.{◌≡◌, ℕ, drop, take, true, IfOk, IfSo
 ghost use Rattle.std.specs.List.{AllByRecursion};
 ghost use Rattle.prolly_look_up.specs.Content.{Content};
 ghost use Rattle.prolly_root.specs.ChunkFile.{ChunkFile, HoldsChunks, nth_in};
-ghost use Rattle.prolly_root.specs.ChunkSource.{HasTree};
+ghost use Rattle.prolly_root.specs.ChunkSource.{GoesOverTree};
 ghost use Rattle.prolly_root.specs.ReadAhead.{IsPartOf};
 ghost use Rattle.prolly_root.specs.RootFault.{IsOrFails, MayFail};
 ghost use Rattle.prolly_root.specs.Walk.{HasRead, HoldsFile, IsFrame, IsWalk};
@@ -59,7 +59,7 @@ impl<D: Device> FileChunks<D> {
         ensures failures { ⟦<FileChunks<D> as ChunkSource>⟧.failures result ≡
             (D.seen device).failures }
         ensures has { (content : Content) → HoldsFile (D.seen device) content →
-            HasTree ⟦<FileChunks<D> as ChunkSource>⟧.goes_over result content }
+            GoesOverTree ⟦<FileChunks<D> as ChunkSource>⟧.goes_over result content }
         ensures goes { (file : ChunkFile) → HoldsChunks (D.seen device) file →
             ⟦<FileChunks<D> as ChunkSource>⟧.goes_over result file }
     {
@@ -77,7 +77,7 @@ impl<D: Device> FileChunks<D> {
         ensures failures { (D.seen result).failures ≡
             ⟦<FileChunks<D> as ChunkSource>⟧.failures self }
         ensures has { (content : Content) →
-            HasTree ⟦<FileChunks<D> as ChunkSource>⟧.goes_over self content →
+            GoesOverTree ⟦<FileChunks<D> as ChunkSource>⟧.goes_over self content →
             HoldsFile (D.seen result) content }
         ensures goes { (file : ChunkFile) → ⟦<FileChunks<D> as ChunkSource>⟧.goes_over self file →
             HoldsChunks (D.seen result) file }

@@ -1,6 +1,6 @@
 //! Looking up by the root again and again, in a tree of which no more is read than that wants.
 ghost use Rattle.std.specs.Prelude.{◌≡◌, ◌<◌, ◌⊎◌, ℕ, [], ◌∷◌, ◌++◌, List, length, option_map, IfOk};
-ghost use Rattle.std.specs.Prelude.{Err, IfErr, None, Ok, OnErr, OnOk, Some};
+ghost use Rattle.std.specs.Prelude.{Err, None, Ok, OnErr, OnOk, Some};
 ghost use Rattle.std.specs.List.{AllByRecursion};
 ghost use Rattle.prolly_look_up.specs.HeldPairs.{pairs_held};
 ghost use Rattle.prolly_look_up.specs.PairsFrom.{pairs_from};

@@ -1,6 +1,6 @@
 use Rattle.std.proofs.Common.{◌≡◌, None}
 use Rattle.prolly_look_up.specs.Content.{Content}
-use Rattle.prolly_root.specs.ChunkSource.{GoesOverStill, HasTree}
+use Rattle.prolly_root.specs.ChunkSource.{GoesOverStill, GoesOverTree}
 use Rattle.prolly_entry.specs.Cut.{sha512_cut}
 use Rattle.prolly_root_diff.specs.LeafWalk.{WalksIn, due_of_walk}
 use Rattle.prolly_root_diff.specs.ToGo.{weights}
@@ -17,7 +17,7 @@ invariant-loop-leaves g l = record {
   link : g.O.Out.link l.out ≡ g.O.Out.link l.fn.out;
   still : GoesOverStill g.S.ChunkSource.goes_over l.fn.source l.source;
   failures : g.S.ChunkSource.failures l.source ≡ g.S.ChunkSource.failures l.fn.source;
-  lawful : (content : Content) → HasTree g.S.ChunkSource.goes_over l.fn.source content →
+  lawful : (content : Content) → GoesOverTree g.S.ChunkSource.goes_over l.fn.source content →
       l.version ≡ content.version →
       l.root.0 ≡ root_reference (sha512_cut content.bits) content.version content.pairs →
       WalksIn g.S.ChunkSource.stands content l.leaves;

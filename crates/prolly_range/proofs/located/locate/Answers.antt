@@ -1,19 +1,13 @@
-use Rattle.std.proofs.Common.{refl, ◌≡◌, ◌-◌, ◌++◌, ◌∷◌, ◌∙◌, [], List, ap, inr, map, rules, subst}
+use Rattle.std.proofs.Common.{refl, ◌≡◌, ◌-◌, ◌++◌, ◌∷◌, ◌∙◌, [], List, ap, map, rules, subst}
 use Rattle.std.proofs.Common.{sym}
 use Rattle.std.proofs.lemmas.List.{nil_from_length}
-use Rattle.prolly_entry.specs.lemmas.Lists.{all_append}
-use Rattle.prolly_root.specs.ChunkFile.{chunk_file}
-use Rattle.prolly_root.specs.Descent.{StandsBelow}
-use Rattle.prolly_root.specs.RootFault.{MayFail, OnlyRead}
-use Rattle.std.specs.List.{AllByRecursion}
-use Rattle.std.proofs.Common.{refl, Some}
+use Rattle.std.proofs.Common.{refl}
 use Rattle.prolly_range.specs.Children.{met_of}
 use Rattle.prolly_range.specs.Dues.{seen_due}
-use Rattle.prolly_range.specs.Prover.{AreChildrenThere, IsLocated, located_due}
-use Rattle.prolly_range.specs.Standing.{MayLack}
+use Rattle.prolly_range.specs.Prover.{located_due}
+use Rattle.prolly_range.specs.Places.{MayLack}
 use Rattle.prolly_root.specs.ChunkSource.{FindsChild}
 use Rattle.prolly_range.proofs.Finds.{Finding, all_found, may_lack, none_found, one_found}
-use Rattle.prolly_range.proofs.Locating.{FoundAt, next_there}
 use Rattle.prolly_range.proofs.located.locate.Goals as goal
 
 -- one more stands behind the others
@@ -21,25 +15,6 @@ one_more : {A B : Type 0} (f : A → B) (old : List A) (x : A) (y : B) (others :
     map f (old ++ x ∷ []) ++ others ≡ map f old ++ y ∷ others
 one_more f [] x y others e = ap (λ z. z ∷ others) e
 one_more f (w ∷ old) x y others e = ap (λ zs. f w ∷ zs) (one_more f old x y others e)
-
-pub returns-in_err-there-clause-lawful : goal.returns-in_err-there-clause-lawful
-returns-in_err-there-clause-lawful g c content has there =
-    let stands_at = g.S.ChunkSource.stands in
-    let still = c.loop-child.invariant.goes (chunk_file content) has.goes in
-    let others = map met_of c.pop_front.new.self.items in
-    let due = subst (AreChildrenThere stands_at content (c.args.level - 1) c.loop-child.place)
-    (ap (map met_of) c.in-Some.ensures.items)
-    (c.loop-child.invariant.lawful content has there).0 in
-    let next = next_there stands_at content c.args.level (met_of c.in-Some.child) others
-    c.loop-child.place c.child.new.node c.child.result c.requires due
-    (λ n from. c.child.ensures.stays (chunk_file content) n from still)
-    (λ n from. c.child.ensures.finds (chunk_file content) n from still) in
-    let only : OnlyRead c.in_err-there.field-0.0 =
-    subst (FoundAt stands_at content (met_of c.in-Some.child) c.args.level) c.in_err-there.was
-    next.1
-    in
-    let may : MayFail c.in_err-there.field-0.0 = inr only in
-    search rules
 
 pub loop-child-preserved : goal.loop-child-preserved
 loop-child-preserved g c =
@@ -57,26 +32,6 @@ loop-child-preserved g c =
       goes = λ file goes.
           c.in_ok-there.ensures.asked.0 file (c.loop-child.invariant.goes file goes);
       failures = c.in_ok-there.ensures.asked.1 ∙ c.loop-child.invariant.failures;
-      lawful = λ content has there.
-          let still = c.loop-child.invariant.goes (chunk_file content) has.goes in
-          let inv = c.loop-child.invariant.lawful content has there in
-          let due = subst (AreChildrenThere stands_at content (level - 1) c.loop-child.place)
-          (ap (map met_of) c.in-Some.ensures.items) inv.0 in
-          let next = next_there stands_at content level (met_of child) others c.loop-child.place
-          c.child.new.node c.child.result c.requires due
-          (λ n from. c.child.ensures.stays (chunk_file content) n from still)
-          (λ n from. c.child.ensures.finds (chunk_file content) n from still) in
-          let stands : StandsBelow stands_at content (met_of child).reference (Some level)
-          c.in_ok-there.there =
-          subst (FoundAt stands_at content (met_of child) level) c.in_ok-there.was next.1 in (
-            next.0,
-            subst (AllByRecursion (IsLocated stands_at content)) (sym c.in_ok-keep.ensures)
-                (all_append (IsLocated stands_at content) before _ inv.1 (
-                  subst (λ d. StandsBelow stands_at content d.reference d.above
-                      c.in_ok-there.there) (sym c.below.ensures) stands,
-                  tt,
-                )),
-          );
       tells = λ file n from over at high.
           let inv = c.loop-child.invariant.tells file n from over at high in
           let still = c.loop-child.invariant.goes file over in
@@ -120,7 +75,6 @@ loop-child-init g c = rw c.new-found.ensures.items (record {
   due = refl;
   goes = λ file goes. goes;
   failures = refl;
-  lawful = λ content has there. (there, tt);
   tells = λ file n from over at high.
       (at, none_found g.S.ChunkSource.stands file (c.args.level - 1) from _);
 })

@@ -1,12 +1,10 @@
 use Rattle.std.proofs.Common.{◌≡◌, ◌-◌, ◌++◌, ℕ, length, map}
-use Rattle.std.specs.List.{AllByRecursion}
-use Rattle.prolly_look_up.specs.Content.{Content}
 use Rattle.prolly_look_up.specs.Way.{level_of}
 use Rattle.prolly_root.specs.ChunkFile.{ChunkFile, nth_in}
-use Rattle.prolly_root.specs.ChunkSource.{GoesOverStill, HasTree}
+use Rattle.prolly_root.specs.ChunkSource.{GoesOverStill}
 use Rattle.prolly_range.specs.Children.{met_of}
 use Rattle.prolly_range.specs.Dues.{seen_due}
-use Rattle.prolly_range.specs.Prover.{AreChildrenThere, IsLocated, located_due}
+use Rattle.prolly_range.specs.Prover.{located_due}
 use Rattle.prolly_range.proofs.Finds.{Finding}
 use Rattle.prolly_range.proofs.located.locate.Given as goal
 
@@ -16,12 +14,6 @@ invariant-loop-child g l = record {
       map (seen_due l.level) (map met_of l.fn.met.items);
   goes : GoesOverStill g.S.ChunkSource.goes_over l.fn.source l.source;
   failures : g.S.ChunkSource.failures l.source ≡ g.S.ChunkSource.failures l.fn.source;
-  lawful : (content : Content) → HasTree g.S.ChunkSource.goes_over l.fn.source content →
-      AreChildrenThere g.S.ChunkSource.stands content (l.level - 1) l.fn.place
-      (map met_of l.fn.met.items) →
-      AreChildrenThere g.S.ChunkSource.stands content (l.level - 1) l.place
-      (map met_of l.met.items) ×
-      AllByRecursion (IsLocated g.S.ChunkSource.stands content) l.found.items;
   tells : (file : ChunkFile) (n from : ℕ) → g.S.ChunkSource.goes_over l.fn.source file →
       g.S.ChunkSource.stands file l.fn.place n from → l.level ≡ level_of (nth_in file n) →
       g.S.ChunkSource.stands file l.place n from ×

@@ -1,27 +1,16 @@
-use Rattle.std.proofs.Common.{◌≡◌, ◌++◌, ◌⊎◌, ◌∙◌, ap, map, refl, rules, subst, sym}
-use Rattle.std.specs.List.{AllByRecursion}
+use Rattle.std.proofs.Common.{◌≡◌, ◌++◌, ◌⊎◌, ◌∙◌, ap, map, refl, rules, subst}
 use Rattle.prolly_look_up.specs.Kinds.{kind_of}
 use Rattle.prolly_look_up.specs.Way.{level_of}
-use Rattle.prolly_entry.specs.lemmas.Lists.{all_append}
 use Rattle.prolly_root.specs.RootFault.{MayFail}
-use Rattle.prolly_root.specs.lemmas.LawfulFiles.{has_still}
 use Rattle.prolly_range.specs.KeySet.{set_of}
-use Rattle.prolly_range.specs.Prover.{IsLocated, located_due}
+use Rattle.prolly_range.specs.Prover.{located_due}
 use Rattle.prolly_range.specs.SetProof.{due_below, pairs_there}
-use Rattle.prolly_range.specs.SetFault.{StopsWith}
-use Rattle.prolly_range.specs.Standing.{StandAs}
+use Rattle.prolly_range.specs.FirstFault.{StopsWith}
+use Rattle.prolly_range.specs.Places.{EachStandsAs}
 use Rattle.prolly_range.proofs.Finds.{child_stops, chunk_stops, first_there, goes_on}
 use Rattle.prolly_range.proofs.Writing.{joined_due}
 use Rattle.prolly_range.proofs.Weights.{comes_nearer}
 use Rattle.prolly_range.proofs.prover.next_chunk.Goals as goal
-
-pub returns-in_err-chunk-clause-lawful : goal.returns-in_err-chunk-clause-lawful
-returns-in_err-chunk-clause-lawful g c content has same at =
-    let all = subst (AllByRecursion (IsLocated g.S.ChunkSource.stands content))
-    c.in-Some.ensures.items at in
-    let may : MayFail c.in_err-chunk.field-0.0 =
-    c.in_err-chunk.ensures.lawful content has same all.0 in
-    search rules
 
 pub returns-clause-proves : goal.returns-clause-proves
 returns-clause-proves g c =
@@ -52,24 +41,13 @@ returns-clause-nearer g c =
     comes_nearer c.args.version (map located_due c.args.due.now.items)
     (map located_due c.put_first.new.due.items) c.in_ok-chunk.chunk.items p.0 p.1 p.2
 
-pub returns-clause-lawful : goal.returns-clause-lawful
-returns-clause-lawful g c content has same at =
-    let stands_at = g.S.ChunkSource.stands in
-    let all = subst (AllByRecursion (IsLocated stands_at content)) c.in-Some.ensures.items at in
-    let is = c.in_ok-chunk.ensures.lawful content has same all.0 in
-    let below = c.in_ok-below.ensures.lawful content (has_still c.in_ok-chunk.ensures.asked.0 has)
-    same all.0 (c.deref.ensures.value ∙ is) in
-    subst (AllByRecursion (IsLocated stands_at content)) (sym c.in_ok-put_first.ensures)
-    (all_append (IsLocated stands_at content) c.in_ok-below.below.items
-    c.pop_front.new.self.items below all.1)
-
 -- ---- in a chunk file of any bytes
 
 pub returns-in_err-chunk-clause-tells : goal.returns-in_err-chunk-clause-tells
 returns-in_err-chunk-clause-tells g c file at over stand =
     let stands_at = g.S.ChunkSource.stands in
     let f = first_there stands_at file c.in-Some.first c.pop_front.new.self.items at
-    (subst (λ ls. StandAs stands_at file ls at) c.in-Some.ensures.items stand) in
+    (subst (λ ls. EachStandsAs stands_at file ls at) c.in-Some.ensures.items stand) in
     let stops : MayFail c.in_err-chunk.field-0.0 ⊎
     StopsWith c.args.version file at c.in_err-chunk.field-0.0 =
     chunk_stops stands_at file c.args.version f (c.in_err-chunk.ensures.tells file f.there.number
@@ -80,7 +58,7 @@ pub returns-in_err-below-clause-tells : goal.returns-in_err-below-clause-tells
 returns-in_err-below-clause-tells g c file at over stand =
     let stands_at = g.S.ChunkSource.stands in
     let f = first_there stands_at file c.in-Some.first c.pop_front.new.self.items at
-    (subst (λ ls. StandAs stands_at file ls at) c.in-Some.ensures.items stand) in
+    (subst (λ ls. EachStandsAs stands_at file ls at) c.in-Some.ensures.items stand) in
     let read = c.in_ok-chunk.ensures in
     let is = read.tells file f.there.number f.there.from over f.stands_there.1 in
     let stops : MayFail c.in_err-below.field-0.0 ⊎
@@ -94,7 +72,7 @@ pub returns-clause-tells : goal.returns-clause-tells
 returns-clause-tells g c file at over stand =
     let stands_at = g.S.ChunkSource.stands in
     let f = first_there stands_at file c.in-Some.first c.pop_front.new.self.items at
-    (subst (λ ls. StandAs stands_at file ls at) c.in-Some.ensures.items stand) in
+    (subst (λ ls. EachStandsAs stands_at file ls at) c.in-Some.ensures.items stand) in
     let read = c.in_ok-chunk.ensures in
     let is = read.tells file f.there.number f.there.from over f.stands_there.1 in
     let set = set_of c.in-Some.first.due.set in

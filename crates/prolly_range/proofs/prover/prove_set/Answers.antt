@@ -1,8 +1,11 @@
 use Rattle.std.proofs.Common.{◌++◌, ◌∷◌, ◌∙◌, [], ap, append-nil, refl, subst, sym}
 use Rattle.std.proofs.lemmas.Result.{err_from_is_err_and}
+use Rattle.prolly_root.specs.ChunkFile.{chunk_file}
 use Rattle.prolly_range.specs.KeySet.{set_of}
 use Rattle.prolly_range.specs.Prover.{WritesPart, WritesRest}
 use Rattle.prolly_range.specs.SetProof.{root_due, set_start}
+use Rattle.prolly_range.specs.declared.prove_fault.ProveFault.TheVariants as faults
+use Rattle.prolly_range.proofs.LawfulSets.{only_fails, rest_told, root_told}
 use Rattle.prolly_range.proofs.Writing.{begun_part, flush_part, proof_written, start_part}
 use Rattle.prolly_range.proofs.prover.prove_set.Goals as goal
 
@@ -56,3 +59,25 @@ returns-clause-proves g c =
     (subst (λ due. WritesRest c.args.version due mid last) c.in_ok-due.ensures.due
     c.in_ok-write_chunks.ensures.rest) (λ keeps. c.in_ok-flush.ensures.bytes
     (c.in_ok-write_chunks.ensures.keeping (c.in_ok-write_all.ensures.writes.keeping keeps)))
+
+-- ---- of a lawful file
+
+pub returns-in_err-due-clause-lawful : goal.returns-in_err-due-clause-lawful
+returns-in_err-due-clause-lawful g c content has same named =
+    let p = err_from_is_err_and c.from_residual.result c.from_residual.ensures.1 in
+    let fault = c.in_err-due.field-0.0 in
+    rw (p.1, p.2) (only_fails (set_of c.args.set) c.lawful_files_have_proofs.ensures has.lawful same
+    named (faults.Chunks fault)
+    (root_told (c.in_err-due.ensures.tells (chunk_file content) has.goes)))
+
+pub returns-in_err-write_chunks-clause-lawful : goal.returns-in_err-write_chunks-clause-lawful
+returns-in_err-write_chunks-clause-lawful g c content has same named =
+    let p = err_from_is_err_and c.from_residual-in_err-write_chunks.result
+    c.from_residual-in_err-write_chunks.ensures.1 in
+    let file = chunk_file content in
+    let due = c.in_ok-due.ensures.tells file has.goes in
+    rw (p.1, p.2) (only_fails (set_of c.args.set) c.lawful_files_have_proofs.ensures has.lawful same
+    named c.in_err-write_chunks.field-0.0 (rest_told c.args.version file c.args.root.now.0
+    (set_of c.args.set) due.0
+    c.in_err-write_chunks.field-0.0 (c.in_err-write_chunks.ensures.tells file _
+    (c.in_ok-due.ensures.asked.0 file has.goes) due.1)))

@@ -2,9 +2,8 @@ use Rattle.std.proofs.Common.{◌++◌, ◌∙◌, Ok, ap, map, option_map, subs
 use Rattle.std.proofs.lemmas.Result.{err_from_is_err_and}
 use Rattle.prolly_io.specs.Frame.{framed}
 use Rattle.prolly_io.specs.Sink.{TakesPrefix}
-use Rattle.prolly_root.specs.lemmas.LawfulFiles.{has_still}
 use Rattle.prolly_range.specs.Prover.{ProvesNext, located_due}
-use Rattle.prolly_range.specs.Standing.{TellsNext}
+use Rattle.prolly_range.specs.Places.{TellsNext}
 use Rattle.prolly_range.proofs.Finds.{ends_there, goes_further, stops_there}
 use Rattle.prolly_range.proofs.Writing.{frame_part, one_written}
 use Rattle.prolly_range.proofs.prover.write_chunks.Goals as goal
@@ -44,9 +43,6 @@ loop-chunk-preserved g c =
           c.in_ok-chunk.ensures.asked.0 file (c.loop-chunk.invariant.goes file goes);
       reads = c.in_ok-chunk.ensures.asked.1 ∙ c.loop-chunk.invariant.reads;
       writes = c.in_ok-write_frame.ensures.failures ∙ c.loop-chunk.invariant.writes;
-      lawful = λ content has same all. c.in_ok-chunk.ensures.lawful content
-          (has_still c.loop-chunk.invariant.goes has) same
-          (c.loop-chunk.invariant.lawful content has same all);
       tells = λ file at over stand.
           let gone = c.loop-chunk.invariant.tells file at over stand in
           let next = subst (λ r. TellsNext g.S.ChunkSource.stands c.args.version file gone.0

@@ -1,19 +1,22 @@
 -- Why the proof of a set of keys is not made from a chunk file of any bytes. (This project's
 -- rules.)
 use Rattle.std.specs.Prelude.{◌≡◌, ◌-◌, ◌⊎◌, ℕ, List, [], ◌∷◌, ◌++◌, length, map, Some, None}
-use Rattle.std.specs.Prelude.{Result}
-use Rattle.std.specs.Prelude.{MatchResult}
+use Rattle.std.specs.Prelude.{Result, MatchResult}
+use Rattle.prolly_look_up.specs.Content.{Content}
 use Rattle.prolly_look_up.specs.Kinds.{Entries, kind_of}
 use Rattle.prolly_look_up.specs.Kinds.Entries.{Leaf, Node}
 use Rattle.prolly_look_up.specs.Way.{FallsTo, IsNamed, level_of}
+use Rattle.prolly_entry.specs.Cut.{sha512_cut}
 use Rattle.prolly_entry.specs.declared.version.Version.{Version}
-use Rattle.prolly_root.specs.ChunkFile.{ChunkFile, fault_behind, file_fault, nth_in}
-use Rattle.prolly_root.specs.Leads.{Leads}
+use Rattle.prolly_root.specs.ChunkFile.{ChunkFile, IsLawful, chunk_file, fault_behind, file_fault}
+use Rattle.prolly_root.specs.ChunkFile.{nth_in}
+use Rattle.prolly_root.specs.Path.{IsPath}
 use Rattle.prolly_root.specs.LookUpFault.{IsFaultOfChunk}
 use Rattle.prolly_root.specs.RootFault.{MayFail}
 use Rattle.prolly_root.specs.Subtree.{HasNoNth}
 use Rattle.prolly_root.specs.Walk.{IsBehind, IsNth}
 use Rattle.prolly_root.specs.declared.root_fault.RootFault.{RootFault}
+use Rattle.prolly_tree.specs.File.{root_reference}
 use Rattle.prolly_range.specs.KeySet.{KeySet, met_in}
 use Rattle.prolly_range.specs.SetProof.{Due, due_below, root_due}
 use Rattle.prolly_range.specs.declared.prove_fault.ProveFault.{ProveFault}
@@ -83,6 +86,7 @@ IsFaultAt version file at fault =
     (IsDue version file at × LacksOne file (level_of (chunk_at file at) - 1) at.from
     (numbers_met at.due.set (kind_of version (chunk_at file at))) × (fault ≡ fault_behind file))
 
+-- So it is of the first of these.
 pub record StopsWith (version : Version) (file : ChunkFile) (due : List DueAt) (fault : RootFault)
     : Type 0 where
   pub first : DueAt
@@ -95,13 +99,13 @@ pub record StopsBehind (version : Version) (file : ChunkFile) (due : List DueAt)
     : Type 0 where
   pub steps : List (List DueAt)
   pub last : List DueAt
-  pub leads : Leads (GoesOn version file) due steps last
+  pub leads : IsPath (GoesOn version file) due steps last
   pub stops : StopsWith version file last fault
 
--- Or until nothing is due.
+-- Or it goes on from them, chunk by chunk, until nothing is due.
 pub record EndsBehind (version : Version) (file : ChunkFile) (due : List DueAt) : Type 0 where
   pub steps : List (List DueAt)
-  pub leads : Leads (GoesOn version file) due steps []
+  pub leads : IsPath (GoesOn version file) due steps []
 
 -- What is wrong first with a file for the proof of a set of keys from the root with this reference:
 -- with its header or its frames, or else with the chunks of the proof, in the proof's order.
@@ -110,22 +114,22 @@ IsFirstSetFault version file root set fault = (file_fault version file ≡ Some 
     ((file_fault version file ≡ None) × StopsBehind version file (root_at file root set ∷ []) fault)
 
 -- The file has all chunks of the proof.
-abbrev pub HasProof : Version → ChunkFile → List ℕ → KeySet → Type 0
-HasProof version file root set =
+abbrev pub HasAllChunks : Version → ChunkFile → List ℕ → KeySet → Type 0
+HasAllChunks version file root set =
     (file_fault version file ≡ None) × EndsBehind version file (root_at file root set ∷ [])
 
 -- What is wrong first with the file is told, but for a failed write, a failed read or want of
 -- memory.
-abbrev pub TellsFirst : Version → ChunkFile → List ℕ → KeySet → ProveFault → Type 0
-TellsFirst version file root set (faults.Chunks fault) =
+abbrev pub TellsFirstFault : Version → ChunkFile → List ℕ → KeySet → ProveFault → Type 0
+TellsFirstFault version file root set (faults.Chunks fault) =
     MayFail fault ⊎ IsFirstSetFault version file root set fault
-TellsFirst version file root set faults.Write = Unit {0}
+TellsFirstFault version file root set faults.Write = Unit {0}
 
 -- A proof was made where the file has its chunks, and else that is told.
 abbrev pub TellsSetFault : {T : Type 0} → Version → ChunkFile → List ℕ → KeySet →
     Result T ProveFault → Type 0
 TellsSetFault version file root set result = MatchResult result
-    (λ done. HasProof version file root set) (TellsFirst version file root set)
+    (λ done. HasAllChunks version file root set) (TellsFirstFault version file root set)
 
 -- Law: one fault is the first for the proof of a set of keys, and there is none where the file has
 -- all its chunks.
@@ -134,5 +138,12 @@ pub record SetFaultsAreOne : Type 0 where
       (fault other : RootFault) → IsFirstSetFault version file root set fault →
       IsFirstSetFault version file root set other → fault ≡ other
   pub none : (version : Version) (file : ChunkFile) (root : List ℕ) (set : KeySet)
-      (fault : RootFault) → HasProof version file root set →
+      (fault : RootFault) → HasAllChunks version file root set →
       IsFirstSetFault version file root set fault → ⊥
+
+-- Law: in the chunk file of a lawful content a proof of a set of keys, from the root of its tree,
+-- has no fault.
+abbrev pub LawfulFilesHaveProofs : Type 0
+LawfulFilesHaveProofs = (content : Content) (set : KeySet) (fault : RootFault) → IsLawful content →
+    IsFirstSetFault content.version (chunk_file content)
+    (root_reference (sha512_cut content.bits) content.version content.pairs) set fault → ⊥

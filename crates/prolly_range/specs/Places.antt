@@ -6,9 +6,9 @@ use Rattle.prolly_root.specs.ChunkFile.{ChunkFile, fault_behind}
 use Rattle.prolly_root.specs.RootFault.{MayFail}
 use Rattle.prolly_root.specs.declared.root_fault.RootFault.{RootFault}
 use Rattle.prolly_range.specs.Prover.{located_due}
-use Rattle.prolly_range.specs.SetFault.{AreChildren, DueAt, EndsBehind, GoesOn, LacksOne}
-use Rattle.prolly_range.specs.SetFault.{StopsBehind}
-use Rattle.prolly_range.specs.SetFault.{StopsWith}
+use Rattle.prolly_range.specs.FirstFault.{AreChildren, DueAt, EndsBehind, GoesOn, LacksOne}
+use Rattle.prolly_range.specs.FirstFault.{StopsBehind}
+use Rattle.prolly_range.specs.FirstFault.{StopsWith}
 use Rattle.prolly_range.specs.declared.located.Located.{Located}
 use Rattle.prolly_range.specs.declared.prove_fault.ProveFault.{ProveFault}
 use Rattle.prolly_range.specs.declared.prove_fault.ProveFault.TheVariants as faults
@@ -20,19 +20,19 @@ StandsAs stands file located at =
     (located_due located ≡ at.due) × stands file located.place at.number at.from
 
 -- So it is with each.
-abbrev pub StandAs : {T : Type 0} → (ChunkFile → T → ℕ → ℕ → Type 0) → ChunkFile →
+abbrev pub EachStandsAs : {T : Type 0} → (ChunkFile → T → ℕ → ℕ → Type 0) → ChunkFile →
     List (Located T) → List DueAt → Type 0
-StandAs stands file [] [] = Unit {0}
-StandAs stands file [] (at ∷ others) = ⊥
-StandAs stands file (first ∷ located) [] = ⊥
-StandAs stands file (first ∷ located) (at ∷ others) =
-    StandsAs stands file first at × StandAs stands file located others
+EachStandsAs stands file [] [] = Unit {0}
+EachStandsAs stands file [] (at ∷ others) = ⊥
+EachStandsAs stands file (first ∷ located) [] = ⊥
+EachStandsAs stands file (first ∷ located) (at ∷ others) =
+    StandsAs stands file first at × EachStandsAs stands file located others
 
 -- The children of these numbers were found.
 abbrev pub AreFound : {T : Type 0} → (ChunkFile → T → ℕ → ℕ → Type 0) → ChunkFile → ℕ → ℕ →
     List ℕ → List (Located T) → Type 0
 AreFound stands file level from numbers found = (children : List DueAt) ×
-    AreChildren file level from numbers children × StandAs stands file found children
+    AreChildren file level from numbers children × EachStandsAs stands file found children
 
 -- Or one of them is missing, and it is told how the file ends.
 abbrev pub MayLack : ChunkFile → ℕ → ℕ → List ℕ → RootFault → Type 0
@@ -44,7 +44,7 @@ abbrev pub TellsNext : {T C : Type 0} → (ChunkFile → T → ℕ → ℕ → T
     List DueAt → List (Located T) → Result (Option C) RootFault → Type 0
 TellsNext stands version file due located (Ok None) = due ≡ []
 TellsNext stands version file due located (Ok (Some chunk)) = (next : List DueAt) ×
-    GoesOn version file due next × StandAs stands file located next
+    GoesOn version file due next × EachStandsAs stands file located next
 TellsNext stands version file due located (Err fault) =
     MayFail fault ⊎ StopsWith version file due fault
 

@@ -1,7 +1,0 @@
--- Going on from one to the next, step by step.
-use Rattle.std.specs.Prelude.{◌≡◌, List, [], ◌∷◌}
-
--- It goes on by these steps from the one to the last.
-abbrev pub Leads : {A : Type 0} → (A → A → Type 0) → A → List A → A → Type 0
-Leads Step at [] last = at ≡ last
-Leads Step at (next ∷ steps) last = Step at next × Leads Step next steps last
