@@ -7,7 +7,7 @@ use Rattle.std.proofs.lemmas.List.{append_cancel_left}
 use Rattle.prolly_tree.specs.Chunk.{Chunk}
 use Rattle.prolly_tree.specs.File.{header, frame}
 use Rattle.prolly_entry.specs.lemmas.Spellings.{eight_bytes}
-use Rattle.prolly_entry.specs.lemmas.Lists.{apart, cell, cells}
+use Rattle.prolly_entry.specs.lemmas.Lists.{apart, head_is, tail_is}
 use Rattle.prolly_io.specs.Sink.{SinkView}
 use Rattle.prolly_build.specs.Config.{Settings}
 use Rattle.prolly_build.specs.BuiltFile.{NoEndIsBegun}
@@ -22,7 +22,7 @@ none_begins : (b : ℕ) (bytes : List ℕ) → [] ≡ b ∷ bytes → ⊥
 none_begins b bytes e = cc
 
 letters_differ : (xs ys : List ℕ) → 0x43 ∷ xs ≡ 0x45 ∷ ys → ⊥
-letters_differ xs ys e = let letters : ◌≡◌ {A = ℕ} 0x43 0x45 = cell 0x43 0x45 xs ys e in omega arith
+letters_differ xs ys e = let letters : ◌≡◌ {A = ℕ} 0x43 0x45 = head_is 0x43 0x45 xs ys e in omega arith
 
 no_end_in_frames : (whole begun : List Chunk) (behind : List ℕ) → AreSmall whole → AreSmall begun →
     flat_map frame begun ≡ flat_map frame whole ++ 0x45 ∷ behind → ⊥
@@ -43,7 +43,7 @@ no_end_in_frames (c ∷ cs) (d ∷ ds) behind h k e =
     (append_assoc (frame c) (flat_map frame cs) (0x45 ∷ behind) ∙ one_frame c more)) in
     let lengths = apart (to_be_bytes w64 (length d.bytes)) (to_be_bytes w64 (length c.bytes))
     (d.bytes ++ flat_map frame ds) (c.bytes ++ more) refl
-    (cells 0x43 0x43 (to_be_bytes w64 (length d.bytes) ++ (d.bytes ++ flat_map frame ds))
+    (tail_is 0x43 0x43 (to_be_bytes w64 (length d.bytes) ++ (d.bytes ++ flat_map frame ds))
     (to_be_bytes w64 (length c.bytes) ++ (c.bytes ++ more)) frames) in
     let chunks = apart d.bytes c.bytes (flat_map frame ds) more
     (eight_bytes (length d.bytes) (length c.bytes) k.0 h.0 lengths.front) lengths.rest in

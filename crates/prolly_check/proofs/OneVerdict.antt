@@ -7,7 +7,7 @@ use Rattle.std.specs.Prelude.{slice_index, IfSome, IfErr}
 use Rattle.prolly_entry.specs.Pair.{Pair}
 use Rattle.prolly_entry.specs.Position.{Position}
 use Rattle.prolly_entry.specs.declared.version.Version.{Version}
-use Rattle.prolly_entry.specs.lemmas.Lists.{all_back}
+use Rattle.prolly_entry.specs.lemmas.Lists.{all_back, tail_is}
 use Rattle.prolly_io.specs.Frame.{framed, has_no_frame, IsSmall}
 use Rattle.prolly_io.specs.FrameLaws.{begins_frame, one_front}
 use Rattle.prolly_io.specs.Header.{header_tests, header_fault, version_of}
@@ -25,9 +25,6 @@ use Rattle.prolly_check.proofs.HeldPairs.{lists_are, are_whole}
 use Rattle.prolly_check.specs.declared.verdict.fault.CheckFault.TheVariants as faults
 
 -- ---- bytes have one verdict
-
-tail_is : {A : Type 0} (x y : A) (xs ys : List A) → x ∷ xs ≡ y ∷ ys → xs ≡ ys
-tail_is x y xs ys e = cc
 
 -- ---- the frames
 

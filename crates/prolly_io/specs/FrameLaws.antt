@@ -6,7 +6,7 @@ use Rattle.std.specs.Int.{w64, to_be_bytes, from_be_bytes}
 use Rattle.std.proofs.lemmas.Nat.{from_be_bytes-to_be_bytes_8}
 use Rattle.std.proofs.lemmas.List.{length-append}
 use Rattle.std.proofs.lemmas.Bool.{or_from, le-ltb}
-use Rattle.prolly_entry.specs.lemmas.Lists.{Apart, apart, cells}
+use Rattle.prolly_entry.specs.lemmas.Lists.{Apart, apart, tail_is}
 use Rattle.prolly_entry.specs.lemmas.Spellings.{eight_bytes}
 use Rattle.prolly_tree.specs.Chunk.{Chunk}
 use Rattle.prolly_tree.specs.File.{frame}
@@ -37,7 +37,7 @@ one_front c d more other h k e =
     regroup d other in
     let n = apart (to_be_bytes w64 (length c)) (to_be_bytes w64 (length d)) (c ++ more) (d ++ other)
     refl
-    (cells 0x43 0x43 (to_be_bytes w64 (length c) ++ (c ++ more))
+    (tail_is 0x43 0x43 (to_be_bytes w64 (length c) ++ (c ++ more))
     (to_be_bytes w64 (length d) ++ (d ++ other)) f) in
     apart c d more other (eight_bytes (length c) (length d) h k n.front) n.rest
 

@@ -11,12 +11,16 @@ pub record Apart (a b x y : List ℕ) : Type 0 where
   pub rest : x ≡ y
 
 -- Equal lists begin with the same.
-pub cell : (p q : ℕ) (a b : List ℕ) → p ∷ a ≡ q ∷ b → p ≡ q
-cell p q a b e = cc
+pub head_is : {A : Type 0} (x y : A) (xs ys : List A) → x ∷ xs ≡ y ∷ ys → x ≡ y
+head_is x y xs ys e = cc
 
 -- Equal lists are the same behind their first element.
-pub cells : (p q : ℕ) (a b : List ℕ) → p ∷ a ≡ q ∷ b → a ≡ b
-cells p q a b e = cc
+pub tail_is : {A : Type 0} (x y : A) (xs ys : List A) → x ∷ xs ≡ y ∷ ys → xs ≡ ys
+tail_is x y xs ys e = cc
+
+-- A list that has a first element is not the empty one.
+pub no_cons : {A B : Type 0} (x : A) (xs : List A) → x ∷ xs ≡ [] → B
+no_cons x xs e = cc
 
 -- Equal bytes cut at equal lengths are equal in front of the cut and behind it.
 pub apart : (a b x y : List ℕ) → length a ≡ length b → a ++ x ≡ b ++ y → Apart a b x y
@@ -25,9 +29,9 @@ apart [] (q ∷ b) x y n e = absurd (omega arith)
 apart (p ∷ a) [] x y n e = absurd (omega arith)
 apart (p ∷ a) (q ∷ b) x y n e =
     let n' : suc (length a) ≡ suc (length b) = n in
-    let r = apart a b x y (omega arith) (cells p q (a ++ x) (b ++ y) e) in
+    let r = apart a b x y (omega arith) (tail_is p q (a ++ x) (b ++ y) e) in
     record {
-      front = ap (λ h. h ∷ a) (cell p q (a ++ x) (b ++ y) e) ∙ ap (λ t. q ∷ t) r.front;
+      front = ap (λ h. h ∷ a) (head_is p q (a ++ x) (b ++ y) e) ∙ ap (λ t. q ∷ t) r.front;
       rest = r.rest;
     }
 

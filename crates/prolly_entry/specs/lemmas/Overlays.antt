@@ -33,7 +33,8 @@ or_assoc (Some x) y z = refl
 
 -- ---- two rising lists with the same look-ups are the same
 
-some_none : {A : Type 0} (x : A) → Some x ≡ None → ⊥
+-- A value is not none.
+pub some_none : {A : Type 0} (x : A) → Some x ≡ None → ⊥
 some_none x h = cc
 
 some_same : {A : Type 0} (x y : A) → Some x ≡ Some y → x ≡ y

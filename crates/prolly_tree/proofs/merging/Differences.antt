@@ -17,6 +17,7 @@ use Rattle.prolly_tree.specs.Applying.{AppliedTwice, NoneApplied, FilesApply}
 use Rattle.prolly_tree.specs.File.{file}
 use Rattle.prolly_entry.specs.Cut.{Cut}
 use Rattle.prolly_entry.specs.declared.version.Version.{Version}
+use Rattle.prolly_entry.specs.lemmas.Lists.{head_is, tail_is}
 use Rattle.prolly_tree.proofs.merging.Joins.{overlay_of_two}
 
 -- ---- a map as the records that put its pairs
@@ -58,12 +59,6 @@ same_puts (p ∷ m) (q ∷ n) e =
     (some_is p.value q.value (ap (λ x. x.value) same)))
     ∙ ap (λ x. q ∷ x) (same_puts m n (tail_is (r p) (r q) (puts m) (puts n) e))
   where
-    head_is : (x y : Record) (xs ys : List Record) → x ∷ xs ≡ y ∷ ys → x ≡ y
-    head_is x y xs ys e = cc
-
-    tail_is : (x y : Record) (xs ys : List Record) → x ∷ xs ≡ y ∷ ys → xs ≡ ys
-    tail_is x y xs ys e = cc
-
     some_is : (x y : List ℕ) → Some x ≡ Some y → x ≡ y
     some_is x y e = cc
 

@@ -9,12 +9,7 @@ use Rattle.prolly_tree.specs.lemmas.Splits.{flat, as_group, Open, Ends, AllEnd}
 use Rattle.prolly_tree.proofs.splits.Parts.{parts, open_rest_of, split_parts, closed_parts}
 use Rattle.prolly_tree.proofs.splits.Parts.{open_parts, open_not_closed}
 use Rattle.prolly_tree.proofs.splits.Splits.{flat_parts}
-
-head_is : {A : Type 0} (x y : A) (xs ys : List A) → x ∷ xs ≡ y ∷ ys → x ≡ y
-head_is x y xs ys e = cc
-
-tail_is : {A : Type 0} (x y : A) (xs ys : List A) → x ∷ xs ≡ y ∷ ys → xs ≡ ys
-tail_is x y xs ys e = cc
+use Rattle.prolly_entry.specs.lemmas.Lists.{head_is, tail_is}
 
 module _ {A : Type 0} (test : A → Bool) (least : ℕ) where
   all_end_append : (gs hs : List (List A)) → AllEnd test least 0 gs → AllEnd test least 0 hs →

@@ -10,6 +10,7 @@ use Rattle.prolly_tree.specs.Split.{last_passes, is_closed, IsSplit, AllButLast,
 use Rattle.prolly_tree.specs.Split.{OneSplit}
 use Rattle.prolly_tree.specs.lemmas.Splits.{flat, as_group, closes, Open, Ends, AllEnd}
 use Rattle.prolly_tree.proofs.splits.Parts.{parts, split_parts, open_rest_of, ends_closed}
+use Rattle.prolly_entry.specs.lemmas.Lists.{head_is, tail_is}
 
 -- no boundary before the last place of a list that goes on `before` entries
 abbrev NoneEarlierAt : {A : Type 0} → (A → Bool) → ℕ → ℕ → List A → Type 0
@@ -23,12 +24,6 @@ record PartsOf {A : Type 0} (test : A → Bool) (least : ℕ) (groups : List (Li
   same : groups ≡ gs ++ as_group rest
   ends : AllEnd test least 0 gs
   opens : Open test least 0 rest
-
-head_is : {A : Type 0} (x y : A) (xs ys : List A) → x ∷ xs ≡ y ∷ ys → x ≡ y
-head_is x y xs ys e = cc
-
-tail_is : {A : Type 0} (x y : A) (xs ys : List A) → x ∷ xs ≡ y ∷ ys → xs ≡ ys
-tail_is x y xs ys e = cc
 
 flat_as_group : {A : Type 0} (rest : List A) → flat (as_group rest) ≡ rest
 flat_as_group [] = refl

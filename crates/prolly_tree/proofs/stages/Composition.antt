@@ -10,6 +10,7 @@ use Rattle.prolly_tree.specs.Chunk.{is_closed_tree}
 use Rattle.prolly_entry.specs.Pair.{Pair}
 use Rattle.prolly_entry.specs.declared.version.Version.{Version}
 use Rattle.prolly_entry.specs.Cut.{Cut}
+use Rattle.prolly_entry.specs.lemmas.Lists.{head_is, tail_is}
 use Rattle.prolly_tree.specs.Split.{split, is_closed, closed_groups}
 use Rattle.prolly_tree.specs.Tree.{Tree, LeveledTree, grow, pairs_below, child_is_boundary}
 use Rattle.prolly_tree.specs.Tree.{pair_is_boundary, nodes, leaves, leaves_of, tree_of, level_count}
@@ -305,12 +306,6 @@ two_blocks : (level : ℕ) (a b : List Chunk) (last last' : Chunk) (more : List 
 two_blocks level a b last last' more h k = ap (before_second level) (append_assoc a b more) ∙
     second_block level a last (b ++ more) h
     ∙ ap (λ x. a ++ x) (first_block level b last' more k)
-
-head_is : {A : Type 0} (x y : A) (xs ys : List A) → x ∷ xs ≡ y ∷ ys → x ≡ y
-head_is x y xs ys e = cc
-
-tail_is : {A : Type 0} (x y : A) (xs ys : List A) → x ∷ xs ≡ y ∷ ys → xs ≡ ys
-tail_is x y xs ys e = cc
 
 none_before : (level : ℕ) (a : List Chunk) → NoLevel level a → before_second level a ≡ a
 none_before level [] h = refl

@@ -20,6 +20,7 @@ use Rattle.prolly_tree.specs.Events.{leaf_events, inner_events, has_level, event
 use Rattle.prolly_tree.specs.Events.{events_beyond, with_group_events, events_at_end, group_event}
 use Rattle.prolly_tree.specs.Events.{FaultSendsPrefix}
 use Rattle.prolly_entry.specs.Prefix.{IsPrefix}
+use Rattle.prolly_entry.specs.lemmas.Lists.{head_is, tail_is}
 use Rattle.prolly_tree.specs.lemmas.Splits.{flat, as_group, closes, Open, Ends, AllEnd}
 use Rattle.prolly_tree.proofs.splits.Parts.{parts, open_rest_of, split_parts, closed_parts}
 use Rattle.prolly_tree.proofs.stages.Streams.{through_true, through_false, beyond_true}
@@ -28,12 +29,6 @@ use Rattle.prolly_tree.proofs.trees.Growth.{grow_one, level_two}
 use Rattle.prolly_tree.proofs.stages.Groups.{event_with}
 use Rattle.prolly_tree.proofs.stages.Composition.{Reached, reached, run, walk_of}
 use Rattle.prolly_tree.specs.lemmas.Stages.{count, count_true, count_false}
-
-head_is : {A : Type 0} (x y : A) (xs ys : List A) → x ∷ xs ≡ y ∷ ys → x ≡ y
-head_is x y xs ys e = cc
-
-tail_is : {A : Type 0} (x y : A) (xs ys : List A) → x ∷ xs ≡ y ∷ ys → xs ≡ ys
-tail_is x y xs ys e = cc
 
 pub map_front : {A B : Type 0} (f : A → B) (front list : List A) → IsPrefix front list →
     IsPrefix (map f front) (map f list)

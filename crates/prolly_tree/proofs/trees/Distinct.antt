@@ -16,7 +16,7 @@ use Rattle.prolly_tree.specs.Tree.{greatest_key, pair_count, last_key, tree_of}
 use Rattle.prolly_tree.specs.Chunk.{Chunk, chunk_of, post_order, AllDiffer, ChunksDiffer}
 use Rattle.prolly_tree.specs.lemmas.Splits.{flat}
 use Rattle.prolly_tree.proofs.splits.Splits.{split_splits}
-use Rattle.prolly_entry.specs.lemmas.Lists.{all_front, all_append, cell, cells, all_back}
+use Rattle.prolly_entry.specs.lemmas.Lists.{all_front, all_append, head_is, tail_is, all_back}
 use Rattle.prolly_tree.proofs.trees.Forests.{AllUnder, post_under, under_append}
 use Rattle.prolly_entry.specs.lemmas.Spellings.{key_apart}
 use Rattle.prolly_tree.specs.lemmas.Maps.{last_key_short, HasKey, has_last, rises, rises_front}
@@ -152,7 +152,7 @@ says_differ ps qs c d h s t e =
     let f : c.level ∷ (key_spelling s.key ++ s.rest) ≡ d.level ∷ (key_spelling t.key ++ t.rest) =
     sym s.is ∙ e ∙ t.is in
     let r = key_apart s.key t.key s.rest t.rest s.short t.short
-    (cells c.level d.level (key_spelling s.key ++ s.rest) (key_spelling t.key ++ t.rest) f) in
+    (tail_is c.level d.level (key_spelling s.key ++ s.rest) (key_spelling t.key ++ t.rest) f) in
     less_self t.key (subst (λ x. KeyBelow x t.key) r.front
     (keys_apart s.key t.key ps qs h s.among t.among))
 
@@ -178,7 +178,7 @@ top_differs : (ps : List Pair) (level : ℕ) (entries : List ℕ) (top : Chunk) 
 top_differs ps level entries top [] e u s = tt
 top_differs ps level entries top (c ∷ cs) e u s = (
   (
-    λ f. let same : c.level ≡ level = cell c.level level (key_spelling s.0.key ++ s.0.rest) entries
+    λ f. let same : c.level ≡ level = head_is c.level level (key_spelling s.0.key ++ s.0.rest) entries
         (sym s.0.is ∙ f ∙ e) in let under : c.level < level = u.0 in absurd (omega arith),
     tt,
   ),

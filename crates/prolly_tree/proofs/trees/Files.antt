@@ -21,7 +21,7 @@ use Rattle.prolly_tree.specs.File.{root_reference, frame, header, end_record, Fi
 use Rattle.prolly_entry.specs.Version.{version_byte}
 use Rattle.prolly_tree.specs.lemmas.Splits.{flat}
 use Rattle.prolly_tree.proofs.splits.Splits.{split_splits}
-use Rattle.prolly_entry.specs.lemmas.Lists.{all_front, all_append, apart, cell, cells, all_back}
+use Rattle.prolly_entry.specs.lemmas.Lists.{all_front, all_append, apart, head_is, tail_is, all_back}
 use Rattle.prolly_tree.proofs.stages.Groups.{nodes_pairs}
 use Rattle.prolly_tree.proofs.trees.Growth.{fewer}
 use Rattle.prolly_tree.specs.lemmas.Maps.{leaf_same, last_key_short}
@@ -46,10 +46,10 @@ frames_tell : (cs ds : List Chunk) (x y : List ℕ) → AllByRecursion Small cs 
     flat_map frame cs ++ 0x45 ∷ x ≡ flat_map frame ds ++ 0x45 ∷ y → payloads cs ≡ payloads ds
 unfolding Small payloads
 frames_tell [] [] x y h k e = refl
-frames_tell [] (d ∷ ds) x y h k e = absurd (let z : 0x45 ≡ 0x43 = cell 0x45 0x43 x
+frames_tell [] (d ∷ ds) x y h k e = absurd (let z : 0x45 ≡ 0x43 = head_is 0x45 0x43 x
     ((to_be_bytes w64 (length d.bytes) ++ d.bytes ++ flat_map frame ds) ++ 0x45 ∷ y) e in
     omega arith)
-frames_tell (c ∷ cs) [] x y h k e = absurd (let z : 0x43 ≡ 0x45 = cell 0x43 0x45
+frames_tell (c ∷ cs) [] x y h k e = absurd (let z : 0x43 ≡ 0x45 = head_is 0x43 0x45
     ((to_be_bytes w64 (length c.bytes) ++ c.bytes ++ flat_map frame cs) ++ 0x45 ∷ x) y e in
     omega arith)
 frames_tell (c ∷ cs) (d ∷ ds) x y h k e =
@@ -63,7 +63,7 @@ frames_tell (c ∷ cs) (d ∷ ds) x y h k e =
     append_assoc (0x43 ∷ to_be_bytes w64 (length d.bytes)) d.bytes more') in
     let n = apart (to_be_bytes w64 (length c.bytes)) (to_be_bytes w64 (length d.bytes))
     (c.bytes ++ more) (d.bytes ++ more') refl
-    (cells 0x43 0x43 (to_be_bytes w64 (length c.bytes) ++ (c.bytes ++ more))
+    (tail_is 0x43 0x43 (to_be_bytes w64 (length c.bytes) ++ (c.bytes ++ more))
     (to_be_bytes w64 (length d.bytes) ++ (d.bytes ++ more')) f) in
     let b = apart c.bytes d.bytes more more' (eight_bytes (length c.bytes) (length d.bytes) h.0 k.0
     n.front) n.rest in
@@ -280,8 +280,8 @@ file_decides v w c d m m' h k few few' e =
     sym (payloads_are v (tree_of c v m).level (tree_of c v m).tree) ∙ p
     ∙ payloads_are w (tree_of d w m').level (tree_of d w m').tree ∙
     ap (flat_map pair_spelling) (pairs_are d w m') in (
-      version_same v w (cell (version_byte v) (version_byte w) (c.bits ∷ []) (d.bits ∷ []) five),
-      cell c.bits d.bits [] [] (cells (version_byte v) (version_byte w) (c.bits ∷ []) (d.bits ∷ [])
+      version_same v w (head_is (version_byte v) (version_byte w) (c.bits ∷ []) (d.bits ∷ []) five),
+      head_is c.bits d.bits [] [] (tail_is (version_byte v) (version_byte w) (c.bits ∷ []) (d.bits ∷ [])
           five),
       leaf_same m m' h k x,
     )

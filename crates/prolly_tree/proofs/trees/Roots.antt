@@ -10,7 +10,7 @@ use Rattle.prolly_entry.specs.Reference.{reference_of}
 use Rattle.prolly_tree.specs.Tree.{Tree, bytes_of, pairs_below, greatest_key, pair_count, tree_of}
 use Rattle.prolly_tree.specs.Chunk.{Chunk, chunk_of, post_order, chunks, IsIn, Collision}
 use Rattle.prolly_tree.specs.File.{RootsTellMaps, TreesTellPairs}
-use Rattle.prolly_entry.specs.lemmas.Lists.{all_front, all_back}
+use Rattle.prolly_entry.specs.lemmas.Lists.{all_front, all_back, head_is, tail_is}
 use Rattle.prolly_entry.specs.lemmas.Spellings.{child_spellings_apart, reference_length}
 use Rattle.prolly_tree.proofs.trees.Sizes.{pairs_are}
 use Rattle.prolly_tree.specs.lemmas.Maps.{last_key_short, leaf_same}
@@ -24,12 +24,6 @@ nat_same a b = elim (cases_lt a b) [
   | inr h ↦ elim (cases_lt b a) [ inl k ↦ inr (λ e. omega arith) | inr k ↦ inl (omega arith) ]
 ]
 
-cell : (p q : ℕ) (a b : List ℕ) → p ∷ a ≡ q ∷ b → p ≡ q
-cell p q a b e = cc
-
-cells : (p q : ℕ) (a b : List ℕ) → p ∷ a ≡ q ∷ b → a ≡ b
-cells p q a b e = cc
-
 bytes_same : (a b : List ℕ) → (a ≡ b) ⊎ (a ≡ b → ⊥)
 bytes_same [] [] = inl refl
 bytes_same [] (y ∷ b) = inr (λ e. cc)
@@ -38,8 +32,8 @@ bytes_same (x ∷ a) (y ∷ b) = go (nat_same x y) (bytes_same a b)
   where
     go : (x ≡ y) ⊎ (x ≡ y → ⊥) → (a ≡ b) ⊎ (a ≡ b → ⊥) → (x ∷ a ≡ y ∷ b) ⊎ (x ∷ a ≡ y ∷ b → ⊥)
     go (inl e) (inl f) = inl (ap (λ z. z ∷ a) e ∙ ap (λ z. y ∷ z) f)
-    go (inl e) (inr f) = inr (λ g. f (cells x y a b g))
-    go (inr e) f = inr (λ g. e (cell x y a b g))
+    go (inl e) (inr f) = inr (λ g. f (tail_is x y a b g))
+    go (inr e) f = inr (λ g. e (head_is x y a b g))
 
 -- ---- membership
 
@@ -147,7 +141,7 @@ module _ (version : Version) where
       go : (bytes_of version 0 t ≡ bytes_of version 0 u) ⊎
           (bytes_of version 0 t ≡ bytes_of version 0 u → ⊥) →
           (t ≡ u) ⊎ Collision (post_order version 0 t) (post_order version 0 u)
-      go (inl f) = inl (leaf_same t u h k (cells 0 0 (flat_map pair_spelling t)
+      go (inl f) = inl (leaf_same t u h k (tail_is 0 0 (flat_map pair_spelling t)
           (flat_map pair_spelling u) f))
       go (inr f) = inr (at_top 0 0 t u f e)
   trees_tell (suc level) ts us h k e = go (bytes_same (bytes_of version (suc level) ts)
@@ -175,7 +169,7 @@ module _ (version : Version) where
           (flat_map (post_order version level) us)) →
           (flat_map (pairs_below level) ts ≡ flat_map (pairs_below level) us) ⊎
           Collision (post_order version (suc level) ts) (post_order version (suc level) us)
-      go (inl f) more = widen (more (cells (suc level) (suc level) (entries level ts)
+      go (inl f) more = widen (more (tail_is (suc level) (suc level) (entries level ts)
           (entries level us) f))
       go (inr f) more = inr (at_top (suc level) (suc level) ts us f e)
 
@@ -183,12 +177,12 @@ module _ (version : Version) where
   level_byte : (level level' : ℕ) (t : Tree level) (u : Tree level') →
       bytes_of version level t ≡ bytes_of version level' u → level ≡ level'
   level_byte zero zero t u e = refl
-  level_byte zero (suc level') t u e = cell 0 (suc level') (flat_map pair_spelling t)
+  level_byte zero (suc level') t u e = head_is 0 (suc level') (flat_map pair_spelling t)
       (entries level' u) e
-  level_byte (suc level) zero t u e = cell (suc level) 0 (entries level t)
+  level_byte (suc level) zero t u e = head_is (suc level) 0 (entries level t)
       (flat_map pair_spelling u) e
   level_byte (suc level) (suc level') t u e =
-      cell (suc level) (suc level') (entries level t) (entries level' u) e
+      head_is (suc level) (suc level') (entries level t) (entries level' u) e
 
   pub any_tell : TreesTellPairs version
   any_tell level level' t u h k e = go (bytes_same (bytes_of version level t)
