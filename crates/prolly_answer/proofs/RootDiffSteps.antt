@@ -16,21 +16,25 @@ use Rattle.prolly_root.specs.RootFault.{TellsFailure}
 use Rattle.prolly_root.specs.declared.root_fault.RootFault.{RootFault}
 use Rattle.prolly_root.specs.declared.root_fault.RootFault.TheVariants as roots
 use Rattle.prolly_root.specs.ChunkFile.{ChunkFile}
-use Rattle.prolly_root.specs.ChunkSource.{GoesOverTree}
-use Rattle.prolly_root.specs.lemmas.LawfulFiles.{has_still}
-use Rattle.prolly_root_diff.specs.Sides.{IsAtRoot, IsSideOf}
 use Rattle.prolly_root_diff.specs.Notes.{AreNoted, TellsMissing}
-use Rattle.prolly_root_diff.specs.Walks.{BeforeIsRight, Changes, Ends, FailsAt, FoundClash, Gives}
-use Rattle.prolly_root_diff.specs.Walks.{GivesAll, GivesFirst, GoesOn, HasStill, IsAtEnd, Lefts}
-use Rattle.prolly_root_diff.specs.Walks.{TellsNew, TellsOld, Walk, at_roots, lefts_of}
+use Rattle.prolly_root_diff.specs.DueTrees.{IsAtRoot}
+use Rattle.prolly_root_diff.specs.FileWalks.{HasStill, StopsInNew, StopsInOld, TellsFiles, TellsNew}
+use Rattle.prolly_root_diff.specs.FileWalks.{TellsOld, WalksOn}
+use Rattle.prolly_root_diff.specs.FirstFault.{LawfulFilesAreWalked}
+use Rattle.prolly_root_diff.specs.Sides.{left_of}
+use Rattle.prolly_root_diff.specs.Walks.{BeforeIsRight, Changes, Ends, FoundClash, Gives, GivesAll}
+use Rattle.prolly_root_diff.specs.Walks.{GivesFirst, IsAtEnd, IsBegun, Lefts, Walk, at_roots}
+use Rattle.prolly_root_diff.specs.Walks.{lefts_of}
 use Rattle.prolly_root_diff.specs.declared.notes.Notes.{Notes}
 use Rattle.prolly_root_diff.specs.declared.change.RootChange.{RootChange}
 use Rattle.prolly_root_diff.specs.declared.change.RootChange.TheVariants.{Added, Changed, Removed}
 use Rattle.prolly_root_diff.specs.declared.fault.RootDiffFault.{RootDiffFault}
 use Rattle.prolly_root_diff.specs.declared.fault.RootDiffFault.TheVariants as walks
 use Rattle.prolly_root_diff.specs.declared.side.Side.{Side}
+use Rattle.prolly_root_diff.specs.lemmas.WalkParts.{has_still, still_on, stops_in_new, stops_in_old}
+use Rattle.prolly_root_diff.specs.lemmas.WalkParts.{walks_none, walks_on}
 use Rattle.prolly_root_diff.specs.lemmas.Given.{gives_more, gives_no_more}
-use Rattle.prolly_root_diff.specs.lemmas.Roots.{begins_in}
+use Rattle.prolly_root_diff.specs.lemmas.Roots.{new_lawful, new_told, old_lawful, old_told}
 use Rattle.prolly_text.specs.RecordForms.{spelled, written_records}
 use Rattle.prolly_text.specs.declared.lines.form.RecordForm.{RecordForm}
 use Rattle.prolly_tree.specs.File.{root_reference}
@@ -38,7 +42,8 @@ use Rattle.prolly_answer.specs.Counts.{AreCounts, are_some, counts_line}
 use Rattle.prolly_answer.specs.Diff.{AreStopped, AreWritten}
 use Rattle.prolly_answer.specs.Outputs.{IsSettledAs, TookAll, TookSoFar, TookUntil}
 use Rattle.prolly_answer.specs.RootDiffs.{Counts, GaveFirst, IsDoneDiff, IsEndedDiff, IsStatLine}
-use Rattle.prolly_answer.specs.RootDiffs.{IsStoppedDiff, OfRoots, TellsDiffReads, TellsNumbers}
+use Rattle.prolly_answer.specs.RootDiffs.{IsStoppedDiff, MayStopInNew, MayStopInOld, OfRoots}
+use Rattle.prolly_answer.specs.RootDiffs.{TellsDiffReads, TellsNumbers}
 use Rattle.prolly_answer.specs.RootDiffs.{before_of, fault_of, WroteIn, record_of}
 use Rattle.std.specs.Prelude.{IfErr, IfOk}
 use Rattle.prolly_answer.specs.declared.answers.root_diff.Told.{Told}
@@ -46,7 +51,6 @@ use Rattle.prolly_answer.specs.declared.answers.diff.ChangeCounts.{ChangeCounts}
 use Rattle.prolly_fault.specs.OutputFault.{told}
 use Rattle.prolly_fault.specs.declared.output_fault.OutputFault.{OutputFault}
 use Rattle.prolly_fault.specs.declared.output_fault.OutputFault.TheVariants as outputs
-use Rattle.prolly_answer.specs.RootFaults.{RefusesNone}
 use Rattle.prolly_fault.specs.declared.fault.Fault.{Fault}
 use Rattle.prolly_fault.specs.declared.fault.Fault.TheVariants as faults
 use Rattle.prolly_answer.proofs.Counting.{line_is}
@@ -54,67 +58,95 @@ use Rattle.prolly_answer.proofs.Writing.{flushed, took_more, took_none, took_unt
 
 -- ---- the trees
 
--- The files that a source went over it goes over still, no call of it failed, and what is left of
--- its tree is so still.
-pub record KeepsTo {S T : Type 0} (goes_over : S → ChunkFile → Type 0) (failures : S → ℕ)
-    (stands_at : ChunkFile → T → ℕ → ℕ → Type 0) (version : Version)
-    (root : List ℕ) (old new : S) (side : Side T) : Type 0 where
-  pub still : HasStill goes_over failures old new
-  pub lawful : (content : Content) → GoesOverTree goes_over old content →
-      version ≡ content.version → root ≡ root_reference (sha512_cut content.bits) content.version content.pairs →
-      IsSideOf stands_at content side
+-- A walk came from the two roots to here, and each source goes over what it went over; no call of
+-- one failed.
+pub record IsWalking {S T R U : Type 0} (goes_over : S → ChunkFile → Type 0) (failures : S → ℕ)
+    (stands : ChunkFile → T → ℕ → ℕ → Type 0) (goes_over' : R → ChunkFile → Type 0)
+    (failures' : R → ℕ) (stands' : ChunkFile → U → ℕ → ℕ → Type 0) (version : Version)
+    (root root' : List ℕ) (start source : S) (start' source' : R) (at : Side T) (at' : Side U)
+    : Type 0 where
+  pub before : Side T
+  pub after : Side U
+  pub at_root : IsAtRoot root before
+  pub at_root' : IsAtRoot root' after
+  pub lefts : (record { before = left_of before; after = left_of after }) ≡ at_roots root root'
+  pub still : HasStill goes_over failures start source
+  pub still' : HasStill goes_over' failures' start' source'
+  pub on : WalksOn goes_over stands goes_over' stands' version start start' before at after at'
 
-module _ {S T : Type 0} (goes_over : S → ChunkFile → Type 0) (failures : S → ℕ)
-    (stands_at : ChunkFile → T → ℕ → ℕ → Type 0) (version : Version)
-    (root : List ℕ) (old : S) where
-  pub keeps_first : (side : Side T) → IsAtRoot root side →
-      KeepsTo goes_over failures stands_at version root old old side
-  keeps_first side at = record {
-    still = record { goes_still = λ file goes. goes; failures_are = refl };
-    lawful = λ content h same is. begins_in stands_at content root side at is;
+module _ {S T R U : Type 0} (goes_over : S → ChunkFile → Type 0) (failures : S → ℕ)
+    (stands : ChunkFile → T → ℕ → ℕ → Type 0) (goes_over' : R → ChunkFile → Type 0)
+    (failures' : R → ℕ) (stands' : ChunkFile → U → ℕ → ℕ → Type 0) (version : Version)
+    (root root' : List ℕ) (start : S) (start' : R) where
+  abbrev Walking : S → R → Side T → Side U → Type 0
+  Walking source source' at at' = IsWalking goes_over failures stands goes_over' failures' stands'
+      version root root' start source start' source' at at'
+
+  pub walks_first : (walk : Walk T U) → IsBegun version root root' walk →
+      Walking start start' walk.before walk.after
+  walks_first walk begun = record {
+    before = walk.before;
+    after = walk.after;
+    at_root = begun.before;
+    at_root' = begun.after;
+    lefts = begun.lefts;
+    still = has_still goes_over failures start;
+    still' = has_still goes_over' failures' start';
+    on = walks_none goes_over stands goes_over' stands' version start start' walk.before walk.after;
   }
 
-  pub keeps_on : (walked : Version) → walked ≡ version → (mid new : S) (side later : Side T) →
-      KeepsTo goes_over failures stands_at version root old mid side →
-      GoesOn goes_over failures stands_at walked mid new side later →
-      KeepsTo goes_over failures stands_at version root old new later
-  keeps_on walked same mid new side later keeps on = record {
-    still = record {
-      goes_still = λ file goes. on.still.goes_still file (keeps.still.goes_still file goes);
-      failures_are = on.still.failures_are ∙ keeps.still.failures_are;
-    };
-    lawful = λ content has is named. on.lawful content (has_still keeps.still.goes_still has)
-        (same ∙ is) (keeps.lawful content has is named);
-  }
+  module _ (walked : Version) (same : walked ≡ version) (mid new : S) (mid' new' : R)
+      (at later : Side T) (at' later' : Side U) (w : Walking mid mid' at at') where
+    abbrev FilesTold : Result (Option RootChange) RootDiffFault → Type 0
+    FilesTold result = TellsFiles goes_over stands goes_over' stands' walked mid mid' at later at' later'
+        result
 
-  pub may_fail : (walked : Version) → walked ≡ version → (mid new : S) (side : Side T)
-      (fault : RootFault) → KeepsTo goes_over failures stands_at version root old mid side →
-      FailsAt goes_over failures stands_at walked mid new side fault →
-      RefusesNone (goes_over old) version root fault
-  may_fail walked same mid new side fault keeps at content lawful goes is named =
-      let has : GoesOverTree goes_over old content = record { lawful = lawful; goes = goes } in
-      at.lawful content (has_still keeps.still.goes_still has) (same ∙ is)
-      (keeps.lawful content has is named)
+    pub walks_further : (change : Option RootChange) →
+        TellsOld {C = Option RootChange} goes_over failures mid new (Ok change) →
+        TellsNew {C = Option RootChange} goes_over' failures' mid' new' (Ok change) →
+        FilesTold (Ok change) → Walking new new' later later'
+    walks_further change old new_told on = record {
+      before = w.before;
+      after = w.after;
+      at_root = w.at_root;
+      at_root' = w.at_root';
+      lefts = w.lefts;
+      still = still_on goes_over failures start mid new w.still (old.goes_still, old.failures_are);
+      still' = still_on goes_over' failures' start' mid' new' w.still'
+          (new_told.goes_still, new_told.failures_are);
+      on = walks_on goes_over stands goes_over' stands' version start mid start' mid'
+          w.still.goes_still w.still'.goes_still w.before at w.after at' w.on later later'
+          (subst (λ v. WalksOn goes_over stands goes_over' stands' v mid mid' at later at' later') same
+          on);
+    }
 
-  pub may_old : (walked : Version) → walked ≡ version → (mid new : S) (side later : Side T)
-      (fault : RootDiffFault) → KeepsTo goes_over failures stands_at version root old mid side →
-      TellsOld {C = Option RootChange} goes_over failures stands_at walked mid new side later
-      (Err fault) →
-      (f : RootFault) → fault ≡ walks.Old f → RefusesNone (goes_over old) version root f
-  may_old walked same mid new side later fault keeps tells f is =
-      may_fail walked same mid new side f keeps
-      (subst (λ x. TellsOld {C = Option RootChange} goes_over failures stands_at walked mid new
-      side later (Err x)) is tells)
+    pub refuses_old : LawfulFilesAreWalked → (fault : RootDiffFault) → FilesTold (Err fault) →
+        (f : RootFault) → fault ≡ walks.Old f →
+        MayStopInOld (goes_over start) (goes_over' start') version root root' f
+    refuses_old law fault told f is =
+        let stops = stops_in_old goes_over stands goes_over' stands' version start mid start' mid'
+        w.still.goes_still w.still'.goes_still w.before at w.after at' w.on later later' f
+        (subst (λ v. StopsInOld goes_over stands goes_over' stands' v mid mid' at later at' later' f)
+        same (subst (λ x. FilesTold (Err x)) is told)) in (
+          old_lawful goes_over stands goes_over' stands' version start start' root root' w.before later
+              w.after later' w.at_root w.at_root' w.lefts f law stops,
+          old_told goes_over stands goes_over' stands' version start start' root root' w.before later
+              w.after later' w.at_root w.at_root' w.lefts f stops,
+        )
 
-  pub may_new : (walked : Version) → walked ≡ version → (mid new : S) (side later : Side T)
-      (fault : RootDiffFault) → KeepsTo goes_over failures stands_at version root old mid side →
-      TellsNew {C = Option RootChange} goes_over failures stands_at walked mid new side later
-      (Err fault) →
-      (f : RootFault) → fault ≡ walks.New f → RefusesNone (goes_over old) version root f
-  may_new walked same mid new side later fault keeps tells f is =
-      may_fail walked same mid new side f keeps
-      (subst (λ x. TellsNew {C = Option RootChange} goes_over failures stands_at walked mid new
-      side later (Err x)) is tells)
+    pub refuses_new : LawfulFilesAreWalked → (fault : RootDiffFault) → FilesTold (Err fault) →
+        (f : RootFault) → fault ≡ walks.New f →
+        MayStopInNew (goes_over start) (goes_over' start') version root root' f
+    refuses_new law fault told f is =
+        let stops = stops_in_new goes_over stands goes_over' stands' version start mid start' mid'
+        w.still.goes_still w.still'.goes_still w.before at w.after at' w.on later later' f
+        (subst (λ v. StopsInNew goes_over stands goes_over' stands' v mid mid' at later at' later' f)
+        same (subst (λ x. FilesTold (Err x)) is told)) in (
+          new_lawful goes_over stands goes_over' stands' version start start' root root' w.before later
+              w.after later' w.at_root w.at_root' w.lefts f law stops,
+          new_told goes_over stands goes_over' stands' version start start' root root' w.before later
+              w.after later' w.at_root w.at_root' w.lefts f stops,
+        )
 
 -- ---- the sink
 
@@ -536,29 +568,25 @@ one_old f g e = cc
 one_new : (f g : RootFault) → faults.RootNew f ≡ faults.RootNew g → f ≡ g
 one_new f g e = cc
 
-module _ {S T : Type 0} (goes_over : S → ChunkFile → Type 0) (failures : S → ℕ)
-    (stands_at : ChunkFile → T → ℕ → ℕ → Type 0) (version : Version)
-    (first old new : S) (before after : Side T) (same : failures old ≡ failures first)
-  where
-    pub walk_tells_old : (fault : RootDiffFault) →
-        TellsOld {C = Option RootChange} goes_over failures stands_at version old new before after
-        (Err fault) →
-        TellsBeside faults.RootOld (failures first) (failures new) (fault_of fault)
-    walk_tells_old (walks.Old f) t = own_tells faults.RootOld one_old (failures first) (failures new) f
-        (subst (λ n. TellsFailure n (failures new) f) same t.told)
-    walk_tells_old (walks.New f) t = inr (λ e. cc, t.failures_are ∙ same)
-    walk_tells_old walks.Memory t = inr (λ e. cc, t.failures_are ∙ same)
-    walk_tells_old walks.Stopped t = inr (λ e. cc, t.failures_are ∙ same)
+module _ {S : Type 0} (goes_over : S → ChunkFile → Type 0) (failures : S → ℕ) (first old new : S)
+    (same : failures old ≡ failures first) where
+  pub walk_tells_old : (fault : RootDiffFault) →
+      TellsOld {C = Option RootChange} goes_over failures old new (Err fault) →
+      TellsBeside faults.RootOld (failures first) (failures new) (fault_of fault)
+  walk_tells_old (walks.Old f) t = own_tells faults.RootOld one_old (failures first) (failures new) f
+      (subst (λ n. TellsFailure n (failures new) f) same t.told)
+  walk_tells_old (walks.New f) t = inr (λ e. cc, t.failures_are ∙ same)
+  walk_tells_old walks.Memory t = inr (λ e. cc, t.failures_are ∙ same)
+  walk_tells_old walks.Stopped t = inr (λ e. cc, t.failures_are ∙ same)
 
-    pub walk_tells_new : (fault : RootDiffFault) →
-        TellsNew {C = Option RootChange} goes_over failures stands_at version old new before after
-        (Err fault) →
-        TellsBeside faults.RootNew (failures first) (failures new) (fault_of fault)
-    walk_tells_new (walks.New f) t = own_tells faults.RootNew one_new (failures first) (failures new) f
-        (subst (λ n. TellsFailure n (failures new) f) same t.told)
-    walk_tells_new (walks.Old f) t = inr (λ e. cc, t.failures_are ∙ same)
-    walk_tells_new walks.Memory t = inr (λ e. cc, t.failures_are ∙ same)
-    walk_tells_new walks.Stopped t = inr (λ e. cc, t.failures_are ∙ same)
+  pub walk_tells_new : (fault : RootDiffFault) →
+      TellsNew {C = Option RootChange} goes_over failures old new (Err fault) →
+      TellsBeside faults.RootNew (failures first) (failures new) (fault_of fault)
+  walk_tells_new (walks.New f) t = own_tells faults.RootNew one_new (failures first) (failures new) f
+      (subst (λ n. TellsFailure n (failures new) f) same t.told)
+  walk_tells_new (walks.Old f) t = inr (λ e. cc, t.failures_are ∙ same)
+  walk_tells_new walks.Memory t = inr (λ e. cc, t.failures_are ∙ same)
+  walk_tells_new walks.Stopped t = inr (λ e. cc, t.failures_are ∙ same)
 
 pub output_old : (fault : OutputFault) (old new : ℕ) → new ≡ old →
     TellsBeside faults.RootOld old new (told fault)

@@ -11,6 +11,7 @@ use Rattle.prolly_root.specs.ChunkFile.{chunk_file}
 use Rattle.prolly_root.specs.LookUpFault.{IsFirstFault, LawfulFilesAreRead, MayTell, TellsWay}
 use Rattle.prolly_root.specs.Reader.{IsReaderIn, ReaderView}
 use Rattle.prolly_root.specs.RootFault.{MayFail, OnlyRead}
+use Rattle.prolly_root.specs.lemmas.FirstFaults.{not_opened, only_may, opened_told}
 use Rattle.prolly_root.specs.declared.root_fault.RootFault.{RootFault}
 use Rattle.prolly_tree.specs.File.{root_reference}
 use Rattle.prolly_answer.specs.RootFaults.{MayRefuse, MayRefuseFirst, RefusesNone, TellsFirst}
@@ -26,28 +27,6 @@ told_of begun now next from version root sought file {fault = fault} told =
     (subst (λ v. MayTell v file begun.root (Key from) fault) version
     (subst (λ r. MayTell now.version file r (Key from) fault) root told))
 
--- no reader was opened
-pub not_opened : {version : Version} (file : ChunkFile) {root : List ℕ} {sought : Sought}
-    {fault : RootFault} → OnlyRead fault ⊎ (file_fault version file ≡ Some fault) →
-    MayFail fault ⊎ IsFirstFault version file root sought fault
-not_opened file (inl only) = inl (inr only)
-not_opened file (inr told) = inr (inl told)
-
--- one was opened, and it tells this
-pub opened_told : {T : Type 0} (reader : ReaderView T) {version : Version} {root : List ℕ} →
-    (reader.version ≡ version) × (reader.root ≡ root) → (file : ChunkFile) →
-    file_fault version file ≡ None → {sought : Sought} {fault : RootFault} →
-    MayTell reader.version file reader.root sought fault →
-    MayFail fault ⊎ IsFirstFault version file root sought fault
-opened_told reader {version = version} {root = root} of file fine {sought = sought} {fault = fault}
-    told = go (subst (λ v. MayTell v file root sought fault) of.0
-    (subst (λ r. MayTell reader.version file r sought fault) of.1 told))
-  where
-    go : MayTell version file root sought fault →
-        MayFail fault ⊎ IsFirstFault version file root sought fault
-    go (inl may) = inl may
-    go (inr why) = inr (inr (fine, why))
-
 -- ---- of a lawful file
 
 -- it has no first fault, so it is not refused
@@ -59,16 +38,8 @@ none_refused {goes_over = goes_over} {version = version} {root = root} {sought =
     {fault = fault} law first = (none, first)
   where
     none : RefusesNone goes_over version root fault
-    none content lawful goes same named = by_fault (first (chunk_file content) goes)
-      where
-        by_fault : MayFail fault ⊎ IsFirstFault version (chunk_file content) root sought fault →
-            MayFail fault
-        by_fault (inl may) = may
-        by_fault (inr told) = absurd (law content sought fault lawful
-            (subst (λ v. IsFirstFault v (chunk_file content)
-            (root_reference (sha512_cut content.bits) content.version content.pairs) sought fault)
-            same
-            (subst (λ r. IsFirstFault version (chunk_file content) r sought fault) named told)))
+    none content lawful goes same named =
+        only_may law lawful same named (first (chunk_file content) goes)
 
 -- the one look-up of a reader that was opened is refused so
 pub refuses_so : {T V : Type 0} (reader : ReaderView T) {version : Version} {root : List ℕ} →

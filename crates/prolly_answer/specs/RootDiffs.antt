@@ -10,9 +10,12 @@ use Rattle.prolly_entry.specs.declared.version.Version.{Version}
 use Rattle.prolly_io.specs.Failures.{after_failure}
 use Rattle.prolly_io.specs.Sink.{SinkView}
 use Rattle.prolly_fault.specs.declared.output_fault.OutputFault.{OutputFault}
+use Rattle.prolly_root.specs.ChunkFile.{ChunkFile}
+use Rattle.prolly_root.specs.RootFault.{MayFail}
 use Rattle.prolly_root.specs.declared.root_fault.RootFault.{RootFault}
 use Rattle.prolly_root.specs.declared.root_fault.RootFault.TheVariants.{Read}
 use Rattle.prolly_chunk.specs.declared.missing.Missing.{Missing}
+use Rattle.prolly_root_diff.specs.FileWalks.{IsWalkFault}
 use Rattle.prolly_root_diff.specs.Notes.{TellsMissing}
 use Rattle.prolly_root_diff.specs.Walks.{FoundClash, GivesAll, GivesFirst, Lefts, Walk, at_roots}
 use Rattle.prolly_root_diff.specs.Walks.{lefts_of}
@@ -26,6 +29,7 @@ use Rattle.prolly_fault.specs.Answers.{Shows, ShowsFault}
 use Rattle.prolly_answer.specs.Counts.{AreCounts, are_some, counts_line, stat_text}
 use Rattle.prolly_answer.specs.Diff.{status_of}
 use Rattle.prolly_answer.specs.Outputs.{WroteOwn}
+use Rattle.prolly_answer.specs.RootFaults.{RefusesNone}
 use Rattle.prolly_tree.specs.Difference.{IsMap}
 use Rattle.prolly_tree.specs.File.{root_reference}
 use Rattle.prolly_tree.specs.LookUp.{find}
@@ -111,6 +115,30 @@ abbrev pub IsStatLine : Bool → Version → List ℕ → List ℕ → List Reco
 IsStatLine false version old new records line = line ≡ []
 IsStatLine true version old new records line =
     OfRoots version old new (λ before after. line ≡ counts_line before after records)
+
+-- ---- why it stops
+
+-- What is wrong first with the two files that the sources go over is told; or memory was refused, or
+-- a read failed.
+abbrev pub TellsWalkFault : (ChunkFile → Type 0) → (ChunkFile → Type 0) → Version → List ℕ →
+    List ℕ → (RootFault → RootDiffFault) → RootFault → Type 0
+TellsWalkFault goes_over goes_over' version old new side fault = (file file' : ChunkFile) →
+    goes_over file → goes_over' file' →
+    MayFail fault ⊎ IsWalkFault version file file' old new (side fault)
+
+-- Why the walk stops in the old tree. (A lawful file is refused only for want of memory or a failed
+-- read, whatever the other source does. Where the other one goes over no file, the second part says
+-- nothing.)
+abbrev pub MayStopInOld : (ChunkFile → Type 0) → (ChunkFile → Type 0) → Version → List ℕ →
+    List ℕ → RootFault → Type 0
+MayStopInOld goes_over goes_over' version old new fault = RefusesNone goes_over version old fault ×
+    TellsWalkFault goes_over goes_over' version old new walks.Old fault
+
+-- Why it stops in the new one.
+abbrev pub MayStopInNew : (ChunkFile → Type 0) → (ChunkFile → Type 0) → Version → List ℕ →
+    List ℕ → RootFault → Type 0
+MayStopInNew goes_over goes_over' version old new fault = RefusesNone goes_over' version new fault ×
+    TellsWalkFault goes_over goes_over' version old new walks.New fault
 
 -- ---- what comes of it
 

@@ -1,12 +1,20 @@
 -- What was sent of the leaves of an old tree, step by step.
 use Rattle.std.proofs.Common.{◌≡◌, ℕ, List, [], ◌∷◌, ◌++◌, Option, Some, None, sym}
-use Rattle.std.proofs.Common.{Result, Ok, Err, IfErr}
+use Rattle.std.proofs.Common.{Result, Ok, Err, IfErr, OnOk}
 use Rattle.std.proofs.Common.{ap, ◌∙◌, subst, append-nil, append_assoc}
+use Rattle.std.specs.Result.{result_err}
 use Rattle.prolly_look_up.specs.HeldPairs.{pairs_held}
 use Rattle.prolly_entry.specs.Pair.{Pair}
 use Rattle.prolly_entry.specs.declared.version.Version.{Version}
 use Rattle.prolly_root.specs.declared.root_fault.RootFault.{RootFault}
-use Rattle.prolly_root_diff.specs.LeafWalk.{GivesNext}
+use Rattle.prolly_root.specs.ChunkFile.{ChunkFile}
+use Rattle.prolly_root_diff.specs.DueTrees.{all_due}
+use Rattle.prolly_root_diff.specs.FirstFault.{DueAt, ReadsOn, TellsLeaves}
+use Rattle.prolly_root_diff.specs.LeafWalk.{GivesNext, TellsLeaf}
+use Rattle.prolly_root_diff.specs.Places.{AllStand}
+use Rattle.prolly_root_diff.specs.declared.siblings.Siblings.{Siblings}
+use Rattle.prolly_root_diff.specs.lemmas.WalkParts.{read_both}
+use Rattle.prolly_root_diff.specs.lemmas.Roots.{none_stands}
 use Rattle.prolly_root_diff.specs.Leaves.{AllLeavesAreRight, FirstLeavesAreRight}
 use Rattle.prolly_root_diff.specs.Leaves.{GivesLeaf, GivesLeaves}
 use Rattle.prolly_root_diff.specs.Left.{Due, left_of_root}
@@ -80,3 +88,37 @@ pub of_each : {T : Type 0} (result : Result T RootFault) (P : RootFault → Type
     ((fault : RootFault) → P fault) → IfErr result P
 of_each (Ok value) P each = tt
 of_each (Err fault) P each = each fault
+
+-- a leaf was read behind what was read before
+pub reads_further : {T : Type 0} (stands : ChunkFile → T → ℕ → ℕ → Type 0) (file : ChunkFile)
+    (version walked : Version) → walked ≡ version → {old mid : List DueAt} →
+    ReadsOn version file old mid → (due : List (Siblings T)) (leaf : Option LeafRead) →
+    TellsLeaf stands walked file mid due (Ok leaf) → (new : List DueAt) ×
+    ReadsOn version file old new × AllStand stands file due new
+reads_further stands file version walked same {mid = mid} on due leaf tells = (
+  tells.0,
+  read_both on (subst (λ v. ReadsOn v file mid tells.0) same tells.1),
+  tells.2,
+)
+
+-- where no leaf is left the file has all chunks of the tree
+pub all_read : {T : Type 0} (stands : ChunkFile → T → ℕ → ℕ → Type 0) (file : ChunkFile)
+    (version walked : Version) → walked ≡ version → {old mid : List DueAt} →
+    ReadsOn version file old mid → (due : List (Siblings T)) (leaf : Option LeafRead) →
+    TellsLeaf stands walked file mid due (Ok leaf) → (from : List Due) → leaf ≡ None →
+    GivesNext walked from leaf (all_due due) → ReadsOn version file old []
+all_read stands file version walked same {old = old} on due leaf tells from none gives =
+    let more = reads_further stands file version walked same on due leaf tells in
+    subst (ReadsOn version file old) (none_stands stands file due more.0
+    (subst (λ l. GivesNext walked from l (all_due due)) none gives).1 more.2) more.1
+
+-- what is told of all leaves, and of a fault, is told of the one that there is
+pub leaves_told : (goes_over : ChunkFile → Type 0) (version : Version) (root : List ℕ)
+    (result : Result (Unit {0}) RootFault) (fault : Option RootFault) → fault ≡ result_err result →
+    OnOk result (TellsLeaves goes_over version root None) →
+    IfErr result (λ told. TellsLeaves goes_over version root (Some told)) →
+    TellsLeaves goes_over version root fault
+leaves_told goes_over version root (Ok done) fault is all told =
+    subst (TellsLeaves goes_over version root) (sym is) all
+leaves_told goes_over version root (Err f) fault is all told =
+    subst (TellsLeaves goes_over version root) (sym is) told

@@ -1,14 +1,13 @@
 //! Loading the leaves of an old tree.
-ghost use Rattle.std.specs.Prelude.{◌≡◌, ◌<◌, ◌∷◌, [], ◌++◌, None, Some, IfErr, IfOk, IfSome};
-ghost use Rattle.std.specs.Prelude.{OnErr, OnOk};
-ghost use Rattle.prolly_look_up.specs.Content.{Content};
+ghost use Rattle.std.specs.Prelude.{◌≡◌, ◌<◌, ◌∷◌, [], ◌++◌, List, None, Some, IfErr, IfOk};
+ghost use Rattle.std.specs.Prelude.{IfSome, OnErr, OnOk};
 ghost use Rattle.prolly_look_up.specs.HeldPairs.{pairs_held};
-ghost use Rattle.prolly_entry.specs.Cut.{sha512_cut};
-ghost use Rattle.prolly_root.specs.ChunkSource.{HasAsked, GoesOverTree};
-ghost use Rattle.prolly_root.specs.RootFault.{IsOrFails, MayFail};
-ghost use Rattle.prolly_root_diff.specs.LeafWalk.{GivesNext, IsLeafRead, WalksIn, due_of_walk};
+ghost use Rattle.prolly_root.specs.ChunkFile.{ChunkFile};
+ghost use Rattle.prolly_root.specs.ChunkSource.{GoesOverStill, HasAsked};
+ghost use Rattle.prolly_root_diff.specs.FirstFault.{DueAt, TellsLeaves};
+ghost use Rattle.prolly_root_diff.specs.LeafWalk.{GivesNext, IsLeafRead, TellsLeaf, due_of_walk};
+ghost use Rattle.prolly_root_diff.specs.Places.{AllStand};
 ghost use Rattle.prolly_root_diff.specs.ToGo.{weights};
-ghost use Rattle.prolly_tree.specs.File.{root_reference};
 ghost use Rattle.prolly_apply.specs.OldLoaded.{IsOldLoaded, TellsReadsOf, load_end};
 
 use crate::old_leaf::OldLeaf;
@@ -60,14 +59,11 @@ pub fn load_old<S: ReadAhead, O: Out<OldLeaf>, R: Wait + Threads + Sync>(
         result.fault }
     ensures end { O.end_sent result.out ≡ load_end result.fault }
 
-    // A failed read is told, and a tree that the source has is not refused.
+    // A failed read is told. Of a file that the source goes over it is told what is wrong first, and
+    // where no fault is told it has all chunks of the tree.
     ensures reads { TellsReadsOf (S.failures source) (S.failures result.source) result.fault }
-    ensures keeps { (content : Content) → GoesOverTree S.goes_over source content →
-        GoesOverTree S.goes_over result.source content }
-    ensures lawful { (content : Content) → GoesOverTree S.goes_over source content →
-        version ≡ content.version →
-        root.now.0 ≡ root_reference (sha512_cut content.bits) content.version content.pairs →
-        IfSome result.fault MayFail }
+    ensures keeps { GoesOverStill S.goes_over source result.source }
+    ensures first { TellsLeaves (S.goes_over source) version root.now.0 result.fault }
 {
     let fault = send_leaves(rt, alloc, version, root, &mut source, &mut out).err();
     OldLoaded {
@@ -102,10 +98,9 @@ fn send_leaves<S: ReadAhead, O: Out<OldLeaf>, R: Wait + Threads + Sync>(
         None) }
     ensures err { IfErr result (λ fault. IsOldLoaded version root.now.0 (O.sent out.old)
         (O.sent out.new) (Some fault)) }
-    ensures lawful { (content : Content) → GoesOverTree S.goes_over source.old content →
-        version ≡ content.version →
-        root.now.0 ≡ root_reference (sha512_cut content.bits) content.version content.pairs →
-        IfErr result MayFail }
+    ensures first { IfErr result (λ fault. TellsLeaves (S.goes_over source.old) version root.now.0
+        (Some fault)) }
+    ensures all { OnOk result (TellsLeaves (S.goes_over source.old) version root.now.0 None) }
     ensures asked { HasAsked S.goes_over S.failures source.old source.new result }
 {
     // By these laws what a walk gives are the leaves of any map with this root.
@@ -141,9 +136,9 @@ fn next_leaf<S: ReadAhead, R: Threads + Sync>(
     ensures nearer { IfOk result (λ leaf. IfSome leaf (λ _.
         weights (due_of_walk leaves.new) < weights (due_of_walk leaves.old))) }
     ensures goes_on { OnOk result (leaves.new.fault ≡ None) }
-    ensures lawful { (content : Content) → GoesOverTree S.goes_over source.old content →
-        leaves.old.version ≡ content.version → WalksIn S.stands content leaves.old →
-        IsOrFails (λ _. WalksIn S.stands content leaves.new) MayFail result }
+    ensures tells { (file : ChunkFile) (old : List DueAt) → S.goes_over source.old file →
+        AllStand S.stands file leaves.old.due.items old →
+        TellsLeaf S.stands leaves.old.version file old leaves.new.due.items result }
     ensures asked { HasAsked S.goes_over S.failures source.old source.new result }
 {
     if !leaves.is_exhausted() {

@@ -19,9 +19,13 @@ use Rattle.prolly_link.specs.declared.message.End.{End}
 use Rattle.prolly_link.specs.declared.fault.RunFault.{RunFault}
 use Rattle.prolly_link.specs.declared.fault.RunFault.TheVariants.{Lost, Memory, Write, TooManyFiles}
 use Rattle.prolly_merge.specs.Inputs.{fault_in}
+use Rattle.prolly_root.specs.ChunkFile.{ChunkFile, IsLawful, chunk_file}
 use Rattle.prolly_root.specs.RootFault.{MayFail}
 use Rattle.prolly_root.specs.declared.root_fault.RootFault.{RootFault}
+use Rattle.prolly_root_diff.specs.FirstFault.{IsLeafFault, LawfulFilesAreWalked, TellsLeafFault}
+use Rattle.prolly_root_diff.specs.FirstFault.{TellsLeaves, TreeStep}
 use Rattle.prolly_root_diff.specs.Leaves.{FoundClashIn}
+use Rattle.prolly_root_diff.specs.lemmas.Roots.{lawful_only}
 use Rattle.prolly_tree.specs.Chunk.{Chunk, chunks}
 use Rattle.prolly_tree.specs.Difference.{puts}
 use Rattle.prolly_tree.specs.File.{header, root_reference}
@@ -34,6 +38,7 @@ use Rattle.prolly_apply.specs.Cutting.{AreCut}
 use Rattle.prolly_apply.specs.OldLoaded.{IsOldLoaded, load_end}
 use Rattle.prolly_apply.specs.Taking.{both, pairs_of}
 use Rattle.prolly_build.specs.Applied.{IsApplyOutcome, IsMapOf, IsRefusedOver, IsStoppedOver}
+use Rattle.prolly_build.specs.Applied.{MayRefuseOld}
 use Rattle.prolly_build.specs.Applied.{IsTold, OfMaps}
 use Rattle.prolly_build.specs.BuiltFile.{AreKept, IsBegun, IsStartFault, IsUnmadeOf}
 use Rattle.prolly_build.specs.BuiltFile.{IsWriterFault}
@@ -119,10 +124,33 @@ untouched_refused seen bytes settings root before old honest m of =
       };
     })
 
-module _ {S : Type 0} (seen : S → SourceView) (has : Content → Type 0) (settings : Settings)
+-- why the old tree was refused
+refused_old : (over goes : ChunkFile → Type 0) (version walked : Version) (root : List ℕ) →
+    LawfulFilesAreWalked → ((file : ChunkFile) → goes file → over file) → walked ≡ version →
+    (fault : Option RootFault) → TellsLeaves over walked root fault →
+    IfSome fault (MayRefuseOld goes version root)
+refused_old over goes version walked root law goes_is same None first = tt
+refused_old over goes version walked root law goes_is same (Some fault) first = record {
+  first = told;
+  lawful = λ content lawful h named is.
+      none_stops content lawful named is (told (chunk_file content) h);
+}
+  where
+    told : TellsLeafFault goes version root fault
+    told file h = subst (λ v. MayFail fault ⊎ IsLeafFault v file root fault) same
+        (first file (goes_is file h))
+
+    none_stops : (content : Content) → IsLawful content → version ≡ content.version →
+        root ≡ root_reference (sha512_cut content.bits) content.version content.pairs →
+        MayFail fault ⊎ IsLeafFault version (chunk_file content) root fault → MayFail fault
+    none_stops content lawful named is (inl may) = may
+    none_stops content lawful named is (inr stops) = lawful_only law lawful named is
+        (map (λ c. TreeStep.Reads c) stops.on.read) stops.on.comes (inr stops.stops)
+
+module _ {S : Type 0} (seen : S → SourceView) (goes : ChunkFile → Type 0) (settings : Settings)
     (root : List ℕ) (before after : List S) (old new : SinkView) (untouched : Type 0) where
   abbrev Answers : Result Report ApplyFault → Type 0
-  Answers result = IsApplyOutcome seen has settings root before after old new untouched result
+  Answers result = IsApplyOutcome seen goes settings root before after old new untouched result
 
   -- the answer, and that there were not too many files
   pub record IsAnswered (result : Result Report ApplyFault) : Type 0 where
@@ -147,7 +175,7 @@ module _ {S : Type 0} (seen : S → SourceView) (has : Content → Type 0) (sett
         stopped = λ file. absurd (h.no_file file);
         of_file = λ e. h.no_file (subst IsFileFault (sym (same_run fault old_tree_fault e)) tt);
         cut_so = λ e. absurd (bits_are_no_run fault (sym e));
-        had = λ told content e. absurd (old_is_no_run told fault (sym e));
+        of_old = λ told e. absurd (old_is_no_run told fault (sym e));
         refused = λ e. absurd (h.no_memory (same_run fault Memory e));
         keeps = begun.keeps;
       }
@@ -168,7 +196,7 @@ module _ {S : Type 0} (seen : S → SourceView) (has : Content → Type 0) (sett
     stopped = λ file. absurd (no_file file);
     of_file = λ e. no_file (subst IsFileFault (sym (same_run fault old_tree_fault e)) tt);
     cut_so = λ e. absurd (bits_are_no_run fault (sym e));
-    had = λ told content e. absurd (old_is_no_run told fault (sym e));
+    of_old = λ told e. absurd (old_is_no_run told fault (sym e));
     refused = λ e. refused (same_run fault Memory e);
     keeps = begun.keeps;
   }
@@ -184,7 +212,7 @@ module _ {S : Type 0} (seen : S → SourceView) (has : Content → Type 0) (sett
     stopped = λ file. absurd file;
     of_file = λ e. subst IsFileFault (sym (same_run Lost old_tree_fault e)) tt;
     cut_so = λ e. absurd (bits_are_no_run Lost (sym e));
-    had = λ told content e. absurd (old_is_no_run told Lost (sym e));
+    of_old = λ told e. absurd (old_is_no_run told Lost (sym e));
     refused = λ e. absurd (lost_is_no_memory (same_run Lost Memory e));
     keeps = begun.keeps;
   }
@@ -228,9 +256,7 @@ module _ {S : Type 0} (seen : S → SourceView) (has : Content → Type 0) (sett
       (refused : Bool) (old_fault : Option RootFault)
       (never : refused ≡ true → (m : List Pair) → IsMapOf settings root m →
       ⊥ ⊎ FoundClashIn settings.version (chunk_bytes settings.version settings.bits m))
-      (fair : (content : Content) → has content → settings.version ≡ content.version →
-      root ≡ root_reference (sha512_cut content.bits) content.version content.pairs →
-      IfSome old_fault MayFail)
+      (first : IfSome old_fault (MayRefuseOld goes settings.version root))
       (over : (m : List Pair) → IsMapOf settings root m →
       IsRunOver seen settings before after root m out.items out.end
       ⊎ FoundClashIn settings.version (chunk_bytes settings.version settings.bits m)) where
@@ -253,7 +279,7 @@ module _ {S : Type 0} (seen : S → SourceView) (has : Content → Type 0) (sett
       stopped = tt;
       of_file = tt;
       cut_so = tt;
-      had = tt;
+      of_old = tt;
       refused = tt;
       keeps = finished.keeps;
     }
@@ -302,7 +328,7 @@ module _ {S : Type 0} (seen : S → SourceView) (has : Content → Type 0) (sett
       stopped = stopped_so fault finished;
       of_file = λ e. of_file (same_run fault old_tree_fault e);
       cut_so = λ e. absurd (bits_are_no_run fault (sym e));
-      had = λ told content e. absurd (old_is_no_run told fault (sym e));
+      of_old = λ told e. absurd (old_is_no_run told fault (sym e));
       refused = λ e. refused_so fault finished (same_run fault Memory e);
       keeps = finished.keeps;
     }
@@ -349,9 +375,9 @@ module _ {S : Type 0} (seen : S → SourceView) (has : Content → Type 0) (sett
         stopped = stopped_so old_tree_fault (as_old fault is finished);
         of_file = λ e. absurd (old_is_no_run told old_tree_fault e);
         cut_so = λ e. absurd (bits_are_no_old told (sym e));
-        had = λ t content e has_it version named.
-            subst MayFail (same_old told t e) (subst (λ (f : Option RootFault). IfSome f MayFail)
-            some (fair content has_it version named));
+        of_old = λ t e. subst (MayRefuseOld goes settings.version root) (same_old told t e)
+            (subst (λ (f : Option RootFault). IfSome f (MayRefuseOld goes settings.version root))
+            some first);
         refused = λ e. absurd (old_is_no_run told Memory e);
         keeps = finished.keeps;
       };
@@ -371,7 +397,7 @@ module _ {S : Type 0} (seen : S → SourceView) (has : Content → Type 0) (sett
         stopped = stopped_so old_tree_fault (as_old fault is finished);
         of_file = λ e. absurd (bits_are_no_run old_tree_fault e);
         cut_so = λ e. never wrong;
-        had = λ told content e. absurd (bits_are_no_old told e);
+        of_old = λ told e. absurd (bits_are_no_old told e);
         refused = λ e. absurd (bits_are_no_run Memory e);
         keeps = finished.keeps;
       };
@@ -415,14 +441,14 @@ module _ {S : Type 0} (seen : S → SourceView) (has : Content → Type 0) (sett
       level + 1 ≡ settings.stages → (lent : List S) → lent ≡ before →
       (Made : Whole Chunk → Type 0) (out : Whole Chunk)
       (run : HasRun Made settings level out.items out.end) (cut : ℕ) → cut ≡ settings.bits →
-      {D : Type 0} (has_it : D → Content → Type 0) (failures : D → ℕ) (version : Version)
-      (source : D) →
-      ((content : Content) → has content → has_it source content) → version ≡ settings.version →
+      {D : Type 0} (goes_over : D → ChunkFile → Type 0) (failures : D → ℕ) (version : Version)
+      (source : D) → ((file : ChunkFile) → goes file → goes_over source file) →
+      LawfulFilesAreWalked → version ≡ settings.version →
       (leaves_in : Receiving (List Pair)) (changes_in : Receiving Record) (link : LinkId)
       (leaves : Receiving (List Pair)) (changes : Receiving Record) (refused : Bool) →
       IsAppliedTo cut leaves_in changes_in link leaves changes refused run.leaves →
       (passes : LinkId) (source' : D) (fault : Option RootFault) (sent : Whole (List Pair)) →
-      IsOldLoadedFrom has_it failures version root source passes source' fault sent →
+      IsOldLoadedFrom goes_over failures version root source passes source' fault sent →
       (outs : List (Batching Record)) (closed : List (Whole Record)) →
       IsFed seen settings.max_records lent after outs closed →
       (idle : Option (Whole Record)) (count : ℕ) → length before ≡ count →
@@ -430,13 +456,13 @@ module _ {S : Type 0} (seen : S → SourceView) (has : Content → Type 0) (sett
       (result : Result Report ApplyFault) →
       IsOldEnded settings leaves changes refused fault sent (senders_of closed idle) out old new
       result → IsAnswered result
-  lent_outcome bytes lawful few level levels lent same Made out run cut cut_is has_it failures version
-      source has_is version_is leaves_in changes_in link leaves changes refused applied passes source'
+  lent_outcome bytes lawful few level levels lent same Made out run cut cut_is goes_over failures
+      version source goes_is law version_is leaves_in changes_in link leaves changes refused applied passes source'
       fault sent loaded outs closed fed idle count counted paired result (inr lost) =
       subst IsAnswered (sym lost.0)
       (record { outcome = lost_outcome lost.1; counted = λ e. cc })
-  lent_outcome bytes lawful few level levels lent same Made out run cut cut_is has_it failures version
-      source has_is version_is leaves_in changes_in link leaves changes refused applied passes source'
+  lent_outcome bytes lawful few level levels lent same Made out run cut cut_is goes_over failures
+      version source goes_is law version_is leaves_in changes_in link leaves changes refused applied passes source'
       fault sent loaded outs closed fed idle count counted paired result (inl met) =
       let below : level ≡ settings.stages - 1 = omega (arith, levels) in
       let leaves_met = met.leaves_met applied.old_ended in
@@ -467,8 +493,8 @@ module _ {S : Type 0} (seen : S → SourceView) (has : Content → Type 0) (sett
       told_outcome bytes (all_kept seen settings.max_records 0 before fed_changes.loader_outs after
       fed_changes.files fed_changes.loaded) out refused fault
       (λ wrong m of. never_refused seen settings before after root run.leaves is_run wrong m of)
-      (λ content has_now version_now named. loaded.lawful content (has_is content has_now)
-      (version_is ∙ version_now) named)
+      (refused_old (goes_over source) goes settings.version version root law goes_is version_is
+      fault loaded.first)
       (λ m of. at_top m of) met.answer result met.finished met.told
     where
       run_at : (l : ℕ) → l ≡ settings.stages - 1 → (r : HasRun Made settings l out.items out.end) →

@@ -3,7 +3,6 @@ use Rattle.std.proofs.Common.{◌≡◌, ◌≢◌, ℕ, Bool, List, Option, Som
 use Rattle.std.proofs.Common.{Ok, Err, OnOk, inl, inr, ap, sym, subst, ◌∙◌, arith}
 use Rattle.prolly_io.specs.Failures.{after_failure}
 use Rattle.prolly_apply.specs.OldLoaded.{TellsReadsOf, load_end}
-use Rattle.prolly_look_up.specs.Content.{Content}
 use Rattle.prolly_entry.specs.Pair.{Pair}
 use Rattle.prolly_entry.specs.Record.{Record}
 use Rattle.prolly_entry.specs.declared.version.Version.{Version}
@@ -18,6 +17,7 @@ use Rattle.prolly_merge.specs.Inputs.{fault_in}
 use Rattle.prolly_report.specs.declared.apply_fault.ApplyFault.{ApplyFault}
 use Rattle.prolly_report.specs.declared.apply_fault.ApplyFault.TheVariants as answers
 use Rattle.prolly_report.specs.declared.report.Report.{Report}
+use Rattle.prolly_root.specs.ChunkFile.{ChunkFile}
 use Rattle.prolly_root.specs.RootFault.{TellsFailure}
 use Rattle.prolly_root.specs.declared.root_fault.RootFault.{RootFault}
 use Rattle.prolly_root.specs.declared.root_fault.RootFault.TheVariants.{Read}
@@ -34,16 +34,16 @@ use Rattle.prolly_build.specs.declared.end.Halt.TheVariants as halts
 use Rattle.prolly_build.proofs.Applying.{no_fault}
 
 -- a source that went away with its loader
-pub gone : {D : Type 0} (has : D → Content → Type 0) (failures : D → ℕ) (source : D) (halt : Halt)
+pub gone : {D : Type 0} (goes_over : D → ChunkFile → Type 0) (failures : D → ℕ) (source : D) (halt : Halt)
     (fault : RunFault) → IsHaltFault halt fault →
-    IsGivenBack has failures source None (Err (answers.Run fault))
-gone has failures source halts.NoThread fault is = inl (ap (λ f. Err (answers.Run f)) is)
-gone has failures source halts.Lost fault is = inr (ap (λ f. Err (answers.Run f)) is)
+    IsGivenBack goes_over failures source None (Err (answers.Run fault))
+gone goes_over failures source halts.NoThread fault is = inl (ap (λ f. Err (answers.Run f)) is)
+gone goes_over failures source halts.Lost fault is = inr (ap (λ f. Err (answers.Run f)) is)
 
-module _ {D : Type 0} (has : D → Content → Type 0) (failures : D → ℕ) (version : Version)
+module _ {D : Type 0} (goes_over : D → ChunkFile → Type 0) (failures : D → ℕ) (version : Version)
     (root : List ℕ) (source : D) (link : LinkId) (source' : D) (fault : Option RootFault)
     (sent : Whole (List Pair))
-    (loaded : IsOldLoadedFrom has failures version root source link source' fault sent) where
+    (loaded : IsOldLoadedFrom goes_over failures version root source link source' fault sent) where
   -- no fault of it was told
   unfailed : fault ≡ None → failures source' ≡ failures source
   unfailed none = subst (λ f. TellsReadsOf (failures source) (failures source') f) none loaded.reads
@@ -84,7 +84,7 @@ module _ {D : Type 0} (has : D → Content → Type 0) (failures : D → ℕ) (v
 
     pub given_back : (result : Result Report ApplyFault) →
         IsOldEnded settings leaves changes refused fault sent senders out old new result →
-        IsGivenBack has failures source (Some source') result
+        IsGivenBack goes_over failures source (Some source') result
     given_back result (inl met) = (
       loaded.keeps,
       tells met.answer result met.told (same met.answer result met.finished
@@ -104,27 +104,27 @@ no_read n m told same tells is =
     one_more : n ≢ after_failure n
     one_more e = omega (arith, e)
 
-pub true_of_reads : {D : Type 0} (has : D → Content → Type 0) (failures : D → ℕ) →
-    IsTrueOfReads has failures
-true_of_reads has failures old given (Ok report) back same = tt
-true_of_reads has failures old given (Err (answers.Run fault)) back same = λ e. absurd (apart e)
+pub true_of_reads : {D : Type 0} (goes_over : D → ChunkFile → Type 0) (failures : D → ℕ) →
+    IsTrueOfReads goes_over failures
+true_of_reads goes_over failures old given (Ok report) back same = tt
+true_of_reads goes_over failures old given (Err (answers.Run fault)) back same = λ e. absurd (apart e)
   where
     apart : answers.Run fault ≡ answers.Old Read → ⊥
     apart e = cc
-true_of_reads has failures old given (Err answers.WrongBits) back same = λ e. absurd (apart e)
+true_of_reads goes_over failures old given (Err answers.WrongBits) back same = λ e. absurd (apart e)
   where
     apart : answers.WrongBits ≡ answers.Old Read → ⊥
     apart e = cc
-true_of_reads has failures old (Some source) (Err (answers.Old told)) back same =
+true_of_reads goes_over failures old (Some source) (Err (answers.Old told)) back same =
     λ e. no_read (failures old) (failures source) told same back.1 (same_told e)
   where
     same_told : answers.Old told ≡ answers.Old Read → told ≡ Read
     same_told e = cc
-true_of_reads has failures old None (Err (answers.Old told)) (inl e) same = absurd (apart e)
+true_of_reads goes_over failures old None (Err (answers.Old told)) (inl e) same = absurd (apart e)
   where
     apart : ◌≡◌ {A = Result Report ApplyFault} (Err (answers.Old told)) (Err (answers.Run NoThread)) → ⊥
     apart e = cc
-true_of_reads has failures old None (Err (answers.Old told)) (inr e) same = absurd (apart e)
+true_of_reads goes_over failures old None (Err (answers.Old told)) (inr e) same = absurd (apart e)
   where
     apart : ◌≡◌ {A = Result Report ApplyFault} (Err (answers.Old told)) (Err (answers.Run Lost)) → ⊥
     apart e = cc

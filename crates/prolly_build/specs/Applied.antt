@@ -6,6 +6,7 @@ use Rattle.std.specs.List.{AllByRecursion}
 use Rattle.prolly_look_up.specs.Content.{Content, chunk_bytes}
 use Rattle.prolly_entry.specs.Cut.{sha512_cut}
 use Rattle.prolly_entry.specs.Overlay.{overlay}
+use Rattle.prolly_entry.specs.declared.version.Version.{Version}
 use Rattle.prolly_entry.specs.Pair.{IsPair, Pair}
 use Rattle.prolly_entry.specs.Prefix.{IsPrefix}
 use Rattle.prolly_entry.specs.Record.{Record}
@@ -18,8 +19,10 @@ use Rattle.prolly_io.specs.Sink.{SinkView, TakesPrefix}
 use Rattle.prolly_io.specs.Source.{AreHonest, SourceView}
 use Rattle.prolly_link.specs.declared.fault.RunFault.{RunFault}
 use Rattle.prolly_link.specs.declared.fault.RunFault.TheVariants.{Memory, Write, NoThread, Lost}
+use Rattle.prolly_root.specs.ChunkFile.{ChunkFile, IsLawful, chunk_file}
 use Rattle.prolly_root.specs.RootFault.{MayFail}
 use Rattle.prolly_root.specs.declared.root_fault.RootFault.{RootFault}
+use Rattle.prolly_root_diff.specs.FirstFault.{TellsLeafFault}
 use Rattle.prolly_root_diff.specs.Leaves.{FoundClashIn}
 use Rattle.prolly_apply.specs.Applied.{old_tree_fault}
 use Rattle.prolly_build.specs.BuiltFile.{AreKept, AreRead, IsBegun, IsMadeFile, IsStartFault}
@@ -116,11 +119,21 @@ fault_told (answers.Run fault) = fault
 fault_told (answers.Old fault) = old_tree_fault
 fault_told answers.WrongBits = old_tree_fault
 
--- All that is promised of an answer with these settings: of the old tree's root, where `has` says
--- which contents its source has, of the sources before and after it, of which `seen` is what a
--- contract sees, and of the sink as a contract sees it before and after. `untouched` says that the
--- sink is as it was.
-pub record IsApplyOutcome {S : Type 0} (seen : S → SourceView) (has : Content → Type 0)
+-- Why an old tree with this root is refused: what is wrong first with the file that its source goes
+-- over; or memory was refused, or a read failed. Where the file is lawful, it is one of the last two.
+-- (That follows. It is told too, since it is what a user asks.)
+pub record MayRefuseOld (goes_over : ChunkFile → Type 0) (version : Version) (root : List ℕ)
+    (fault : RootFault) : Type 0 where
+  pub first : TellsLeafFault goes_over version root fault
+  pub lawful : (content : Content) → IsLawful content → goes_over (chunk_file content) →
+      version ≡ content.version →
+      root ≡ root_reference (sha512_cut content.bits) content.version content.pairs → MayFail fault
+
+-- All that is promised of an answer with these settings: of the old tree's root, of the sources before
+-- and after it, and of the sink as a contract sees it before and after. `goes_over` says which chunk
+-- files the old tree's source goes over. `seen` is what a contract sees of a source. `untouched` says
+-- that the sink is as it was.
+pub record IsApplyOutcome {S : Type 0} (seen : S → SourceView) (goes_over : ChunkFile → Type 0)
     (settings : Settings) (root : List ℕ) (before after : List S) (old new : SinkView) (untouched : Type 0)
     (result : Result Report ApplyFault) : Type 0 where
   -- A report: of any map of the root, each source was read to its end, the sink took the chunk file
@@ -152,11 +165,9 @@ pub record IsApplyOutcome {S : Type 0} (seen : S → SourceView) (has : Content 
   pub of_file : IfErr result (λ fault. fault ≢ answers.Run old_tree_fault)
   -- Wrong bits are told of no map of the root.
   pub cut_so : IfErr result (λ fault. fault ≡ answers.WrongBits → OfMaps settings root (λ m. ⊥))
-  -- Where the source has the tree of the root, it has no fault but want of memory and a failed read.
-  pub had : IfErr result (λ fault. (told : RootFault) (content : Content) →
-      fault ≡ answers.Old told → has content → settings.version ≡ content.version →
-      root ≡ root_reference (sha512_cut content.bits) content.version content.pairs →
-      MayFail told)
+  -- Of the old tree's file what is wrong first is told.
+  pub of_old : IfErr result (λ fault. (told : RootFault) → fault ≡ answers.Old told →
+      MayRefuseOld goes_over settings.version root told)
   -- Want of memory, over honest sources: of any map of the root, the sink took a prefix of the file,
   -- without its end record, of the first pairs of the overlay of the map and all good records.
   pub refused : IfErr result (λ fault. fault ≡ answers.Run Memory → AreHonest seen before →

@@ -1,6 +1,5 @@
 -- What the workers give back that an old tree needs.
 use Rattle.std.specs.Prelude.{◌≡◌, ℕ, Bool, true, false, List, [], Option, IfSome}
-use Rattle.prolly_look_up.specs.Content.{Content}
 use Rattle.prolly_entry.specs.Cut.{sha512_cut}
 use Rattle.prolly_entry.specs.Pair.{Pair}
 use Rattle.prolly_entry.specs.Record.{Record}
@@ -11,26 +10,27 @@ use Rattle.prolly_link.specs.Identity.{LinkId}
 use Rattle.prolly_link.specs.Views.{Receiving, Whole}
 use Rattle.prolly_link.specs.Progress.{end_given, HasEnded}
 use Rattle.prolly_link.specs.declared.message.End.TheVariants.{Fault}
-use Rattle.prolly_root.specs.RootFault.{MayFail}
+use Rattle.prolly_root.specs.ChunkFile.{ChunkFile}
+use Rattle.prolly_root.specs.ChunkSource.{GoesOverStill}
 use Rattle.prolly_root.specs.declared.root_fault.RootFault.{RootFault}
+use Rattle.prolly_root_diff.specs.FirstFault.{TellsLeaves}
 use Rattle.prolly_apply.specs.Applied.{IsCleanBehind, SendsApplied, given, old_tree_fault}
 use Rattle.prolly_apply.specs.Cutting.{AreCut}
 use Rattle.prolly_apply.specs.OldLoaded.{IsOldLoaded, TellsReadsOf, load_end}
 
--- The leaves of an old tree were loaded into the output of this link. The tree of a source that has
--- it is not refused, a failed read is told exactly where a call of the source failed, and the source
--- has what it had.
-pub record IsOldLoadedFrom {D : Type 0} (has : D → Content → Type 0) (failures : D → ℕ)
+-- The leaves of an old tree were loaded into the output of this link. Of a file that the source goes
+-- over it is told what is wrong first; and it has all chunks of the tree where no fault is told. A
+-- failed read is told exactly where a call of the source failed. The source goes over what it went
+-- over.
+pub record IsOldLoadedFrom {D : Type 0} (goes_over : D → ChunkFile → Type 0) (failures : D → ℕ)
     (version : Version) (root : List ℕ) (source : D) (link : LinkId) (source' : D)
     (fault : Option RootFault) (closed : Whole (List Pair)) : Type 0 where
   pub writes : closed.link ≡ link
   pub loaded : IsOldLoaded version root [] closed.items fault
   pub end_is : closed.end ≡ load_end fault
-  pub lawful : (content : Content) → has source content → version ≡ content.version →
-      root ≡ root_reference (sha512_cut content.bits) content.version content.pairs →
-      IfSome fault MayFail
+  pub first : TellsLeaves (goes_over source) version root fault
   pub reads : TellsReadsOf (failures source) (failures source') fault
-  pub keeps : (content : Content) → has source content → has source' content
+  pub keeps : GoesOverStill goes_over source source'
 
 -- Both inputs of the stage of an old tree's leaves have ended, and what it makes of them was sent, on
 -- the links that it was given; or the old tree was refused, since its leaves are not cut so.

@@ -6,7 +6,6 @@ ghost use Rattle.prolly_build.specs.Config.{AreLawful};
 ghost use Rattle.prolly_build.specs.GivenBack.{IsGivenBack};
 ghost use Rattle.prolly_build.specs.OldBase.{AreChangesPaired};
 ghost use Rattle.prolly_report.specs.declared.apply_fault.ApplyFault.TheVariants.{Run};
-ghost use Rattle.prolly_root.specs.ChunkSource.{GoesOverTree};
 
 use crate::config::Config;
 use crate::links::{StageLinks, both};
@@ -18,6 +17,7 @@ use prolly_io::{Sink, Source};
 use prolly_link::RunFault;
 use prolly_report::ApplyFault;
 use prolly_root::ReadAhead;
+use prolly_root_diff::laws::walks_tell_one_fault;
 use prolly_stage::Gate;
 use std::alloc::Global;
 use std::mem;
@@ -55,13 +55,15 @@ where
     requires leaves { old.base.out.link ≡ old.base.leaves.old.link }
     requires changes { AreChangesPaired (vec_len sources.old) old.base.feed.outs.items
         old.base.leaves.changes old.idle }
-    ensures outcome { IsApplyOutcome S.seen (GoesOverTree D.goes_over old.base.middle.source)
+    ensures outcome { IsApplyOutcome S.seen (D.goes_over old.base.middle.source)
         lent.now.config old.base.middle.root.0 sources.old.items sources.new.items (W.seen sink.old)
         (W.seen sink.new) (sink.new ≡ sink.old) result.answer }
     ensures counted { result.answer ≡ Err (Run TooManyFiles) → ⊥ }
-    ensures given_back { IsGivenBack (GoesOverTree D.goes_over) D.failures old.base.middle.source
+    ensures given_back { IsGivenBack D.goes_over D.failures old.base.middle.source
         result.source result.answer }
 {
+    // By this law a lawful tree is not refused.
+    walks_tell_one_fault();
     let OldBase { base, idle } = old;
     let taken = mem::replace(sources, Vec::new(lent.alloc));
     let (ran, back) = run_scoped(lent, links, base, taken, sink);
@@ -133,10 +135,10 @@ pub fn apply_changes_with<
 where
     D::Place: Send,
     ensures too_many { (result.answer ≡ Err (Run TooManyFiles)) ↔ (15 < vec_len sources.old) }
-    ensures outcome { IsApplyOutcome S.seen (GoesOverTree D.goes_over old) config.now root.now.0
+    ensures outcome { IsApplyOutcome S.seen (D.goes_over old) config.now root.now.0
         sources.old.items sources.new.items (W.seen sink.old) (W.seen sink.new) (sink.new ≡ sink.old)
         result.answer }
-    ensures given_back { IsGivenBack (GoesOverTree D.goes_over) D.failures old result.source
+    ensures given_back { IsGivenBack D.goes_over D.failures old result.source
         result.answer }
 {
     if sources.len() > CHANGES_LIMIT {
@@ -183,10 +185,10 @@ pub fn apply_changes<
 where
     D::Place: Send,
     ensures too_many { (result.answer ≡ Err (Run TooManyFiles)) ↔ (15 < vec_len sources.old) }
-    ensures outcome { IsApplyOutcome S.seen (GoesOverTree D.goes_over old) config.now root.now.0
+    ensures outcome { IsApplyOutcome S.seen (D.goes_over old) config.now root.now.0
         sources.old.items sources.new.items (W.seen sink.old) (W.seen sink.new) (sink.new ≡ sink.old)
         result.answer }
-    ensures given_back { IsGivenBack (GoesOverTree D.goes_over) D.failures old result.source
+    ensures given_back { IsGivenBack D.goes_over D.failures old result.source
         result.answer }
 {
     apply_changes_with(rt, alloc, config, root, old, sources, sink, gate, &AllStart)

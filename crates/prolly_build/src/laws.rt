@@ -4,7 +4,6 @@ ghost use Rattle.prolly_io.specs.Sink.{SinkView};
 ghost use Rattle.prolly_build.specs.Config.{Settings};
 ghost use Rattle.prolly_build.specs.BuiltFile.{NoEndIsBegun};
 ghost use Rattle.prolly_build.specs.GivenBack.{IsTrueOfReads};
-ghost use Rattle.prolly_root.specs.ChunkSource.{GoesOverTree};
 
 use prolly_root::ChunkSource;
 
@@ -17,5 +16,5 @@ pub fn no_end_is_begun()
 /// Where no call of an old tree's source failed, as of bytes in memory, no read of the old tree is
 /// told to have failed.
 pub fn no_failed_read_is_told<D: ChunkSource>()
-    ensures { IsTrueOfReads (GoesOverTree D.goes_over) D.failures }
+    ensures { IsTrueOfReads D.goes_over D.failures }
 {}

@@ -10,22 +10,22 @@ use Rattle.prolly_look_up.specs.Kinds.Entries.{Node}
 use Rattle.prolly_look_up.specs.MapTree.{ChildIsTree, IsTreeOf, RootIsTree, TopIsRead, child_of}
 use Rattle.prolly_look_up.specs.MapTree.{entries_below}
 use Rattle.prolly_look_up.specs.Way.{FallsTo, level_of}
-use Rattle.prolly_look_up.specs.lemmas.Ways.{no_flaw}
 use Rattle.prolly_entry.specs.Cut.{sha512_cut}
-use Rattle.prolly_entry.specs.Reference.{reference_of}
 use Rattle.prolly_entry.specs.declared.version.Version.{Version}
-use Rattle.prolly_entry.specs.lemmas.Lists.{all_append}
+use Rattle.prolly_entry.specs.lemmas.Lists.{all_append, head_is, tail_is}
+use Rattle.prolly_entry.specs.lemmas.Overlays.{some_none}
 use Rattle.prolly_tree.specs.File.{root_reference}
 use Rattle.prolly_tree.specs.Tree.{Tree, bytes_of, greatest_key}
 use Rattle.prolly_root.specs.ChunkFile.{ChunkFile, IsLawful, chunk_file, file_fault}
-use Rattle.prolly_root.specs.FileTrees.{IsChildNumber, IsTreeAt, root_level, root_tree}
+use Rattle.prolly_root.specs.FileTrees.{IsChildNumber, IsTreeAt}
 use Rattle.prolly_root.specs.Path.{IsPath}
 use Rattle.prolly_root.specs.RootFault.{MayFail}
 use Rattle.prolly_root.specs.declared.root_fault.RootFault.{RootFault}
-use Rattle.prolly_root.specs.lemmas.FileTrees.{child_among, root_at, top_is, top_nth, top_number}
+use Rattle.prolly_root.specs.lemmas.FileTrees.{child_among, top_nth, top_number}
 use Rattle.prolly_root.specs.lemmas.FileTrees.{tree_found}
-use Rattle.prolly_root.specs.lemmas.LawfulFiles.{no_file_fault}
-use Rattle.prolly_root.specs.lemmas.Places.{level_is}
+use Rattle.prolly_root.specs.lemmas.LawfulFiles.{IsTopDue, entries_there, level_there, no_fault_there}
+use Rattle.prolly_root.specs.lemmas.LawfulFiles.{no_file_fault, root_due}
+use Rattle.prolly_root.specs.lemmas.FileTrees.{level_is}
 use Rattle.prolly_range.specs.FirstFault.{AreChildren, DueAt, GoesOn, IsFaultAt, IsFirstSetFault, LacksOne}
 use Rattle.prolly_range.specs.FirstFault.{LawfulFilesHaveProofs, StopsWith, TellsFirstFault}
 use Rattle.prolly_range.specs.FirstFault.{chunk_at, numbers_met}
@@ -67,9 +67,6 @@ module _ (level : ℕ) where
       (part_behind set key) after)) same (numbered (front ++ t ∷ []) after (suc number)
       (part_behind set key) (omega (arith, at, length-append front (t ∷ [])))))
 
-heads : (x y : Due) (xs ys : List Due) → x ∷ xs ≡ y ∷ ys → (x ≡ y) × (xs ≡ ys)
-heads x y xs ys e = (cc, cc)
-
 -- ---- one chunk behind another
 
 module _ (content : Content) (child_tree : ChildIsTree content.version)
@@ -81,13 +78,8 @@ module _ (content : Content) (child_tree : ChildIsTree content.version)
   file = chunk_file content
 
   -- the chunk that is due is the top of a tree, and stands there
-  record StandsAtTree (at : DueAt) : Type 0 where
-    pub level : ℕ
-    pub t : Tree level
-    pub below : IsTreeOf version (chunks_of content) level t
-    pub named : at.due.reference ≡ reference_of (bytes_of version level t)
-    pub stands : IsTreeAt content level t at.number at.from
-    pub falls : FallsTo at.due.above (bytes_of version level t)
+  abbrev StandsAtTree : DueAt → Type 0
+  StandsAtTree at = IsTopDue content at.due.reference at.due.above at.number at.from
 
   module _ (level : ℕ) (ts : List (Tree level)) (n from : ℕ)
       (below : IsTreeOf version (chunks_of content) (suc level) ts)
@@ -103,18 +95,18 @@ module _ (content : Content) (child_tree : ChildIsTree content.version)
     trees_below [] each (q ∷ qs) e are = absurd are
     trees_below (m ∷ ms) each [] e are = absurd are
     trees_below (m ∷ ms) each (q ∷ qs) e are =
-        let same = heads q.due (due_of m) (map (λ d. d.due) qs) (map due_of ms) e in (
+        let same : q.due ≡ due_of m = head_is _ _ _ _ e in (
           record {
             level = level;
             t = m.item;
             below = child_tree (chunks_of content) level each.0.front each.0.after m.item
                 (subst (IsTreeOf version (chunks_of content) (suc level)) each.0.are below);
-            named = ap (λ d. d.reference) same.0;
+            named = ap (λ d. d.reference) same;
             stands = tree_found (child_among stands each.0) are.0 are.1;
-            falls = subst (λ d. FallsTo d.above (bytes_of version level m.item)) (sym same.0)
+            falls = subst (λ d. FallsTo d.above (bytes_of version level m.item)) (sym same)
                 (ap suc (sym (level_is version level m.item)));
           },
-          trees_below ms each.1 qs same.1 are.2,
+          trees_below ms each.1 qs (tail_is _ _ _ _ e) are.2,
         )
 
     -- and none of them is missing
@@ -126,16 +118,6 @@ module _ (content : Content) (child_tree : ChildIsTree content.version)
     none_missing (m ∷ ms) each (inr more) = none_missing ms each.1 more
 
   module _ (at : DueAt) (s : StandsAtTree at) where
-    top_there : chunk_at file at ≡ bytes_of version s.level s.t
-    top_there = top_is s.stands
-
-    entries_there : kind_of version (chunk_at file at) ≡ entries_below version s.level s.t
-    entries_there = ap (kind_of version) top_there ∙
-        (read (chunks_of content) s.level s.t s.below).1
-
-    level_there : level_of (chunk_at file at) ≡ s.level
-    level_there = ap level_of top_there ∙ level_is version s.level s.t
-
     abbrev Below : ℕ → Entries → List DueAt → Type 0
     Below level entries qs = map (λ d. d.due) qs ≡ due_below level at.due.set entries →
         AreChildren file (level - 1) at.from (numbers_met at.due.set entries) qs →
@@ -143,8 +125,8 @@ module _ (content : Content) (child_tree : ChildIsTree content.version)
 
     stand_below : (qs : List DueAt) →
         Below (level_of (chunk_at file at)) (kind_of version (chunk_at file at)) qs
-    stand_below qs = subst (λ l. Below l (kind_of version (chunk_at file at)) qs) (sym level_there)
-        (subst (λ entries. Below s.level entries qs) (sym entries_there)
+    stand_below qs = subst (λ l. Below l (kind_of version (chunk_at file at)) qs) (sym (level_there s))
+        (subst (λ entries. Below s.level entries qs) (sym (entries_there s read))
         (by_level s.level s.t s.below s.stands qs))
       where
         by_level : (level : ℕ) (t : Tree level) → IsTreeOf version (chunks_of content) level t →
@@ -172,8 +154,8 @@ module _ (content : Content) (child_tree : ChildIsTree content.version)
     Lacks level entries = LacksOne file (level - 1) at.from (numbers_met at.due.set entries) → ⊥
 
     all_there : Lacks (level_of (chunk_at file at)) (kind_of version (chunk_at file at))
-    all_there = subst (λ l. Lacks l (kind_of version (chunk_at file at))) (sym level_there)
-        (subst (Lacks s.level) (sym entries_there) (by_level s.level s.t s.below s.stands))
+    all_there = subst (λ l. Lacks l (kind_of version (chunk_at file at))) (sym (level_there s))
+        (subst (Lacks s.level) (sym (entries_there s read)) (by_level s.level s.t s.below s.stands))
       where
         by_level : (level : ℕ) (t : Tree level) → IsTreeOf version (chunks_of content) level t →
             IsTreeAt content level t at.number at.from → Lacks level (entries_below version level t)
@@ -210,12 +192,7 @@ module _ (content : Content) (child_tree : ChildIsTree content.version)
       both = subst AllStand stops.was all
 
       none : IsFaultAt version file stops.first fault → ⊥
-      none (inl flawed) = let s = both.0 in
-          no_flaw version stops.first.due.reference stops.first.due.above
-          (chunk_at file stops.first) flawed.0
-          (ap reference_of (top_there stops.first s) ∙ sym s.named)
-          (rw (top_there stops.first s) (read (chunks_of content) s.level s.t s.below).0)
-          (subst (FallsTo stops.first.due.above) (sym (top_there stops.first s)) s.falls) flawed.1
+      none (inl flawed) = no_fault_there both.0 read fault flawed
       none (inr lacks) = all_there stops.first both.0 lacks.1
 
   none_on_path : (due : List DueAt) (steps : List (List DueAt)) (last : List DueAt)
@@ -230,23 +207,10 @@ module _ (content : Content) (child_tree : ChildIsTree content.version)
       IsFirstSetFault version file
       (root_reference (sha512_cut content.bits) content.version content.pairs) set fault → ⊥
   no_set_fault root_tree_is f set fault (inl told) =
-      some_none (sym told ∙ no_file_fault f refl)
-    where
-      some_none : Some fault ≡ None → ⊥
-      some_none e = cc
+      some_none fault (sym told ∙ no_file_fault f refl)
   no_set_fault root_tree_is f set fault (inr way) = none_on_path
       (root_due_at file (root_reference (sha512_cut content.bits) content.version content.pairs) set
-      ∷ []) way.1.steps way.1.last fault (
-        record {
-          level = root_level content;
-          t = root_tree content;
-          below = root_tree_is content.version content.bits content.pairs f.lawful f.rising;
-          named = refl;
-          stands = root_at content;
-          falls = tt;
-        },
-        tt,
-      ) way.1.leads way.1.stops
+      ∷ []) way.1.steps way.1.last fault (root_due root_tree_is f, tt) way.1.leads way.1.stops
 
 -- ---- what is told
 

@@ -14,7 +14,7 @@ use Rattle.prolly_entry.specs.Pair.{Pair}
 use Rattle.prolly_entry.specs.Reference.{reference_of}
 use Rattle.prolly_entry.specs.declared.version.Version.{Version}
 use Rattle.prolly_laws.specs.Trees.{pairs_are}
-use Rattle.prolly_root.specs.lemmas.Places.{level_is}
+use Rattle.prolly_root.specs.lemmas.FileTrees.{level_is}
 use Rattle.prolly_tree.specs.Chunk.{IsIn}
 use Rattle.prolly_tree.specs.Tree.{LeveledTree, Tree, bytes_of, greatest_key, pairs_below, tree_of}
 use Rattle.prolly_tree.specs.lemmas.Maps.{rises}

@@ -1,32 +1,31 @@
 -- That a look-up in the chunk file of a lawful content has no fault.
 use Rattle.std.proofs.Common.{◌≡◌, ◌∙◌, ℕ, zero, suc, ◌-◌, List, [], ◌∷◌, ◌++◌, length, drop, map}
-use Rattle.std.proofs.Common.{inl, inr, Some, None, refl, sym, ap, subst, arith}
+use Rattle.std.proofs.Common.{inl, inr, refl, sym, ap, subst, arith}
 use Rattle.std.proofs.lemmas.List.{length-append}
 use Rattle.prolly_look_up.specs.Content.{chunks_of, Content}
 use Rattle.prolly_look_up.specs.Entries.{Child}
-use Rattle.prolly_look_up.specs.Kinds.{kind_of}
 use Rattle.prolly_look_up.specs.Kinds.Entries.{Node}
 use Rattle.prolly_look_up.specs.MapTree.{ChildIsTree, IsTreeOf, RootIsTree, TopIsRead, child_of}
 use Rattle.prolly_look_up.specs.MapTree.{entries_below}
 use Rattle.prolly_look_up.specs.Sought.{Sought}
 use Rattle.prolly_look_up.specs.Way.{FallsTo, level_of}
-use Rattle.prolly_look_up.specs.lemmas.Ways.{no_flaw}
 use Rattle.prolly_entry.specs.Cut.{sha512_cut}
 use Rattle.prolly_entry.specs.Reference.{reference_of}
 use Rattle.prolly_entry.specs.declared.version.Version.{Version}
+use Rattle.prolly_entry.specs.lemmas.Overlays.{some_none}
 use Rattle.prolly_tree.specs.File.{root_reference}
 use Rattle.prolly_tree.specs.Tree.{Tree, bytes_of}
 use Rattle.prolly_root.specs.ChunkFile.{ChunkFile, IsLawful, chunk_file}
-use Rattle.prolly_root.specs.FileTrees.{IsChildNumber, IsTreeAt, root_level, root_tree}
+use Rattle.prolly_root.specs.FileTrees.{IsChildNumber, IsTreeAt}
 use Rattle.prolly_root.specs.LookUpFault.{GoesOnIn, IsFirstFault, LeadsTo, Standing, StepsTo}
 use Rattle.prolly_root.specs.LookUpFault.{StopsWith}
 use Rattle.prolly_root.specs.LookUpFault.{at_root, chunk_of}
 use Rattle.prolly_root.specs.Walk.{IsBehind, IsNth}
 use Rattle.prolly_root.specs.declared.root_fault.RootFault.{RootFault}
-use Rattle.prolly_root.specs.lemmas.FileTrees.{StandsAmong, child_among, root_at, top_is, top_nth}
+use Rattle.prolly_root.specs.lemmas.FileTrees.{StandsAmong, child_among, level_is, top_nth}
 use Rattle.prolly_root.specs.lemmas.FileTrees.{top_number, tree_found}
-use Rattle.prolly_root.specs.lemmas.LawfulFiles.{no_file_fault}
-use Rattle.prolly_root.specs.lemmas.Places.{level_is}
+use Rattle.prolly_root.specs.lemmas.LawfulFiles.{IsTopDue, entries_there, level_there, no_fault_there}
+use Rattle.prolly_root.specs.lemmas.LawfulFiles.{no_file_fault, root_due}
 
 -- ---- the child of a node
 
@@ -68,23 +67,10 @@ module _ (content : Content) (child_tree : ChildIsTree content.version)
   file = chunk_file content
 
   -- the chunk that is due is the top of a tree, and stands there
-  record StandsAtTree (at : Standing) : Type 0 where
-    pub level : ℕ
-    pub t : Tree level
-    pub below : IsTreeOf content.version (chunks_of content) level t
-    pub named : at.reference ≡ reference_of (bytes_of content.version level t)
-    pub stands : IsTreeAt content level t at.number at.from
-    pub falls : FallsTo at.above (bytes_of content.version level t)
+  abbrev StandsAtTree : Standing → Type 0
+  StandsAtTree at = IsTopDue content at.reference at.above at.number at.from
 
   module _ (at : Standing) (s : StandsAtTree at) where
-    top_there : chunk_of file at ≡ bytes_of content.version s.level s.t
-    top_there = top_is s.stands
-
-    entries_there : kind_of content.version (chunk_of file at) ≡
-        entries_below content.version s.level s.t
-    entries_there = ap (kind_of content.version) top_there ∙
-        (read (chunks_of content) s.level s.t s.below).1
-
     -- the child in which the look-up goes on is the top of a tree below this one
     record GoesToTree (child : ℕ) (reference : List ℕ) : Type 0 where
       pub level : ℕ
@@ -99,7 +85,7 @@ module _ (content : Content) (child_tree : ChildIsTree content.version)
         GoesOnIn content.version (chunk_of file at) at.sought child reference there →
         GoesToTree child reference
     goes_to child reference there on = by_level s.level s.t s.below s.stands
-        (sym entries_there ∙ on.are) (ap level_of top_there ∙ level_is content.version s.level s.t)
+        (sym (entries_there s read) ∙ on.are) (level_there s)
       where
         nodes : (cs ds : List Child) → Node cs ≡ Node ds → cs ≡ ds
         nodes cs ds e = cc
@@ -142,10 +128,7 @@ module _ (content : Content) (child_tree : ChildIsTree content.version)
 
     -- and nothing stops it there
     no_stop : (fault : RootFault) → StopsWith content.version file at fault → ⊥
-    no_stop fault (inl flawed) = no_flaw content.version at.reference at.above (chunk_of file at)
-        flawed.0 (ap reference_of top_there ∙ sym s.named)
-        (rw top_there (read (chunks_of content) s.level s.t s.below).0)
-        (subst (FallsTo at.above) (sym top_there) s.falls) flawed.1
+    no_stop fault (inl flawed) = no_fault_there s read fault flawed
     no_stop fault (inr lacks) =
         let g = goes_to lacks.child lacks.reference lacks.there lacks.on in
         let n = top_number g.among in
@@ -165,17 +148,7 @@ module _ (content : Content) (child_tree : ChildIsTree content.version)
       IsFirstFault content.version file
       (root_reference (sha512_cut content.bits) content.version content.pairs) sought fault → ⊥
   no_first_fault root_tree_is f sought fault (inl told) =
-      some_none (sym told ∙ no_file_fault f refl)
-    where
-      some_none : Some fault ≡ None → ⊥
-      some_none e = cc
+      some_none fault (sym told ∙ no_file_fault f refl)
   no_first_fault root_tree_is f sought fault (inr way) = none_on_way
       (at_root file (root_reference (sha512_cut content.bits) content.version content.pairs) sought)
-      way.1.steps way.1.last fault (record {
-        level = root_level content;
-        t = root_tree content;
-        below = root_tree_is content.version content.bits content.pairs f.lawful f.rising;
-        named = refl;
-        stands = root_at content;
-        falls = tt;
-      }) way.1.leads way.1.stops
+      way.1.steps way.1.last fault (root_due root_tree_is f) way.1.leads way.1.stops

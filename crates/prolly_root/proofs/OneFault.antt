@@ -5,21 +5,19 @@ use Rattle.prolly_look_up.specs.Entries.{Child}
 use Rattle.prolly_look_up.specs.Kinds.{kind_of}
 use Rattle.prolly_look_up.specs.Kinds.Entries.{Node}
 use Rattle.prolly_look_up.specs.Sought.{EndsAt, Sought, child_sought}
-use Rattle.prolly_look_up.specs.Step.{IsFlawedChunk}
 use Rattle.prolly_look_up.specs.Way.{entry_keys, IsOrdered, level_of}
-use Rattle.prolly_look_up.specs.declared.step.ChunkFlaw.{ChunkFlaw}
 use Rattle.prolly_look_up.specs.lemmas.Chosen.{one_same}
-use Rattle.prolly_look_up.specs.lemmas.Ways.{no_flaw}
 use Rattle.prolly_entry.specs.Keys.{KeyBelow, Rising, RisingFrom}
 use Rattle.prolly_entry.specs.declared.version.Version.{Version}
 use Rattle.prolly_entry.specs.lemmas.Orders.{less_self, order_trans}
+use Rattle.prolly_entry.specs.lemmas.Lists.{head_is, tail_is}
+use Rattle.prolly_entry.specs.lemmas.Overlays.{some_none}
 use Rattle.prolly_root.specs.ChunkFile.{ChunkFile}
 use Rattle.prolly_root.specs.LookUpFault.{ComesToEnd, GoesOnIn, HasDue, IsFirstFault, IsLookUpFault}
 use Rattle.prolly_root.specs.LookUpFault.{LeadsTo, Standing, StepsTo, StopsWith, chunk_of}
-use Rattle.prolly_root.specs.LookUpFault.{fault_of_flaw}
 use Rattle.prolly_root.specs.Walk.{IsBehind, IsNth}
 use Rattle.prolly_root.specs.declared.root_fault.RootFault.{RootFault}
-use Rattle.prolly_root.specs.lemmas.Flaws.{one_flaw}
+use Rattle.prolly_root.specs.lemmas.Flaws.{no_fault_of, one_fault_of}
 use Rattle.prolly_root.specs.lemmas.Paths.{one_end}
 use Rattle.prolly_root.specs.lemmas.Levels.{behind_one, nth_one}
 
@@ -38,24 +36,19 @@ not_again key [] c after h = h.0
 not_again key (b ∷ before) c after h =
     order_trans key b.key c.key h.0 (not_again b.key before c after h.1)
 
-first_child : (c d : Child) (cs ds : List Child) → c ∷ cs ≡ d ∷ ds → (c ≡ d) × (cs ≡ ds)
-first_child c d cs ds e = (cc, cc)
-
 one_place : (before after before' after' : List Child) (c : Child) →
     before ++ c ∷ after ≡ before' ++ c ∷ after' → Rising (keys (before ++ c ∷ after)) →
     length before ≡ length before'
 one_place [] after [] after' c e h = refl
 one_place [] after (b ∷ before') after' c e h =
-    let same = first_child c b after (before' ++ c ∷ after') e in
     absurd (less_self c.key (not_again c.key before' c after'
-    (subst (λ cs. RisingFrom c.key (keys cs)) same.1 h)))
+    (subst (λ cs. RisingFrom c.key (keys cs)) (tail_is c b after (before' ++ c ∷ after') e) h)))
 one_place (b ∷ before) after [] after' c e h =
-    let same = first_child b c (before ++ c ∷ after) after' e in
-    absurd (less_self c.key (subst (λ b. KeyBelow b.key c.key) same.0
-    (not_again b.key before c after h)))
+    absurd (less_self c.key (subst (λ b. KeyBelow b.key c.key)
+    (head_is b c (before ++ c ∷ after) after' e) (not_again b.key before c after h)))
 one_place (b ∷ before) after (d ∷ before') after' c e h =
-    let same = first_child b d (before ++ c ∷ after) (before' ++ c ∷ after') e in
-    ap suc (one_place before after before' after' c same.1
+    ap suc (one_place before after before' after' c
+    (tail_is b d (before ++ c ∷ after) (before' ++ c ∷ after') e)
     (rises_behind b.key (keys (before ++ c ∷ after)) h))
 
 -- ---- one step
@@ -132,15 +125,10 @@ module _ (version : Version) (file : ChunkFile) where
 
   -- ---- one fault
 
-  no_flaw_due : (at : Standing) → HasDue version file at → (flaw : ChunkFlaw) →
-      IsFlawedChunk version at.reference at.above (chunk_of file at) flaw → ⊥
-  no_flaw_due at due flaw is = no_flaw version at.reference at.above (chunk_of file at) flaw
-      due.named.is due.named.ordered due.falls is
-
   -- where a look-up stops it does not go on, nor end
   no_step : (at next : Standing) (fault : RootFault) → StopsWith version file at fault →
       StepsTo version file at next → ⊥
-  no_step at next fault (inl flaw) s = no_flaw_due at s.due flaw.0 flaw.1
+  no_step at next fault (inl flaw) s = no_fault_of _ s.due.named s.due.falls flaw
   no_step at next fault (inr lacks) s =
       let same = one_child s.due.named.ordered lacks.on s.on in
       lacks.none next.number (subst
@@ -149,10 +137,9 @@ module _ (version : Version) (file : ChunkFile) where
 
   one_stop : (at : Standing) (fault other : RootFault) → StopsWith version file at fault →
       StopsWith version file at other → fault ≡ other
-  one_stop at fault other (inl f) (inl g) = f.2 ∙ ap (λ flaw. fault_of_flaw flaw at.number)
-      (one_flaw version at.reference at.above (chunk_of file at) f.0 g.0 f.1 g.1) ∙ sym g.2
-  one_stop at fault other (inl f) (inr g) = absurd (no_flaw_due at g.due f.0 f.1)
-  one_stop at fault other (inr f) (inl g) = absurd (no_flaw_due at f.due g.0 g.1)
+  one_stop at fault other (inl f) (inl g) = one_fault_of _ f g
+  one_stop at fault other (inl f) (inr g) = absurd (no_fault_of _ g.due.named g.due.falls f)
+  one_stop at fault other (inr f) (inl g) = absurd (no_fault_of _ f.due.named f.due.falls g)
   one_stop at fault other (inr f) (inr g) = f.is ∙ sym g.is
 
   -- so two that stop, stop at one place, and one that stops does not come to an end
@@ -179,11 +166,8 @@ module _ (version : Version) (file : ChunkFile) where
       last end leads lead stops ends) stops)
     where
       no_stop : StopsWith version file end fault → ⊥
-      no_stop (inl flaw) = no_flaw_due end ends.0 flaw.0 flaw.1
+      no_stop (inl flaw) = no_fault_of _ ends.0.named ends.0.falls flaw
       no_stop (inr lacks) = no_end lacks.on ends.1
-
-some_none : {A : Type 0} {x : A} → Some x ≡ None → ⊥
-some_none e = cc
 
 one_on_way : (version : Version) (file : ChunkFile) (root : List ℕ) (sought : Sought)
     (fault other : RootFault) → IsLookUpFault version file root sought fault →
@@ -196,8 +180,8 @@ pub one_fault : (version : Version) (file : ChunkFile) (root : List ℕ) (sought
     (fault other : RootFault) → IsFirstFault version file root sought fault →
     IsFirstFault version file root sought other → fault ≡ other
 one_fault version file root sought fault other (inl f) (inl g) = one_same fault other (sym f ∙ g)
-one_fault version file root sought fault other (inl f) (inr g) = absurd (some_none (sym f ∙ g.0))
-one_fault version file root sought fault other (inr f) (inl g) = absurd (some_none (sym g ∙ f.0))
+one_fault version file root sought fault other (inl f) (inr g) = absurd (some_none fault (sym f ∙ g.0))
+one_fault version file root sought fault other (inr f) (inl g) = absurd (some_none other (sym g ∙ f.0))
 one_fault version file root sought fault other (inr f) (inr g) =
     one_on_way version file root sought fault other f.1 g.1
 

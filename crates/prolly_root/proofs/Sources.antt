@@ -1,5 +1,5 @@
 -- What a source over the frames of a file finds.
-use Rattle.std.proofs.Common.{◌≡◌, ◌≤◌, ◌<◌, ◌^◌, ◌⊎◌, ℕ, ◌-◌, List, length, Option, Some, None}
+use Rattle.std.proofs.Common.{◌≡◌, ◌≤◌, ◌<◌, ◌^◌, ◌⊎◌, ℕ, ◌-◌, List, length, Some, None}
 use Rattle.std.proofs.Common.{inl}
 use Rattle.std.proofs.Common.{inr, Ok, refl, sym, subst}
 use Rattle.prolly_look_up.specs.Content.{Content, IsFileOf}
@@ -11,16 +11,14 @@ use Rattle.prolly_root.specs.ChunkFile.{frames_fault}
 use Rattle.prolly_root.specs.ChunkFile.{header_or_version_fault, nth_in}
 use Rattle.prolly_root.specs.ChunkSource.{FindsChild}
 use Rattle.prolly_root.specs.RootFault.{OnlyRead}
-use Rattle.prolly_root.specs.Subtree.{FindsNth, HasChunksOf, KeepsLastChild, StandsThere}
-use Rattle.prolly_root.specs.Walk.{HoldsFile, IsBehind, IsNth, StaysSame}
-use Rattle.prolly_root.specs.declared.file.marks.Marks.{Marks}
+use Rattle.prolly_root.specs.Subtree.{FindsNth, KeepsLastChild, StandsThere}
+use Rattle.prolly_root.specs.Walk.{HoldsFile, IsBehind, IsNth}
 use Rattle.prolly_root.specs.declared.file.subtree.Place.{Place}
 use Rattle.prolly_root.specs.declared.file.subtree.Subtree.{Subtree}
 use Rattle.prolly_root.specs.declared.root_fault.RootFault.{RootFault}
 use Rattle.prolly_root.specs.Walk.{NoneBetween}
 use Rattle.prolly_root.specs.lemmas.Levels.{behind_before}
 use Rattle.prolly_root.specs.ChunkFile.{IsLawful, fault_behind}
-use Rattle.prolly_root.proofs.Walking.{holds_chunks_still}
 use Rattle.std.proofs.Common.{zero, suc, Err}
 
 -- ---- what is found

@@ -11,7 +11,6 @@ use Rattle.std.proofs.lemmas.List.{length-take-le, take_more}
 use Rattle.std.proofs.lemmas.Nat.{from_be_bytes-to_be_bytes_8}
 use Rattle.std.proofs.lemmas.List.Elements.{All-from_recursion}
 use Rattle.std.proofs.lemmas.List.Concat.{flat_map-append}
-use Rattle.prolly_look_up.specs.Content.{Content, IsFileOf}
 use Rattle.prolly_look_up.specs.Way.{level_of}
 use Rattle.prolly_entry.specs.lemmas.Lists.{all_back}
 use Rattle.prolly_io.specs.Frame.{framed}
@@ -23,7 +22,7 @@ use Rattle.prolly_root.specs.ChunkFile.{end_fault, fault_at_end, frames_fault}
 use Rattle.prolly_root.specs.ChunkFile.{no_chunk_fault}
 use Rattle.prolly_entry.specs.Overlay.{or_else}
 use Rattle.std.specs.Prelude.{IfErr, IfOk}
-use Rattle.prolly_root.specs.Walk.{GoesOver, HoldsFile, IsFrame, IsStartOf, IsWalk, NoneBetween}
+use Rattle.prolly_root.specs.Walk.{GoesOver, IsFrame, IsStartOf, IsWalk, NoneBetween}
 use Rattle.prolly_root.specs.Walk.{StartsAs, StaysSame, offset_of}
 use Rattle.prolly_root.specs.RootFault.{OnlyRead}
 use Rattle.prolly_root.specs.declared.root_fault.RootFault.{RootFault}

@@ -1,19 +1,14 @@
 -- Going down from the root, from each chunk to the one that it refers to.
 use Rattle.std.specs.List.{AllByRecursion}
-use Rattle.std.specs.Prelude.{◌≡◌, ℕ, List, map, Option, Some}
-use Rattle.prolly_look_up.specs.Content.{chunks_of, Content}
-use Rattle.prolly_look_up.specs.MapTree.{IsTreeOf}
+use Rattle.std.specs.Prelude.{◌≡◌, ℕ, List, map, Some}
 use Rattle.prolly_look_up.specs.HeldPairs.{pairs_held}
 use Rattle.prolly_look_up.specs.Kinds.{kind_of}
 use Rattle.prolly_look_up.specs.PairsFrom.{IsLeft}
 use Rattle.prolly_look_up.specs.Sought.{Sought, EndsAt, IsMark, LeadsOn, sought_of}
 use Rattle.prolly_look_up.specs.Way.{FallsTo, IsNamed, IsWayTo, level_of}
 use Rattle.prolly_look_up.specs.declared.step.Due.{Due}
-use Rattle.prolly_entry.specs.Reference.{reference_of}
 use Rattle.prolly_entry.specs.declared.version.Version.{Version}
-use Rattle.prolly_tree.specs.Tree.{Tree, bytes_of}
 use Rattle.prolly_root.specs.ChunkFile.{ChunkFile, nth_in}
-use Rattle.prolly_root.specs.FileTrees.{IsTreePlace}
 use Rattle.prolly_root.specs.LookUpFault.{Standing, StepsTo}
 use Rattle.prolly_root.specs.declared.look_up.chunk_on_way.ChunkOnWay.{ChunkOnWay}
 use Rattle.prolly_root.specs.declared.look_up.chunk_on_way.Onward.{Onward}
@@ -59,23 +54,6 @@ IsOnward version sought chunk End = EndsAt sought (kind_of version chunk)
 IsOnward version sought chunk (Below due place) =
     LeadsOn sought (kind_of version chunk) due.reference.0 (sought_of due.sought) ×
     (due.above ≡ Some (level_of chunk))
-
--- ---- in a lawful tree
-
--- The chunk with this reference is the top of a tree of the content, and this is its place.
-pub record StandsAt {T : Type 0} (stands_at : ChunkFile → T → ℕ → ℕ → Type 0)
-    (content : Content) (reference : List ℕ) (place : T) : Type 0 where
-  pub level : ℕ
-  pub t : Tree level
-  pub below : IsTreeOf content.version (chunks_of content) level t
-  pub named : reference ≡ reference_of (bytes_of content.version level t)
-  pub stands : IsTreePlace stands_at content level t place
-
--- The chunk of a reference stands in this place, one level below this one.
-pub record StandsBelow {T : Type 0} (stands_at : ChunkFile → T → ℕ → ℕ → Type 0)
-    (content : Content) (reference : List ℕ) (above : Option ℕ) (place : T) : Type 0 where
-  pub at : StandsAt stands_at content reference place
-  pub falls : FallsTo above (bytes_of content.version at.level at.t)
 
 -- ---- in a chunk file of any bytes
 

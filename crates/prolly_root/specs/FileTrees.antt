@@ -4,7 +4,6 @@ use Rattle.std.specs.List.{flat_map}
 use Rattle.prolly_look_up.specs.Content.{chunks_of, Content}
 use Rattle.prolly_entry.specs.Cut.{sha512_cut}
 use Rattle.prolly_entry.specs.declared.version.Version.{Version}
-use Rattle.prolly_root.specs.ChunkFile.{ChunkFile, chunk_file}
 use Rattle.prolly_tree.specs.Chunk.{post_order}
 use Rattle.prolly_tree.specs.Tree.{Tree, tree_of}
 
@@ -42,11 +41,3 @@ pub record IsTreeAt (content : Content) (level : ℕ) (t : Tree level) (number f
     pub are : chunks_of content ≡ before ++ (chunks_of_tree content.version level t ++ left)
     pub from_is : from ≡ length before
     pub number_is : number ≡ length before + length (chunks_below content.version level t)
-
--- The place is that of the top of this tree.
-pub record IsTreePlace {T : Type 0} (stands : ChunkFile → T → ℕ → ℕ → Type 0) (content : Content)
-    (level : ℕ) (t : Tree level) (place : T) : Type 0 where
-  pub number : ℕ
-  pub from : ℕ
-  pub stands_there : stands (chunk_file content) place number from
-  pub at : IsTreeAt content level t number from

@@ -1,19 +1,14 @@
 //! Reading a chunk of which nothing is believed.
-ghost use Rattle.std.specs.Prelude.{◌≡◌, ◌⊎◌, ℕ, IfOk, IfErr, IsOk, OnOk};
-ghost use Rattle.prolly_look_up.specs.Content.{Content};
-ghost use Rattle.prolly_look_up.specs.Way.{FallsTo, IsNamed, IsOrdered};
-ghost use Rattle.prolly_entry.specs.Reference.{reference_of};
+ghost use Rattle.std.specs.Prelude.{◌≡◌, ◌⊎◌, ℕ, IfOk, IfErr, OnOk};
+ghost use Rattle.prolly_look_up.specs.Way.{FallsTo, IsNamed};
 ghost use Rattle.prolly_root.specs.ChunkFile.{ChunkFile, nth_in};
-ghost use Rattle.prolly_root.specs.ChunkSource.{HasAsked, GoesOverTree};
-ghost use Rattle.prolly_root.specs.Descent.{StandsBelow};
+ghost use Rattle.prolly_root.specs.ChunkSource.{HasAsked};
 ghost use Rattle.prolly_root.specs.LookUpFault.{IsFaultOfChunk};
 ghost use Rattle.prolly_root.specs.RootFault.{IsOrFails, MayFail};
-ghost use Rattle.prolly_tree.specs.Tree.{bytes_of};
 
 use crate::chunk_source::ChunkSource;
 use crate::root_fault::RootFault;
 use prolly_entry::{Ref, Version};
-use prolly_look_up::laws::tops_are_read;
 use prolly_look_up::{falls_to, test_chunk};
 use std::alloc::Global;
 
@@ -33,12 +28,6 @@ pub fn tested_chunk<S: ChunkSource>(
     ensures named { IfOk result (λ chunk. IsNamed version reference.now.0 chunk.items) }
     ensures falls { IfOk result (λ chunk. FallsTo above chunk.items) }
 
-    // The chunk of a lawful tree is never refused.
-    ensures lawful { (content : Content) → GoesOverTree S.goes_over source.old content →
-        version ≡ content.version →
-        (due : StandsBelow S.stands content reference.now.0 above place.now) → IsOrFails (λ chunk.
-        chunk.items ≡ bytes_of content.version due.at.level due.at.t) MayFail result }
-
     // Of a file of any bytes it is told what is wrong first with the chunk that stands there.
     ensures tells { (file : ChunkFile) (n from : ℕ) → S.goes_over source.old file →
         S.stands file place.now n from → IsOrFails (λ chunk. chunk.items ≡ nth_in file n)
@@ -46,8 +35,6 @@ pub fn tested_chunk<S: ChunkSource>(
         IsFaultOfChunk version reference.now.0 above (nth_in file n) n fault) result }
     ensures asked { HasAsked S.goes_over S.failures source.old source.new result }
 {
-    // By this law the chunk of a lawful tree can be read.
-    tops_are_read();
     let chunk = source.chunk(alloc, place)?;
     if !chunk.is_named(version, reference) || !falls_to(above, chunk.as_bytes()) {
         test(
@@ -71,8 +58,6 @@ fn test(
 ) -> Result<(), RootFault>
     ensures named { OnOk result (IsNamed version reference.now.0 chunk.now) }
     ensures falls { OnOk result (FallsTo above chunk.now) }
-    ensures fits { reference_of chunk.now ≡ reference.now.0 → IsOrdered version chunk.now →
-        FallsTo above chunk.now → IsOk result }
     ensures fault { IfErr result
         (IsFaultOfChunk version reference.now.0 above chunk.now number) }
     ensures read { IfErr result (λ fault. fault ≡ RootFault.Read → ⊥) }

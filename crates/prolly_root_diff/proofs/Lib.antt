@@ -16,6 +16,16 @@ pub mod Steps
 pub mod Runs
 -- The subtrees that are due below one node.
 pub mod Subtrees
+-- Where the subtrees that are due stand in a chunk file of any bytes.
+pub mod Standing
+-- A walk over two trees, step by step, in two such files.
+pub mod FileSteps
+-- That a walk over the tree of a lawful content has no fault in its chunk file.
+pub mod LawfulWalks
+-- That one fault is the first for a walk over one tree.
+pub mod OneFault
+-- That one fault is the first for a walk over two.
+pub mod OneWalk
 -- What a walk notes, step by step.
 pub mod Noting
 -- What two trees share, and what a walk over them read.

@@ -12,11 +12,13 @@ use Rattle.prolly_tree.specs.Walks.{AreAlike, AreMaps, Maps}
 use Rattle.prolly_tree.specs.lemmas.Walks.{alike_more, alike_none, maps_behind}
 use Rattle.prolly_root_diff.specs.Left.{Due, IsLeft, Left, Opens, OpensFirst, PassBy}
 use Rattle.std.proofs.Common.{arith}
+use Rattle.prolly_root_diff.specs.lemmas.WalkParts.{leads_on}
 use Rattle.prolly_root_diff.proofs.Lists.{left_is}
 use Rattle.prolly_root_diff.specs.ToGo.{to_go, weights}
 use Rattle.prolly_root_diff.proofs.Weights.{weighs}
 use Rattle.prolly_root_diff.specs.Walks.{AreLeft, AreReadable, BeginAlike, Clashing, FoundClash}
-use Rattle.prolly_root_diff.specs.Walks.{GoOn, Leads, Lefts, Move, Moves, Tells, read_on}
+use Rattle.prolly_root_diff.specs.Walks.{GoOn, IsOnward, Leads, Lefts, Move, Moves, Tells, read_on}
+use Rattle.prolly_root_diff.specs.declared.onward.Onward.TheVariants as ways
 use Rattle.prolly_root_diff.proofs.Passing.{passes_equal}
 
 -- ---- clashes
@@ -47,13 +49,6 @@ more_last xs ys zs c = subst (λ l. Clash l zs) (sym (append_assoc xs ys zs))
 
 -- ---- the way of a walk
 
-pub leads_on : (version : Version) (old mid new : Lefts) (way more : List Move) →
-    Leads version old way mid → Leads version mid more new → Leads version old (way ++ more) new
-leads_on version old mid new [] more first then =
-    subst (λ l. Leads version l more new) (sym first) then
-leads_on version old mid new (move ∷ way) more first then =
-    (first.0, first.1, leads_on version first.0 mid new way more first.2 then)
-
 reads_on : (way more : List Move) → read_on (way ++ more) ≡ read_on way ++ read_on more
 reads_on [] more = refl
 reads_on (Move.ReadsOld chunk ∷ way) more = ap (λ cs. chunk ∷ cs) (reads_on way more)
@@ -61,6 +56,7 @@ reads_on (Move.ReadsNew chunk ∷ way) more = ap (λ cs. chunk ∷ cs) (reads_on
 reads_on (Move.PassesBoth ∷ way) more = reads_on way more
 reads_on (Move.TakesOld ∷ way) more = reads_on way more
 reads_on (Move.TakesNew ∷ way) more = reads_on way more
+reads_on (Move.TakesBoth ∷ way) more = reads_on way more
 
 -- a chunk that has a reference and can be read can be read
 pub named_so : (version : Version) (reference chunk : List ℕ) → IsNamed version reference chunk →
@@ -89,6 +85,7 @@ ways_read version old new (Move.PassesBoth ∷ way) lead =
     ways_read version lead.0 new way lead.2
 ways_read version old new (Move.TakesOld ∷ way) lead = ways_read version lead.0 new way lead.2
 ways_read version old new (Move.TakesNew ∷ way) lead = ways_read version lead.0 new way lead.2
+ways_read version old new (Move.TakesBoth ∷ way) lead = ways_read version lead.0 new way lead.2
 
 pub found_clash : (version : Version) (cs ds : List (List ℕ)) (old new : Lefts)
     (way : List Move) → Leads version old way new → Clashing (read_on way) (cs ++ ds) →
@@ -162,11 +159,11 @@ module _ (law : OpensFirst) where
       (subst (IsLeft version cs pairs) o.was left) o.named)
 
   pub opens_before : (version : Version) (old new after : Left) → Opens version old new →
-      (BeginAlike old after → ⊥) →
+      IsOnward old after ways.OpenOld →
       Moves version (record { before = old; after = after }) (record { before = new; after = after })
-  opens_before version old new after o unlike = record {
+  opens_before version old new after o on = record {
     way = Move.ReadsOld o.chunk ∷ [];
-    lead = (record { before = new; after = after }, (o, refl, refl, unlike), refl);
+    lead = (record { before = new; after = after }, (o, refl, refl, on), refl);
     tells = λ cs ds maps m left. go cs ds maps left (opens version old new o cs maps.before left.0);
   }
     where
@@ -182,11 +179,11 @@ module _ (law : OpensFirst) where
           (λ c. in_front c (o.chunk ∷ []) (cs ++ ds)) (λ c. in_front c cs ds) clash)
 
   pub opens_after : (version : Version) (before old new : Left) → Opens version old new →
-      (BeginAlike before old → ⊥) →
+      IsOnward before old ways.OpenNew →
       Moves version (record { before = before; after = old }) (record { before = before; after = new })
-  opens_after version before old new o unlike = record {
+  opens_after version before old new o on = record {
     way = Move.ReadsNew o.chunk ∷ [];
-    lead = (record { before = before; after = new }, (o, refl, refl, unlike), refl);
+    lead = (record { before = before; after = new }, (o, refl, refl, on), refl);
     tells = λ cs ds maps m left. go cs ds maps left (opens version old new o ds maps.after left.1);
   }
     where
@@ -255,6 +252,19 @@ passes version first second due due' same = record {
     go cs ds maps (inr clash) = inr (wider cs ds (cs ++ ds) (cs ++ ds)
         (λ c. in_front c cs ds) (λ c. in_back c cs ds) clash)
 
+pub behind_alike : (before after new_before new_after : Left) → (a : BeginAlike before after) →
+    ((first : Due) (rest : List Due) → before.due ≡ first ∷ rest → new_before.due ≡ rest) →
+    new_before.pairs ≡ before.pairs →
+    ((first : Due) (rest : List Due) → after.due ≡ first ∷ rest → new_after.due ≡ rest) →
+    new_after.pairs ≡ after.pairs → (new_before ≡ record { pairs = []; due = a.due }) ×
+    (new_after ≡ record { pairs = []; due = a.due' })
+behind_alike before after new_before new_after a due pairs due' pairs' = (
+  left_is new_before a.due (pairs ∙ ap (λ l. l.pairs) a.before_is)
+      (due a.first a.due (ap (λ l. l.due) a.before_is)),
+  left_is new_after a.due' (pairs' ∙ ap (λ l. l.pairs) a.after_is)
+      (due' a.second a.due' (ap (λ l. l.due) a.after_is)),
+)
+
 pub pass_moves : (version : Version) (before after new_before new_after : Left) →
     BeginAlike before after →
     ((first : Due) (rest : List Due) → before.due ≡ first ∷ rest → new_before.due ≡ rest) →
@@ -264,11 +274,8 @@ pub pass_moves : (version : Version) (before after new_before new_after : Left) 
     Moves version (record { before = before; after = after })
     (record { before = new_before; after = new_after })
 pass_moves version before after new_before new_after a due pairs due' pairs' =
-    moved before after new_before new_after a.before_is a.after_is
-    (left_is new_before a.due (pairs ∙ ap (λ l. l.pairs) a.before_is)
-    (due a.first a.due (ap (λ l. l.due) a.before_is)))
-    (left_is new_after a.due' (pairs' ∙ ap (λ l. l.pairs) a.after_is)
-    (due' a.second a.due' (ap (λ l. l.due) a.after_is)))
+    let are = behind_alike before after new_before new_after a due pairs due' pairs' in
+    moved before after new_before new_after a.before_is a.after_is are.0 are.1
   where
     moved : (b c d e : Left) → b ≡ record { pairs = []; due = a.first ∷ a.due } →
         c ≡ record { pairs = []; due = a.second ∷ a.due' } →

@@ -10,9 +10,9 @@ use Rattle.prolly_look_up.specs.Kinds.Entries.{Leaf, Node}
 use Rattle.prolly_look_up.specs.Way.{level_of}
 use Rattle.prolly_entry.specs.Reference.{reference_of}
 use Rattle.prolly_entry.specs.declared.version.Version.{Version}
-use Rattle.prolly_root_diff.specs.Left.{Due, Left, Opens, due_of, opened}
+use Rattle.prolly_root_diff.specs.Left.{Due, Left, Opens, due_of, opened, references_in}
 use Rattle.prolly_root_diff.specs.Notes.{AddsNew, AddsOld, AreNoted, LeadTo}
-use Rattle.prolly_root_diff.specs.Notes.{Reads, Step, due_in, read_new, read_old, references_in}
+use Rattle.prolly_root_diff.specs.Notes.{Reads, Step, due_in, read_new, read_old}
 use Rattle.prolly_root_diff.specs.Notes.{said_by, said_of}
 use Rattle.prolly_root_diff.specs.Sides.{dues, left_of}
 use Rattle.prolly_root_diff.specs.Walks.{BeginAlike, Lefts}

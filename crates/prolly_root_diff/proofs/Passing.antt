@@ -10,6 +10,7 @@ use Rattle.prolly_entry.specs.Record.{Record}
 use Rattle.prolly_entry.specs.Reference.{reference_of}
 use Rattle.prolly_entry.specs.lemmas.Orders.{order_self}
 use Rattle.prolly_entry.specs.declared.version.Version.{Version}
+use Rattle.prolly_entry.specs.lemmas.Lists.{head_is, tail_is}
 use Rattle.prolly_laws.specs.Trees.{trees_tell}
 use Rattle.prolly_tree.specs.Chunk.{Collision, post_order}
 use Rattle.prolly_tree.specs.Difference.{IsDifference, IsMap}
@@ -110,17 +111,11 @@ module _ (version : Version) (cs ds : List (List ℕ)) (due due' : List Due) whe
   parts (s ∷ shared) (s' ∷ shared') (t ∷ ts) [] e h k n p = cc
   parts (s ∷ shared) (s' ∷ shared') (t ∷ ts) (u ∷ us) e h k n p =
       join (trees_tell version t.level u.level t.tree u.tree h.0.lawful k.0.lawful one)
-      (parts shared shared' ts us (tails e) h.1 k.1 (tails n) (tails p))
+      (parts shared shared' ts us (tail_is _ _ _ _ e) h.1 k.1 (tail_is _ _ _ _ n) (tail_is _ _ _ _ p))
     where
-      tails : {x y : List ℕ} {xs ys : List (List ℕ)} → x ∷ xs ≡ y ∷ ys → xs ≡ ys
-      tails e = cc
-
-      heads : {x y : List ℕ} {xs ys : List (List ℕ)} → x ∷ xs ≡ y ∷ ys → x ≡ y
-      heads e = cc
-
       one : reference_of (bytes_of version t.level t.tree) ≡
           reference_of (bytes_of version u.level u.tree)
-      one = heads n ∙ heads e ∙ sym (heads p)
+      one = head_is _ _ _ _ n ∙ head_is _ _ _ _ e ∙ sym (head_is _ _ _ _ p)
 
       join : (pairs_below t.level t.tree ≡ pairs_below u.level u.tree) ⊎
           Collision (post_order version t.level t.tree) (post_order version u.level u.tree) →

@@ -12,13 +12,13 @@ use Rattle.prolly_look_up.specs.Way.{Clash, IsNamed}
 use Rattle.prolly_look_up.specs.lemmas.Clashes.{top_or_clash, wider}
 use Rattle.prolly_entry.specs.Reference.{reference_of}
 use Rattle.prolly_entry.specs.declared.version.Version.{Version}
-use Rattle.prolly_entry.specs.lemmas.Lists.{all_append}
+use Rattle.prolly_entry.specs.lemmas.Lists.{all_append, head_is, tail_is}
 use Rattle.prolly_laws.specs.Trees.{top_in}
 use Rattle.prolly_tree.specs.Chunk.{chunk_of, post_order}
 use Rattle.prolly_tree.specs.Tree.{LeveledTree, Tree, bytes_of}
 use Rattle.prolly_tree.specs.lemmas.Trees.{in_back, in_front}
-use Rattle.prolly_root_diff.specs.Left.{tops_of}
-use Rattle.prolly_root_diff.specs.Notes.{LeadTo, Step, read_new, read_old, references_in}
+use Rattle.prolly_root_diff.specs.Left.{tops_of, references_in}
+use Rattle.prolly_root_diff.specs.Notes.{LeadTo, Step, read_new, read_old}
 use Rattle.prolly_root_diff.specs.Walks.{FoundClash}
 use Rattle.prolly_root_diff.proofs.Moving.{named_so}
 use Rattle.prolly_root_diff.proofs.Opening.{children_each, leveled}
@@ -186,15 +186,9 @@ module _ (child_is : (version : Version) → ChildIsTree version)
     below_same level same [] level' (u ∷ us) h k e = cc
     below_same level same (t ∷ ts) level' [] h k e = cc
     below_same level same (t ∷ ts) level' (u ∷ us) h k e =
-        join (same t level' u h.0 k.0 (ap (λ c. c.reference) (heads e)))
-        (below_same level same ts level' us h.1 k.1 (tails e))
+        join (same t level' u h.0 k.0 (ap (λ c. c.reference) (head_is _ _ _ _ e)))
+        (below_same level same ts level' us h.1 k.1 (tail_is _ _ _ _ e))
       where
-        heads : {x y : Child} {xs ys : List Child} → x ∷ xs ≡ y ∷ ys → x ≡ y
-        heads e = cc
-
-        tails : {x y : Child} {xs ys : List Child} → x ∷ xs ≡ y ∷ ys → xs ≡ ys
-        tails e = cc
-
         join : (chunks_in version level t ≡ chunks_in version level' u) ⊎ Clash cs ds →
             (below version level ts ≡ below version level' us) ⊎ Clash cs ds →
             (below version level (t ∷ ts) ≡ below version level' (u ∷ us)) ⊎ Clash cs ds
@@ -270,12 +264,6 @@ module _ (child_is : (version : Version) → ChildIsTree version)
   -- ---- a walk to the end
 
   module _ (cs ds : List (List ℕ)) where
-    tails : {x y : List ℕ} {xs ys : List (List ℕ)} → x ∷ xs ≡ y ∷ ys → xs ≡ ys
-    tails e = cc
-
-    heads : {x y : List ℕ} {xs ys : List (List ℕ)} → x ∷ xs ≡ y ∷ ys → x ≡ y
-    heads e = cc
-
     abbrev Trees : List (List ℕ) → List LeveledTree → Type 0
     Trees all ts = AllByRecursion (λ t. IsTreeOf version all t.level t.tree) ts
 
@@ -291,7 +279,7 @@ module _ (child_is : (version : Version) → ChildIsTree version)
     parted (Step.ReadsOld chunk ∷ steps) old new [] us h k e f lead =
         let none = e ∙ lead.2 in cc
     parted (Step.ReadsOld chunk ∷ steps) old new (t ∷ ts) us h k e f lead =
-        go (opened_one cs t ts h.0 h.1 lead.0 chunk lead.3 (heads (e ∙ lead.2)))
+        go (opened_one cs t ts h.0 h.1 lead.0 chunk lead.3 (head_is _ _ _ _ (e ∙ lead.2)))
         (λ left each tops. parted steps (references_in (kind_of version chunk) ++ lead.1) new left
         us each k tops f lead.4)
       where
@@ -316,11 +304,11 @@ module _ (child_is : (version : Version) → ChildIsTree version)
             Parted version (t ∷ ts) us (Step.ReadsOld chunk ∷ steps) ⊎ FoundClash version cs ds
         go (inr clash) more = inr (first_clash version cs ds lead.0 chunk lead.3 clash)
         go (inl o) more = join o (more o.left o.each (o.tops ∙
-            ap (λ rs. references_in (kind_of version chunk) ++ rs) (tails (e ∙ lead.2))))
+            ap (λ rs. references_in (kind_of version chunk) ++ rs) (tail_is _ _ _ _ (e ∙ lead.2))))
     parted (Step.ReadsNew chunk ∷ steps) old new ts [] h k e f lead =
         let none = f ∙ lead.2 in cc
     parted (Step.ReadsNew chunk ∷ steps) old new ts (u ∷ us) h k e f lead =
-        go (opened_one ds u us k.0 k.1 lead.0 chunk lead.3 (heads (f ∙ lead.2)))
+        go (opened_one ds u us k.0 k.1 lead.0 chunk lead.3 (head_is _ _ _ _ (f ∙ lead.2)))
         (λ left each tops. parted steps old (references_in (kind_of version chunk) ++ lead.1) ts
         left h each e tops lead.4)
       where
@@ -345,15 +333,15 @@ module _ (child_is : (version : Version) → ChildIsTree version)
             Parted version ts (u ∷ us) (Step.ReadsNew chunk ∷ steps) ⊎ FoundClash version cs ds
         go (inr clash) more = inr (second_clash version cs ds lead.0 chunk lead.3 clash)
         go (inl o) more = join o (more o.left o.each (o.tops ∙
-            ap (λ rs. references_in (kind_of version chunk) ++ rs) (tails (f ∙ lead.2))))
+            ap (λ rs. references_in (kind_of version chunk) ++ rs) (tail_is _ _ _ _ (f ∙ lead.2))))
     parted (Step.PassesBoth ∷ steps) old new [] us h k e f lead =
         let none = e ∙ lead.3 in cc
     parted (Step.PassesBoth ∷ steps) old new (t ∷ ts) [] h k e f lead =
         let none = f ∙ lead.4 in cc
     parted (Step.PassesBoth ∷ steps) old new (t ∷ ts) (u ∷ us) h k e f lead =
         join (same_tops cs ds t.level t.tree u.level u.tree h.0 k.0
-        (heads (e ∙ lead.3) ∙ sym (heads (f ∙ lead.4))))
-        (parted steps lead.1 lead.2 ts us h.1 k.1 (tails (e ∙ lead.3)) (tails (f ∙ lead.4)) lead.5)
+        (head_is _ _ _ _ (e ∙ lead.3) ∙ sym (head_is _ _ _ _ (f ∙ lead.4))))
+        (parted steps lead.1 lead.2 ts us h.1 k.1 (tail_is _ _ _ _ (e ∙ lead.3)) (tail_is _ _ _ _ (f ∙ lead.4)) lead.5)
       where
         join : (chunks_in version t.level t.tree ≡ chunks_in version u.level u.tree) ⊎
             Clash cs ds → Parted version ts us steps ⊎ FoundClash version cs ds →

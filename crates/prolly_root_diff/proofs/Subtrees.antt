@@ -1,51 +1,25 @@
 -- The subtrees that are due below one node.
-use Rattle.std.proofs.Common.{◌≡◌, ℕ, zero, suc, ◌-◌, ◌<◌, ◌^◌, inl, inr, List, [], ◌∷◌, ◌++◌}
-use Rattle.std.proofs.Common.{map, length, drop, Option, Some, None, Result, Ok, Err, refl, sym, ap}
-use Rattle.std.proofs.Common.{◌∙◌, subst, arith, append_assoc, option_map}
-use Rattle.std.specs.List.{AllByRecursion, flat_map}
-use Rattle.std.proofs.lemmas.List.{length-append, length-map}
+use Rattle.std.proofs.Common.{◌≡◌, ℕ, zero, suc, ◌<◌, ◌^◌, inl, inr, List, [], ◌∷◌, ◌++◌}
+use Rattle.std.proofs.Common.{map, length, drop, Option, Some, None, refl, sym, ap}
+use Rattle.std.proofs.Common.{◌∙◌, arith, option_map}
+use Rattle.std.specs.List.{flat_map}
 use Rattle.std.proofs.lemmas.Simd.{map-map}
-use Rattle.prolly_entry.specs.Reference.{reference_of}
 use Rattle.prolly_entry.specs.declared.reference.Ref.{Ref}
 use Rattle.prolly_entry.specs.declared.version.Version.{Version}
-use Rattle.prolly_tree.specs.Tree.{Tree, bytes_of}
-use Rattle.prolly_look_up.specs.Content.{chunks_of, Content}
-use Rattle.prolly_look_up.specs.MapTree.{ChildIsTree, IsTreeOf, RootIsTree, TopIsRead, child_of}
-use Rattle.prolly_look_up.specs.Entries.{Child, children_in}
-use Rattle.prolly_look_up.specs.Kinds.{Entries, kind_of}
-use Rattle.prolly_look_up.specs.Kinds.Entries.{Leaf, Node}
+use Rattle.prolly_look_up.specs.Entries.{children_in}
+use Rattle.prolly_look_up.specs.Kinds.{kind_of}
 use Rattle.prolly_look_up.specs.Way.{FallsTo, IsNamed, level_of}
-use Rattle.prolly_root.specs.ChunkFile.{ChunkFile, IsLawful}
-use Rattle.prolly_root.specs.FileTrees.{IsTreePlace, root_level, root_tree}
-use Rattle.prolly_root.specs.lemmas.LawfulFiles.{FindsIn, StaysIn, child_place, node_place}
-use Rattle.prolly_root.specs.Descent.{StandsBelow}
-use Rattle.prolly_root.specs.RootFault.{IsOrFails, OnlyRead}
-use Rattle.prolly_root.specs.declared.root_fault.RootFault.{RootFault}
-use Rattle.prolly_root.specs.lemmas.Places.{level_is, root_stands}
 use Rattle.prolly_root_diff.specs.DueTrees.{ReadsFirst, all_due, due_behind}
 use Rattle.prolly_root_diff.specs.Left.{Due, due_of, opened}
 use Rattle.prolly_root_diff.specs.Notes.{Reads}
 use Rattle.prolly_root_diff.specs.declared.notes.Note.{Note}
-use Rattle.prolly_root_diff.specs.Sides.{AreChildrenOf, AreLastBelow, AreLastChildren, AreOne}
-use Rattle.prolly_root_diff.specs.Sides.{AreSiblingsOf, HaveSame, IsBehindFirst, IsTopThere}
+use Rattle.prolly_root_diff.specs.Sides.{AreChildrenOf, AreOne, HaveSame}
 use Rattle.prolly_root_diff.specs.Sides.{PutBehindFirst, bound_of, due_at, dues, left_of}
 use Rattle.prolly_root_diff.specs.Sides.{level_above}
 use Rattle.prolly_root_diff.specs.declared.side.Side.{Side}
 use Rattle.prolly_root_diff.specs.declared.siblings.Parent.{Parent}
 use Rattle.prolly_root_diff.specs.declared.siblings.Siblings.{Siblings}
 use Rattle.prolly_root_diff.proofs.Lists.{left_is}
-
-heads : {x y : List ℕ} {xs ys : List (List ℕ)} → x ∷ xs ≡ y ∷ ys → x ≡ y
-heads e = cc
-
-tails : {x y : List ℕ} {xs ys : List (List ℕ)} → x ∷ xs ≡ y ∷ ys → xs ≡ ys
-tails e = cc
-
-nothing : {A : Type 0} {x : List ℕ} {xs : List (List ℕ)} → x ∷ xs ≡ [] → A
-nothing e = cc
-
-two_one : {A : Type 0} {x y z : List ℕ} {xs : List (List ℕ)} → x ∷ y ∷ xs ≡ z ∷ [] → A
-two_one e = nothing (tails e)
 
 pub same_level : {T : Type 0} (old new : Option (Parent T)) → AreOne old new →
     option_map (λ p. p.level) new ≡ option_map (λ p. p.level) old
@@ -154,7 +128,7 @@ module _ {T : Type 0} where
       }
 
   -- what is in hand behind it is what the chunk holds
-  pub reads_so : (version : Version) (old new : Side T) (reference chunk : List ℕ) (note : Note) →
+  abbrev pub reads_so : (version : Version) (old new : Side T) (reference chunk : List ℕ) (note : Note) →
       (reads : ReadsFirst version (all_due old.due.items) reference chunk
       (all_due new.due.items)) → note.reference.0 ≡ reference → note.length ≡ length chunk →
       old.leaf ≡ [] →
@@ -201,196 +175,3 @@ pub node_pairs : (version : Version) (chunk : List ℕ) (level : ℕ) (due : Lis
 node_pairs version [] level due high = absurd (omega (arith, high))
 node_pairs version (zero ∷ entries) level due high = absurd (omega (arith, high))
 node_pairs version (suc n ∷ entries) level due high = refl
-
--- ---- in a lawful tree
-
-module _ {T : Type 0} (stands_at : ChunkFile → T → ℕ → ℕ → Type 0)
-    (content : Content) where
-  abbrev Ref_of : (level : ℕ) → Tree level → List ℕ
-  Ref_of level t = reference_of (bytes_of content.version level t)
-
-  one_on : (level : ℕ) (front after : List (Tree level)) (p : Parent T) (r s : List ℕ)
-      (rs : List (List ℕ)) → IsTreeOf content.version (chunks_of content) (suc level) (front ++ after) →
-      IsTreePlace stands_at content (suc level) (front ++ after) p.place → p.level ≡ suc level →
-      p.count ≡ length (front ++ after) → r ∷ s ∷ rs ≡ map (Ref_of level) after →
-      AreLastChildren stands_at content (s ∷ rs) p
-  one_on level front [] p r s rs whole stands high count e = nothing e
-  one_on level front (t ∷ after) p r s rs whole stands high count e =
-      let same : front ++ t ∷ after ≡ (front ++ t ∷ []) ++ after =
-      sym (append_assoc front (t ∷ []) after) in
-      record {
-        level = level;
-        front = front ++ t ∷ [];
-        after = after;
-        whole = subst (IsTreeOf content.version (chunks_of content) (suc level)) same whole;
-        stands = subst (λ ts. IsTreePlace stands_at content (suc level) ts p.place) same stands;
-        level_is = high;
-        count = count ∙ ap length same;
-        are = tails e;
-      }
-
-  behind_one : (parent : Option (Parent T)) (r s : List ℕ) (rs : List (List ℕ)) →
-      AreLastBelow stands_at content (r ∷ s ∷ rs) parent →
-      AreLastBelow stands_at content (s ∷ rs) parent
-  behind_one None r s rs h = two_one h
-  behind_one (Some p) r s rs a = one_on a.level a.front a.after p r s rs a.whole a.stands a.level_is
-      a.count a.are
-
-  -- behind the next one the others are lawful
-  still : (old new : Siblings T) → IsBehindFirst old new → AreSiblingsOf stands_at content old →
-      AreSiblingsOf stands_at content new
-  still old new b h =
-      let refs : map (λ r. r.0) old.behind.items ≡ new.next.0 ∷ map (λ r. r.0) new.behind.items =
-      ap (map (λ r. r.0)) b.are in
-      subst (AreLastBelow stands_at content (new.next.0 ∷ map (λ r. r.0) new.behind.items))
-      (sym b.parent) (behind_one old.parent old.next.0 new.next.0 (map (λ r. r.0) new.behind.items)
-      (subst (λ rs. AreLastBelow stands_at content (old.next.0 ∷ rs) old.parent) refs h))
-
-  pub put_lawful : (first : Siblings T) (others all : List (Siblings T)) →
-      PutBehindFirst first others all → AreSiblingsOf stands_at content first →
-      AllByRecursion (AreSiblingsOf stands_at content) others →
-      AllByRecursion (AreSiblingsOf stands_at content) all
-  put_lawful first others all (inl none) h k =
-      subst (AllByRecursion (AreSiblingsOf stands_at content)) (sym none.1) k
-  put_lawful first others all (inr some) h k =
-      subst (AllByRecursion (AreSiblingsOf stands_at content)) (sym some.2)
-      (still first some.0 some.1 h, k)
-
-  -- ---- finding the next one
-
-  pub root_found : (r : List ℕ) (rs : List (List ℕ)) →
-      AreLastBelow stands_at content (r ∷ rs) None → RootIsTree → IsLawful content →
-      (found : Result T RootFault) → IsOrFails
-      (IsTreePlace stands_at content (root_level content) (root_tree content)) OnlyRead found →
-      IsOrFails (StandsBelow stands_at content r None) OnlyRead found
-  root_found r rs e trees lawful (Ok place) stands = record {
-    at = root_stands stands_at content r place trees lawful (heads e) stands;
-    falls = tt;
-  }
-  root_found r rs e trees lawful (Err fault) only = only
-
-  abbrev pub FoundSo : Parent T → List ℕ → List (List ℕ) → T → Result T RootFault → Type 0
-  FoundSo p r rs new found = AreLastChildren stands_at content (r ∷ rs)
-      (record { place = new; level = p.level; count = p.count }) ×
-      IsOrFails (StandsBelow stands_at content r (Some p.level)) OnlyRead found
-
-  at_child : ((version : Version) → ChildIsTree version) → (level : ℕ)
-      (front after : List (Tree level)) (p : Parent T) (r : List ℕ) (rs : List (List ℕ)) →
-      IsTreeOf content.version (chunks_of content) (suc level) (front ++ after) →
-      IsTreePlace stands_at content (suc level) (front ++ after) p.place → p.level ≡ suc level →
-      p.count ≡ length (front ++ after) → r ∷ rs ≡ map (Ref_of level) after →
-      (number : ℕ) → number ≡ p.count - length rs - 1 → (new : T) (found : Result T RootFault) →
-      StaysIn stands_at content level p.place new →
-      FindsIn stands_at content level number p.place found → FoundSo p r rs new found
-  at_child child_tree level front [] p r rs whole stands high count e number is new found stays
-      finds = nothing e
-  at_child child_tree level front (t ∷ after) p r rs whole stands high count e number is new found
-      stays finds = (
-        record {
-          level = level;
-          front = front;
-          after = t ∷ after;
-          whole = whole;
-          stands = node_place stands_at content stays stands;
-          level_is = high;
-          count = count;
-          are = e;
-        },
-        lands found (child_place stands_at content found finds stands (record {
-          front = front;
-          after = after;
-          are = refl;
-          number_is = omega (
-            arith,
-            is,
-            count,
-            length-append front (t ∷ after),
-            ap length (tails e),
-            length-map after (Ref_of level),
-          );
-        })),
-      )
-    where
-      lands : (found : Result T RootFault) →
-          IsOrFails (IsTreePlace stands_at content level t) OnlyRead found →
-          IsOrFails (StandsBelow stands_at content r (Some p.level)) OnlyRead found
-      lands (Ok place) at = record {
-        at = record {
-          level = level;
-          t = t;
-          below = child_tree content.version (chunks_of content) level front after t whole;
-          named = heads e;
-          stands = at;
-        };
-        falls = high ∙ ap suc (sym (level_is content.version level t));
-      }
-      lands (Err fault) only = only
-
-  pub child_found : ((version : Version) → ChildIsTree version) → (p : Parent T) (r : List ℕ)
-      (rs : List (List ℕ)) → AreLastChildren stands_at content (r ∷ rs) p → (l number : ℕ) →
-      l ≡ p.level - 1 → number ≡ p.count - length rs - 1 → (new : T) (found : Result T RootFault) →
-      StaysIn stands_at content l p.place new → FindsIn stands_at content l number p.place found →
-      FoundSo p r rs new found
-  child_found child_tree p r rs a l number lower is new found stays finds =
-      let e : l ≡ a.level = omega (arith, lower, a.level_is) in
-      at_child child_tree a.level a.front a.after p r rs a.whole a.stands a.level_is a.count a.are
-      number is new found (subst (λ l. StaysIn stands_at content l p.place new) e stays)
-      (subst (λ l. FindsIn stands_at content l number p.place found) e finds)
-
-  -- ---- the children of a node
-
-  abbrev kids : Entries → List Child
-  kids (Leaf pairs) = []
-  kids (Node children) = children
-
-  below_top : ((version : Version) → TopIsRead version) → (level : ℕ) (t : Tree level)
-      (chunk : List ℕ) (place : T) (s : Siblings T) →
-      IsTreeOf content.version (chunks_of content) level t →
-      IsTreePlace stands_at content level t place →
-      chunk ≡ bytes_of content.version level t → 0 < level_of chunk →
-      AreChildrenOf content.version chunk place s → AreSiblingsOf stands_at content s
-  below_top read zero leaf chunk place s below stands is high c =
-      absurd (omega (arith, high, ap level_of is, level_is content.version 0 leaf))
-  below_top read (suc level) ts chunk place s below stands is high c =
-      let are : children_in content.version (drop 1 chunk) ≡ map (child_of content.version level) ts =
-      ap (λ bytes. children_in content.version (drop 1 bytes)) is ∙
-      ap kids (read content.version (chunks_of content) (suc level) ts below).1 in
-      subst (AreLastBelow stands_at content (s.next.0 ∷ map (λ r. r.0) s.behind.items))
-      (sym c.above)
-      (record {
-        level = level;
-        front = [];
-        after = ts;
-        whole = below;
-        stands = subst (IsTreePlace stands_at content (suc level) ts) (sym c.stands) stands;
-        level_is = c.level ∙ ap level_of is ∙ level_is content.version (suc level) ts;
-        count = c.count ∙ ap length are ∙ length-map ts (child_of content.version level);
-        are = c.references ∙ ap (map (λ c. c.reference)) are ∙
-            map-map (λ c. c.reference) (child_of content.version level) ts;
-      })
-
-  pub children_lawful : ((version : Version) → TopIsRead version) → (version : Version) →
-      version ≡ content.version → (reference chunk : List ℕ) (place : T) (s : Siblings T) →
-      IsTopThere stands_at content reference (chunk, place) → 0 < level_of chunk →
-      AreChildrenOf version chunk place s → AreSiblingsOf stands_at content s
-  children_lawful read version same reference chunk place s there high c =
-      below_top read there.at.level there.at.t chunk place s there.at.below there.at.stands there.is
-      high (subst (λ v. AreChildrenOf v chunk place s) same c)
-
-  -- ---- the chunk that was read
-
-  -- the chunk of a reference stands where that of the same reference does, and as deep
-  abbrev pub stands_below : (r s : List ℕ) (place : T) → r ≡ s → (above over : Option ℕ) →
-      above ≡ over → StandsBelow stands_at content s over place →
-      StandsBelow stands_at content r above place
-  stands_below r s place same above over level due = record {
-    at = record {
-      level = due.at.level;
-      t = due.at.t;
-      below = due.at.below;
-      named = same ∙ due.at.named;
-      stands = due.at.stands;
-    };
-    falls = subst (λ a. FallsTo a (bytes_of content.version due.at.level due.at.t)) (sym level)
-        due.falls;
-  }

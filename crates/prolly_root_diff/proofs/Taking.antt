@@ -1,5 +1,5 @@
 -- Taking the pairs in hand of the least key, and what that tells of the maps.
-use Rattle.std.proofs.Common.{◌≡◌, ◌≢◌, ℕ, ◌<◌, inl, List, [], ◌∷◌, ◌++◌, map}
+use Rattle.std.proofs.Common.{◌≡◌, ◌≢◌, ℕ, ◌<◌, ◌⊎◌, inl, inr, List, [], ◌∷◌, ◌++◌, map}
 use Rattle.std.proofs.Common.{Option, None, Some, refl, sym, ap, ◌∙◌, subst, length}
 use Rattle.std.proofs.Common.{arith}
 use Rattle.prolly_entry.specs.Pair.{Pair}
@@ -12,9 +12,11 @@ use Rattle.prolly_tree.specs.lemmas.Walks.{added, alike_more, alike_one, changed
 use Rattle.prolly_tree.specs.lemmas.Walks.{removed}
 use Rattle.prolly_root_diff.specs.Left.{IsLeft, Left, pairs_of, tops_of}
 use Rattle.prolly_root_diff.specs.Walks.{AreLeft, Changes, Ends, FirstChange}
-use Rattle.prolly_root_diff.specs.Walks.{GoOn, IsReady, Leads, Lefts, Move, Moves, Takes}
+use Rattle.prolly_root_diff.specs.Walks.{GoOn, IsOnward, IsReady, Leads, Lefts, Move, Moves, Takes}
 use Rattle.prolly_root_diff.specs.Walks.{TakesFirst, Tells}
-use Rattle.prolly_root_diff.proofs.Moving.{leads_on, told}
+use Rattle.prolly_root_diff.specs.declared.onward.Onward.TheVariants as ways
+use Rattle.prolly_root_diff.specs.lemmas.WalkParts.{leads_on}
+use Rattle.prolly_root_diff.proofs.Moving.{told}
 use Rattle.prolly_root_diff.specs.ToGo.{to_go, weights}
 
 -- ---- in the map
@@ -115,11 +117,12 @@ module _ (version : Version) (start old new : Lefts) (moves : Moves version star
       inl (least_there version old new ready cs ds maps m left r s t some)
 
   pub removes : (p : Pair) → TakesFirst old (Some p) None new →
+      IsOnward old.before old.after ways.Removed →
       Changes version start p.key (Some p.value) None new
-  removes p t = record {
+  removes p t on = record {
     way = moves.way ++ Move.TakesOld ∷ [];
     lead = leads_on version start old new moves.way (Move.TakesOld ∷ []) moves.lead
-        (new, (p, t.0, t.1), refl);
+        (new, (p, t.0, t.1, on), refl);
     tells = told version start old moves (Move.TakesOld ∷ [])
         (λ cs ds maps. LeastThere version cs ds maps (Some p) None new)
         (λ cs ds maps. FirstChange version cs ds maps p.key (Some p.value) None new)
@@ -131,11 +134,12 @@ module _ (version : Version) (start old new : Lefts) (moves : Moves version star
   }
 
   pub adds : (q : Pair) → TakesFirst old None (Some q) new →
+      IsOnward old.before old.after ways.Added →
       Changes version start q.key None (Some q.value) new
-  adds q t = record {
+  adds q t on = record {
     way = moves.way ++ Move.TakesNew ∷ [];
     lead = leads_on version start old new moves.way (Move.TakesNew ∷ []) moves.lead
-        (new, (q, t.0, t.1), refl);
+        (new, (q, t.0, t.1, on), refl);
     tells = told version start old moves (Move.TakesNew ∷ [])
         (λ cs ds maps. LeastThere version cs ds maps None (Some q) new)
         (λ cs ds maps. FirstChange version cs ds maps q.key None (Some q.value) new)
@@ -147,20 +151,18 @@ module _ (version : Version) (start old new : Lefts) (moves : Moves version star
   }
 
   takes_both : (p q : Pair) → TakesFirst old (Some p) (Some q) new →
-      Leads version start (moves.way ++ Move.TakesOld ∷ Move.TakesNew ∷ []) new
-  takes_both p q t =
-      leads_on version start old new moves.way (Move.TakesOld ∷ Move.TakesNew ∷ []) moves.lead (
-        record { before = new.before; after = old.after },
-        (p, t.0, refl),
-        (new, (q, t.1, refl), refl),
-      )
+      IsOnward old.before old.after ways.Skip ⊎ IsOnward old.before old.after ways.Changed →
+      Leads version start (moves.way ++ Move.TakesBoth ∷ []) new
+  takes_both p q t on = leads_on version start old new moves.way (Move.TakesBoth ∷ []) moves.lead
+      (new, (p, q, t.0, t.1, on), refl)
 
   pub changes : (p q : Pair) → TakesFirst old (Some p) (Some q) new → p.value ≢ q.value →
+      IsOnward old.before old.after ways.Changed →
       Changes version start q.key (Some p.value) (Some q.value) new
-  changes p q t differ = record {
-    way = moves.way ++ Move.TakesOld ∷ Move.TakesNew ∷ [];
-    lead = takes_both p q t;
-    tells = told version start old moves (Move.TakesOld ∷ Move.TakesNew ∷ [])
+  changes p q t differ on = record {
+    way = moves.way ++ Move.TakesBoth ∷ [];
+    lead = takes_both p q t (inr on);
+    tells = told version start old moves (Move.TakesBoth ∷ [])
         (λ cs ds maps. LeastThere version cs ds maps (Some p) (Some q) new)
         (λ cs ds maps. FirstChange version cs ds maps q.key (Some p.value) (Some q.value) new)
         (λ cs ds maps mid m alike l. record {
@@ -171,11 +173,11 @@ module _ (version : Version) (start old new : Lefts) (moves : Moves version star
   }
 
   pub keeps : (p q : Pair) → TakesFirst old (Some p) (Some q) new → p.value ≡ q.value →
-      Moves version start new
-  keeps p q t same = record {
-    way = moves.way ++ Move.TakesOld ∷ Move.TakesNew ∷ [];
-    lead = takes_both p q t;
-    tells = told version start old moves (Move.TakesOld ∷ Move.TakesNew ∷ [])
+      IsOnward old.before old.after ways.Skip → Moves version start new
+  keeps p q t same on = record {
+    way = moves.way ++ Move.TakesBoth ∷ [];
+    lead = takes_both p q t (inl on);
+    tells = told version start old moves (Move.TakesBoth ∷ [])
         (λ cs ds maps. LeastThere version cs ds maps (Some p) (Some q) new)
         (λ cs ds maps. GoOn version cs ds maps new)
         (λ cs ds maps mid m alike l. record {

@@ -1,14 +1,13 @@
 -- What is due of a tree, step by step.
 use Rattle.std.specs.Prelude.{◌≡◌, ℕ, ◌^◌, ◌<◌, List, [], ◌∷◌, length, None}
-use Rattle.std.specs.List.{AllByRecursion, flat_map}
-use Rattle.prolly_look_up.specs.Content.{Content}
+use Rattle.std.specs.List.{flat_map}
 use Rattle.prolly_look_up.specs.Kinds.{kind_of}
 use Rattle.prolly_look_up.specs.Way.{IsNamed, level_of}
 use Rattle.prolly_entry.specs.declared.version.Version.{Version}
 use Rattle.prolly_root_diff.specs.Left.{Due, opened}
-use Rattle.prolly_root_diff.specs.Sides.{AreSiblingsOf, dues}
+use Rattle.prolly_root_diff.specs.Sides.{dues}
+use Rattle.prolly_root_diff.specs.declared.side.Side.{Side}
 use Rattle.prolly_root_diff.specs.declared.siblings.Siblings.{Siblings}
-use Rattle.prolly_root.specs.ChunkFile.{ChunkFile}
 
 -- The whole tree with this root is due, and nothing of it was read yet.
 pub record IsWholeTree {T : Type 0} (root : List ℕ) (due : List (Siblings T)) : Type 0 where
@@ -18,14 +17,14 @@ pub record IsWholeTree {T : Type 0} (root : List ℕ) (due : List (Siblings T)) 
   pub alone : whole.behind.items ≡ []
   pub top : whole.parent ≡ None
 
+-- Nothing was read of the tree with this root.
+pub record IsAtRoot {T : Type 0} (root : List ℕ) (side : Side T) : Type 0 where
+  pub none : side.leaf ≡ []
+  pub at : IsWholeTree root side.due.items
+
 -- All that is due.
 abbrev pub all_due : {T : Type 0} → List (Siblings T) → List Due
 all_due due = flat_map dues due
-
--- All of it is of the content's tree, and stands where it is said.
-abbrev pub AreDueIn : {T : Type 0} → (stands_at : ChunkFile → T → ℕ → ℕ → Type 0) →
-    Content → List (Siblings T) → Type 0
-AreDueIn stands_at content due = AllByRecursion (AreSiblingsOf stands_at content) due
 
 -- What is due where a chunk is taken in the place of the first subtree: the children of a node are
 -- due before the others.

@@ -1,19 +1,21 @@
 -- What a walk over the leaves of a tree keeps, and what it gives.
-use Rattle.std.specs.Prelude.{◌≡◌, ℕ, ◌<◌, List, [], length, Option, Some, None}
+use Rattle.std.specs.Prelude.{◌≡◌, ℕ, ◌<◌, List, [], length, Option, Some, None, Result}
 use Rattle.std.specs.declared.alloc.Global.{Global}
 use Rattle.std.specs.declared.collections.VecDeque.{VecDeque}
-use Rattle.prolly_look_up.specs.Content.{Content}
 use Rattle.prolly_look_up.specs.Entries.{IsWhole}
 use Rattle.prolly_look_up.specs.HeldPairs.{pairs_held}
 use Rattle.prolly_entry.specs.Reference.{reference_of}
 use Rattle.prolly_entry.specs.declared.version.Version.{Version}
 use Rattle.prolly_root.specs.declared.root_fault.RootFault.{RootFault}
-use Rattle.prolly_root_diff.specs.DueTrees.{AreDueIn, IsWholeTree, all_due}
+use Rattle.prolly_root_diff.specs.DueTrees.{IsWholeTree, all_due}
+use Rattle.prolly_root_diff.specs.FirstFault.{DueAt, MayStopBehind, ReadsOn}
 use Rattle.prolly_root_diff.specs.Left.{Due, left_of_root}
 use Rattle.prolly_root_diff.specs.Leaves.{GivesLeaf, LeavesEnd}
 use Rattle.prolly_root_diff.specs.declared.root_leaves.LeafRead.{LeafRead}
 use Rattle.prolly_root_diff.specs.declared.siblings.Siblings.{Siblings}
+use Rattle.prolly_root_diff.specs.Places.{AllStand}
 use Rattle.prolly_root.specs.ChunkFile.{ChunkFile}
+use Rattle.prolly_root.specs.RootFault.{IsOrFails}
 
 -- A walk over the leaves: the version of the tree's chunks, the subtrees that are due, and the fault
 -- that stopped it.
@@ -34,11 +36,6 @@ pub record IsLeafWalk {T : Type 0} (version : Version) (root : List ℕ) (walk :
     pub due : due_of_walk walk ≡ (left_of_root root).due
     pub goes : walk.fault ≡ None
 
--- All that is due is of the content's tree, and stands where it is said.
-abbrev pub WalksIn : {T : Type 0} → (stands_at : ChunkFile → T → ℕ → ℕ → Type 0) →
-    Content → LeafWalk T → Type 0
-WalksIn stands_at content walk = AreDueIn stands_at content walk.due.items
-
 -- The chunk is a leaf that has pairs, and has the reference.
 pub record IsLeafRead (version : Version) (leaf : LeafRead) : Type 0 where
   pub whole : IsWhole version leaf.chunk.items
@@ -50,3 +47,11 @@ abbrev pub GivesNext : Version → List Due → Option LeafRead → List Due →
 GivesNext version old None new = LeavesEnd version old × (new ≡ [])
 GivesNext version old (Some leaf) new = IsLeafRead version leaf ×
     GivesLeaf version old (pairs_held leaf.chunk.items) new
+
+-- What a call of a walk over the leaves tells of a file: it read on to where the subtrees stand that
+-- are due now, or it stopped.
+abbrev pub TellsLeaf : {T : Type 0} → (ChunkFile → T → ℕ → ℕ → Type 0) → Version → ChunkFile →
+    List DueAt → List (Siblings T) → Result (Option LeafRead) RootFault → Type 0
+TellsLeaf stands version file old due result = IsOrFails (λ leaf. (new : List DueAt) ×
+    ReadsOn version file old new × AllStand stands file due new) (MayStopBehind version file old)
+    result

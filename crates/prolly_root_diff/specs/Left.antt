@@ -55,6 +55,11 @@ pub record IsLeft (version : Version) (chunks : List (List ℕ)) (pairs : List P
 abbrev pub left_of_root : List ℕ → Left
 left_of_root root = record { pairs = []; due = record { reference = root; bound = 256 } ∷ [] }
 
+-- The references of the children of a node. A leaf has none.
+abbrev pub references_in : Entries → List (List ℕ)
+references_in (Leaf pairs) = []
+references_in (Node children) = map (λ c. c.reference) children
+
 -- The subtrees of a node's children are due.
 abbrev pub due_of : ℕ → List Child → List Due
 due_of level children = map (λ c. record { reference = c.reference; bound = level }) children

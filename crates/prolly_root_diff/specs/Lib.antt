@@ -4,6 +4,12 @@ pub mod Left
 pub mod Sides
 -- How a walk over two trees goes on, and what it gives.
 pub mod Walks
+-- What is wrong first with a chunk file of any bytes for a walk over its tree.
+pub mod FirstFault
+-- Where the subtrees that are due stand in such a file.
+pub mod Places
+-- A walk over the trees of two such files, and what is wrong first with them for it.
+pub mod FileWalks
 -- What a walk notes of the chunks that it reads, and what that says of the trees.
 pub mod Notes
 -- How far a walk has to go yet.

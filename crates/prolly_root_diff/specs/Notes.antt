@@ -4,8 +4,7 @@ use Rattle.std.specs.List.{AllByRecursion, filter, list_any, sum_by}
 use Rattle.std.specs.Prelude.{◌⊎◌, Bool}
 use Rattle.std.specs.Str.{bytes_eq}
 use Rattle.prolly_look_up.specs.Content.{chunk_bytes}
-use Rattle.prolly_look_up.specs.Kinds.{Entries, kind_of}
-use Rattle.prolly_look_up.specs.Kinds.Entries.{Leaf, Node}
+use Rattle.prolly_look_up.specs.Kinds.{kind_of}
 use Rattle.prolly_chunk.specs.Missing.{AreSo, lacking}
 use Rattle.prolly_look_up.specs.Way.{IsNamed}
 use Rattle.prolly_chunk.specs.declared.missing.Missing.{Missing}
@@ -16,7 +15,7 @@ use Rattle.prolly_entry.specs.declared.reference.Ref.{Ref}
 use Rattle.prolly_entry.specs.declared.version.Version.{Version}
 use Rattle.prolly_tree.specs.Difference.{IsMap}
 use Rattle.prolly_tree.specs.File.{root_reference}
-use Rattle.prolly_root_diff.specs.Left.{Left, Opens}
+use Rattle.prolly_root_diff.specs.Left.{Left, Opens, references_in}
 use Rattle.prolly_root_diff.specs.Walks.{FoundClash, IsAtEnd, Lefts, at_roots}
 use Rattle.prolly_root_diff.specs.declared.notes.Note.{Note}
 use Rattle.prolly_root_diff.specs.declared.notes.Notes.{Notes}
@@ -29,11 +28,6 @@ pub data Step : Type 0 where
   ReadsOld : List ℕ → Step
   ReadsNew : List ℕ → Step
   PassesBoth : Step
-
--- The references of the children of a node. A leaf has none.
-abbrev pub references_in : Entries → List (List ℕ)
-references_in (Leaf pairs) = []
-references_in (Node children) = map (λ c. c.reference) children
 
 -- The references of the subtrees that are due.
 abbrev pub due_in : Left → List (List ℕ)

@@ -1,24 +1,15 @@
 -- What a walk keeps of one tree.
-use Rattle.std.specs.Prelude.{◌≡◌, ℕ, suc, ◌⊎◌, List, [], ◌∷◌, ◌++◌, map, length, drop, Option}
+use Rattle.std.specs.Prelude.{◌≡◌, ℕ, ◌⊎◌, List, [], ◌∷◌, map, length, drop, Option}
 use Rattle.std.specs.Prelude.{Some, None, option_map}
-use Rattle.std.specs.List.{AllByRecursion, flat_map}
-use Rattle.prolly_look_up.specs.Content.{chunks_of, Content}
-use Rattle.prolly_look_up.specs.MapTree.{IsTreeOf}
+use Rattle.std.specs.List.{flat_map}
 use Rattle.prolly_look_up.specs.Entries.{children_in}
 use Rattle.prolly_look_up.specs.Way.{level_of}
-use Rattle.prolly_entry.specs.Cut.{sha512_cut}
-use Rattle.prolly_entry.specs.Reference.{reference_of}
 use Rattle.prolly_entry.specs.declared.reference.Ref.{Ref}
 use Rattle.prolly_entry.specs.declared.version.Version.{Version}
-use Rattle.prolly_root.specs.Descent.{StandsAt}
-use Rattle.prolly_tree.specs.File.{root_reference}
-use Rattle.prolly_tree.specs.Tree.{Tree, bytes_of}
 use Rattle.prolly_root_diff.specs.Left.{Due, Left}
 use Rattle.prolly_root_diff.specs.declared.side.Side.{Side}
 use Rattle.prolly_root_diff.specs.declared.siblings.Parent.{Parent}
 use Rattle.prolly_root_diff.specs.declared.siblings.Siblings.{Siblings}
-use Rattle.prolly_root.specs.ChunkFile.{ChunkFile}
-use Rattle.prolly_root.specs.FileTrees.{IsTreePlace}
 
 -- ---- what is left
 
@@ -44,15 +35,6 @@ dues siblings = due_at (bound_of siblings.parent) siblings.next ∷
 -- What is left of the tree.
 abbrev pub left_of : {T : Type 0} → Side T → Left
 left_of side = record { pairs = side.leaf; due = flat_map dues side.due.items }
-
--- Nothing was read of the tree with this root.
-pub record IsAtRoot {T : Type 0} (root : List ℕ) (side : Side T) : Type 0 where
-  pub whole : Siblings T
-  pub none : side.leaf ≡ []
-  pub one : side.due.items ≡ whole ∷ []
-  pub next : whole.next.0 ≡ root
-  pub alone : whole.behind.items ≡ []
-  pub top : whole.parent ≡ None
 
 -- The one is left of the other behind its first subtree.
 pub record IsBehindFirst {T : Type 0} (old new : Siblings T) : Type 0 where
@@ -97,44 +79,3 @@ pub record HaveSame {T : Type 0} (old new : Siblings T) : Type 0 where
   pub next : new.next ≡ old.next
   pub behind : new.behind ≡ old.behind
   pub above : AreOne old.parent new.parent
-
--- ---- in a lawful tree
-
--- The references are those of the last children of a node of the content, which stands there.
-pub record AreLastChildren {T : Type 0}
-    (stands_at : ChunkFile → T → ℕ → ℕ → Type 0) (content : Content)
-    (references : List (List ℕ)) (parent : Parent T) : Type 0 where
-  pub level : ℕ
-  pub front : List (Tree level)
-  pub after : List (Tree level)
-  pub whole : IsTreeOf content.version (chunks_of content) (suc level) (front ++ after)
-  pub stands : IsTreePlace stands_at content (suc level) (front ++ after) parent.place
-  pub level_is : parent.level ≡ suc level
-  pub count : parent.count ≡ length (front ++ after)
-  pub are : references ≡ map (λ t. reference_of (bytes_of content.version level t)) after
-
--- They are; or the only one is that of the root.
-abbrev pub AreLastBelow : {T : Type 0} →
-    (stands_at : ChunkFile → T → ℕ → ℕ → Type 0) → Content → List (List ℕ) →
-    Option (Parent T) → Type 0
-AreLastBelow stands_at content references None = references ≡
-    root_reference (sha512_cut content.bits) content.version content.pairs ∷ []
-AreLastBelow stands_at content references (Some parent) =
-    AreLastChildren stands_at content references parent
-
--- The subtrees are those of the content, and stand where it is said.
-abbrev pub AreSiblingsOf : {T : Type 0} →
-    (stands_at : ChunkFile → T → ℕ → ℕ → Type 0) → Content → Siblings T → Type 0
-AreSiblingsOf stands_at content siblings = AreLastBelow stands_at content
-    (siblings.next.0 ∷ map (λ r. r.0) siblings.behind.items) siblings.parent
-
--- So are all that are due.
-abbrev pub IsSideOf : {T : Type 0} →
-    (stands_at : ChunkFile → T → ℕ → ℕ → Type 0) → Content → Side T → Type 0
-IsSideOf stands_at content side = AllByRecursion (AreSiblingsOf stands_at content) side.due.items
-
--- The chunk is the top of a tree of the content, and stands there.
-pub record IsTopThere {T : Type 0} (stands_at : ChunkFile → T → ℕ → ℕ → Type 0)
-    (content : Content) (reference : List ℕ) (read : List ℕ × T) : Type 0 where
-  pub at : StandsAt stands_at content reference read.1
-  pub is : read.0 ≡ bytes_of content.version at.level at.t

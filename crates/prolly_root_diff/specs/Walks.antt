@@ -1,7 +1,7 @@
 -- A walk over two trees by their references.
 use Rattle.std.specs.Prelude.{◌≡◌, ℕ, ◌⊎◌, List, [], ◌∷◌, ◌++◌, Option, Some, None}
-use Rattle.std.specs.Prelude.{Bool, false, Result, Ok, Err}
-use Rattle.std.specs.Prelude.{◌<◌, ◌≢◌, length}
+use Rattle.std.specs.Prelude.{Bool, false}
+use Rattle.std.specs.Prelude.{◌<◌, ◌≤◌, ◌≢◌, length}
 use Rattle.prolly_entry.specs.Keys.{KeyBelow}
 use Rattle.prolly_entry.specs.Pair.{Pair, IsPair}
 use Rattle.prolly_entry.specs.declared.version.Version.{Version}
@@ -12,18 +12,13 @@ use Rattle.std.specs.List.{AllByRecursion}
 use Rattle.prolly_entry.specs.Cut.{sha512_cut}
 use Rattle.prolly_entry.specs.Record.{Record}
 use Rattle.prolly_entry.specs.Reference.{reference_of}
-use Rattle.prolly_look_up.specs.Content.{chunk_bytes, Content}
+use Rattle.prolly_look_up.specs.Content.{chunk_bytes}
 use Rattle.prolly_look_up.specs.Way.{Clash, IsNamed}
 use Rattle.prolly_tree.specs.Walks.{AreAlike, AreMaps, IsFirstChange, Maps}
 use Rattle.prolly_tree.specs.lemmas.Maps.{FirstAbove}
-use Rattle.prolly_root.specs.ChunkFile.{ChunkFile}
-use Rattle.prolly_root.specs.ChunkSource.{GoesOverStill, GoesOverTree}
-use Rattle.prolly_root.specs.RootFault.{MayFail, TellsFailure}
-use Rattle.prolly_root.specs.declared.root_fault.RootFault.{RootFault}
 use Rattle.prolly_root_diff.specs.Left.{Due, IsLeft, Left, Opens, left_of_root}
-use Rattle.prolly_root_diff.specs.Sides.{IsAtRoot, IsSideOf, left_of}
-use Rattle.prolly_root_diff.specs.declared.fault.RootDiffFault.{RootDiffFault}
-use Rattle.prolly_root_diff.specs.declared.fault.RootDiffFault.TheVariants as faults
+use Rattle.prolly_root_diff.specs.DueTrees.{IsAtRoot}
+use Rattle.prolly_root_diff.specs.Sides.{left_of}
 use Rattle.prolly_root_diff.specs.declared.notes.Notes.{Notes}
 use Rattle.prolly_root_diff.specs.declared.side.Side.{Side}
 use Rattle.prolly_root_diff.specs.declared.change.RootChange.{RootChange}
@@ -70,7 +65,7 @@ pub record GoOn (version : Version) (cs ds : List (List ℕ)) (maps : Maps) (lef
     pub alike : AreAlike maps rest
     pub left : AreLeft version cs ds rest lefts
 
--- ---- the way of a walk
+-- ---- how a walk goes on
 
 -- Nothing is in hand, and the first subtrees that are due have one reference.
 pub record BeginAlike (before after : Left) : Type 0 where
@@ -90,31 +85,88 @@ Takes old pair new = (old.pairs ≡ pair ∷ new.pairs) × (new.due ≡ old.due)
 abbrev pub IsAtEnd : Left → Type 0
 IsAtEnd left = (left.pairs ≡ []) × (left.due ≡ [])
 
+-- A pair is in hand, or nothing is left.
+abbrev pub IsReady : Left → Type 0
+IsReady left = left.pairs ≡ [] → left.due ≡ []
+
+-- Nothing is in hand, and a subtree is due.
+abbrev pub IsDue : Left → Type 0
+IsDue left = (left.pairs ≡ []) × (0 < length left.due)
+
+-- The pairs are the first that are in hand, where some are.
+abbrev pub FirstPair : List Pair → Option Pair → Type 0
+FirstPair pairs None = pairs ≡ []
+FirstPair pairs (Some first) = (rest : List Pair) × (pairs ≡ first ∷ rest)
+
+-- So a walk goes on from the first pairs of two trees, where there are some.
+abbrev pub ComesTo : Option Pair → Option Pair → Onward → Type 0
+ComesTo None None way = way ≡ ways.End
+ComesTo (Some p) None way = way ≡ ways.Removed
+ComesTo None (Some q) way = way ≡ ways.Added
+ComesTo (Some p) (Some q) ways.Removed = KeyBelow p.key q.key
+ComesTo (Some p) (Some q) ways.Added = KeyBelow q.key p.key
+ComesTo (Some p) (Some q) ways.Changed = (p.key ≡ q.key) × (p.value ≢ q.value)
+ComesTo (Some p) (Some q) ways.Skip = (p.key ≡ q.key) × (p.value ≡ q.value)
+ComesTo (Some p) (Some q) way = ⊥
+
+-- Both trees are ready, and it goes on so from their first pairs.
+pub record GoesByPairs (before after : Left) (way : Onward) : Type 0 where
+  pub before_ready : IsReady before
+  pub after_ready : IsReady after
+  pub p : Option Pair
+  pub q : Option Pair
+  pub first : FirstPair before.pairs p
+  pub second : FirstPair after.pairs q
+  pub comes : ComesTo p q way
+
+-- The number that the level of the first subtree is below.
+abbrev pub first_bound : List Due → ℕ
+first_bound [] = 0
+first_bound (first ∷ due) = first.bound
+
+-- How a walk goes on. Where both trees begin with subtrees that have one reference, these are
+-- passed by, and nothing is read. Where neither is ready, the one is read that may be higher, and of
+-- two that may be as high the old one.
+abbrev pub IsOnward : Left → Left → Onward → Type 0
+IsOnward before after ways.Pass = BeginAlike before after
+IsOnward before after ways.OpenOld = IsDue before × (BeginAlike before after → ⊥) ×
+    (IsReady after ⊎ (first_bound after.due ≤ first_bound before.due))
+IsOnward before after ways.OpenNew = IsDue after × (BeginAlike before after → ⊥) ×
+    (IsReady before ⊎ (first_bound before.due < first_bound after.due))
+IsOnward before after way = GoesByPairs before after way
+
+-- ---- the way of a walk
+
 -- What a walk does: it reads a chunk of the old tree, or of the new one; it goes on in both behind
--- subtrees that have one reference; or it takes the first pair in hand of the old tree, or of the
--- new one.
+-- subtrees that have one reference; or it takes the first pair in hand of the old tree, of the new
+-- one, or of both.
 pub data Move : Type 0 where
   ReadsOld : List ℕ → Move
   ReadsNew : List ℕ → Move
   PassesBoth : Move
   TakesOld : Move
   TakesNew : Move
+  TakesBoth : Move
 
--- So it comes from the one to the other. A chunk is read in the place of the first subtree: it has
--- its reference, and can be read. It is read only where the trees do not begin with subtrees that
--- have one reference.
+-- So it comes from the one to the other, as its rules say. A chunk is read in the place of the first
+-- subtree: it has its reference, and can be read.
 abbrev pub IsMove : Version → Lefts → Move → Lefts → Type 0
 IsMove version old (Move.ReadsOld chunk) new = (opens : Opens version old.before new.before) ×
-    (chunk ≡ opens.chunk) × (new.after ≡ old.after) × (BeginAlike old.before old.after → ⊥)
+    (chunk ≡ opens.chunk) × (new.after ≡ old.after) ×
+    IsOnward old.before old.after ways.OpenOld
 IsMove version old (Move.ReadsNew chunk) new = (opens : Opens version old.after new.after) ×
-    (chunk ≡ opens.chunk) × (new.before ≡ old.before) × (BeginAlike old.before old.after → ⊥)
+    (chunk ≡ opens.chunk) × (new.before ≡ old.before) ×
+    IsOnward old.before old.after ways.OpenNew
 IsMove version old Move.PassesBoth new = (alike : BeginAlike old.before old.after) ×
     (new.before ≡ record { pairs = []; due = alike.due }) ×
     (new.after ≡ record { pairs = []; due = alike.due' })
 IsMove version old Move.TakesOld new = (pair : Pair) × Takes old.before pair new.before ×
-    (new.after ≡ old.after)
+    (new.after ≡ old.after) × IsOnward old.before old.after ways.Removed
 IsMove version old Move.TakesNew new = (pair : Pair) × Takes old.after pair new.after ×
-    (new.before ≡ old.before)
+    (new.before ≡ old.before) × IsOnward old.before old.after ways.Added
+IsMove version old Move.TakesBoth new = (pair : Pair) × (other : Pair) ×
+    Takes old.before pair new.before × Takes old.after other new.after ×
+    (IsOnward old.before old.after ways.Skip ⊎ IsOnward old.before old.after ways.Changed)
 
 -- This way leads from the one to the other.
 abbrev pub Leads : Version → Lefts → List Move → Lefts → Type 0
@@ -130,6 +182,7 @@ read_on (Move.ReadsNew chunk ∷ way) = chunk ∷ read_on way
 read_on (Move.PassesBoth ∷ way) = read_on way
 read_on (Move.TakesOld ∷ way) = read_on way
 read_on (Move.TakesNew ∷ way) = read_on way
+read_on (Move.TakesBoth ∷ way) = read_on way
 
 -- ---- what a walk gives
 
@@ -177,50 +230,6 @@ abbrev pub IsOfOneKey : Option RootChange → Type 0
 IsOfOneKey (Some (Changed before after)) = before.key ≡ after.key
 IsOfOneKey change = Unit {0}
 
--- ---- how a walk goes on
-
--- A pair is in hand, or nothing is left.
-abbrev pub IsReady : Left → Type 0
-IsReady left = left.pairs ≡ [] → left.due ≡ []
-
--- Nothing is in hand, and a subtree is due.
-abbrev pub IsDue : Left → Type 0
-IsDue left = (left.pairs ≡ []) × (0 < length left.due)
-
--- The pairs are the first that are in hand, where some are.
-abbrev pub FirstPair : List Pair → Option Pair → Type 0
-FirstPair pairs None = pairs ≡ []
-FirstPair pairs (Some first) = (rest : List Pair) × (pairs ≡ first ∷ rest)
-
--- So a walk goes on from the first pairs of two trees, where there are some.
-abbrev pub ComesTo : Option Pair → Option Pair → Onward → Type 0
-ComesTo None None way = way ≡ ways.End
-ComesTo (Some p) None way = way ≡ ways.Removed
-ComesTo None (Some q) way = way ≡ ways.Added
-ComesTo (Some p) (Some q) ways.Removed = KeyBelow p.key q.key
-ComesTo (Some p) (Some q) ways.Added = KeyBelow q.key p.key
-ComesTo (Some p) (Some q) ways.Changed = (p.key ≡ q.key) × (p.value ≢ q.value)
-ComesTo (Some p) (Some q) ways.Skip = (p.key ≡ q.key) × (p.value ≡ q.value)
-ComesTo (Some p) (Some q) way = ⊥
-
--- Both trees are ready, and it goes on so from their first pairs.
-pub record GoesByPairs (before after : Left) (way : Onward) : Type 0 where
-  pub before_ready : IsReady before
-  pub after_ready : IsReady after
-  pub p : Option Pair
-  pub q : Option Pair
-  pub first : FirstPair before.pairs p
-  pub second : FirstPair after.pairs q
-  pub comes : ComesTo p q way
-
--- How a walk goes on. Where both trees begin with subtrees that have one reference, these are
--- passed by, and nothing is read.
-abbrev pub IsOnward : Left → Left → Onward → Type 0
-IsOnward before after ways.Pass = BeginAlike before after
-IsOnward before after ways.OpenOld = IsDue before × (BeginAlike before after → ⊥)
-IsOnward before after ways.OpenNew = IsDue after × (BeginAlike before after → ⊥)
-IsOnward before after way = GoesByPairs before after way
-
 -- These pairs were taken, of the least key that either has in hand.
 abbrev pub TakesFirst : Lefts → Option Pair → Option Pair → Lefts → Type 0
 TakesFirst old None None new = (old.before.pairs ≡ []) × (old.after.pairs ≡ [])
@@ -230,53 +239,6 @@ TakesFirst old None (Some q) new = Takes old.after q new.after × (new.before �
     FirstAbove q.key old.before.pairs
 TakesFirst old (Some p) (Some q) new = Takes old.before p new.before × Takes old.after q new.after ×
     (p.key ≡ q.key)
-
--- ---- the sources of two trees
-
--- The files that a source went over it goes over still, and no call failed.
-pub record HasStill {S : Type 0} (goes_over : S → ChunkFile → Type 0) (failures : S → ℕ)
-    (old new : S) : Type 0 where
-  pub goes_still : GoesOverStill goes_over old new
-  pub failures_are : failures new ≡ failures old
-
--- So it is, and a walk went on in the tree that the source has.
-pub record GoesOn {S T : Type 0} (goes_over : S → ChunkFile → Type 0) (failures : S → ℕ)
-    (stands_at : ChunkFile → T → ℕ → ℕ → Type 0) (version : Version) (old new : S)
-    (before after : Side T) : Type 0 where
-  pub still : HasStill goes_over failures old new
-  pub lawful : (content : Content) → GoesOverTree goes_over old content →
-      version ≡ content.version → IsSideOf stands_at content before → IsSideOf stands_at content after
-
--- The fault is that of the source: a failed read is told where one more call failed, and only there;
--- and what it has is not refused.
-pub record FailsAt {S T : Type 0} (goes_over : S → ChunkFile → Type 0) (failures : S → ℕ)
-    (stands_at : ChunkFile → T → ℕ → ℕ → Type 0) (version : Version) (old new : S)
-    (before : Side T) (fault : RootFault) : Type 0 where
-  pub goes_still : GoesOverStill goes_over old new
-  pub told : TellsFailure (failures old) (failures new) fault
-  pub lawful : (content : Content) → GoesOverTree goes_over old content →
-      version ≡ content.version → IsSideOf stands_at content before → MayFail fault
-
--- What a call tells of the source of the old tree, and of that of the new one.
-abbrev pub TellsOld : {S T C : Type 0} → (S → ChunkFile → Type 0) → (S → ℕ) →
-    (ChunkFile → T → ℕ → ℕ → Type 0) → Version → S → S → Side T → Side T →
-    Result C RootDiffFault → Type 0
-TellsOld goes_over failures stands_at version old new before after (Ok given) =
-    GoesOn goes_over failures stands_at version old new before after
-TellsOld goes_over failures stands_at version old new before after (Err (faults.Old fault)) =
-    FailsAt goes_over failures stands_at version old new before fault
-TellsOld goes_over failures stands_at version old new before after (Err fault) =
-    HasStill goes_over failures old new
-
-abbrev pub TellsNew : {S T C : Type 0} → (S → ChunkFile → Type 0) → (S → ℕ) →
-    (ChunkFile → T → ℕ → ℕ → Type 0) → Version → S → S → Side T → Side T →
-    Result C RootDiffFault → Type 0
-TellsNew goes_over failures stands_at version old new before after (Ok given) =
-    GoesOn goes_over failures stands_at version old new before after
-TellsNew goes_over failures stands_at version old new before after (Err (faults.New fault)) =
-    FailsAt goes_over failures stands_at version old new before fault
-TellsNew goes_over failures stands_at version old new before after (Err fault) =
-    HasStill goes_over failures old new
 
 -- ---- a walk
 

@@ -6,8 +6,8 @@ ghost use Rattle.std.specs.Option.{is_some};
 ghost use Rattle.prolly_root_diff.specs.Notes.{AreNoted, TellsMissing};
 ghost use Rattle.prolly_root_diff.specs.Sides.{left_of};
 ghost use Rattle.prolly_root_diff.specs.ToGo.{ComesNearer};
-ghost use Rattle.prolly_root_diff.specs.Walks.{Gives, IsBegun, IsOfOneKey, Lefts, TellsNew};
-ghost use Rattle.prolly_root_diff.specs.Walks.{TellsOld, lefts_of};
+ghost use Rattle.prolly_root_diff.specs.FileWalks.{TellsFiles, TellsNew, TellsOld};
+ghost use Rattle.prolly_root_diff.specs.Walks.{Gives, IsBegun, IsOfOneKey, Lefts, lefts_of};
 ghost use Rattle.prolly_root_diff.specs.declared.notes.Notes.{Notes as NotesValue};
 
 use crate::change::RootChange;
@@ -27,7 +27,8 @@ use std::marker::Model;
 ///
 /// Taken together the changes are the difference of any two maps with these roots, unless two
 /// different chunks have one reference: see [`laws::walks_are_right`](crate::laws::walks_are_right).
-/// That holds whatever the sources do. The trees that the sources have are never refused.
+/// That holds whatever the sources do. Of chunk files of any bytes the first fault is told. A lawful
+/// file has none: see [`laws::walks_tell_one_fault`](crate::laws::walks_tell_one_fault).
 ///
 /// Memory is taken for a leaf of each tree, and for the references of the children of the nodes
 /// above it. A chunk is read where the other tree has not the same one in its place, and once. So
@@ -126,11 +127,11 @@ impl<T: Copy + Drop, U: Copy + Drop> RootDifferences<T, U> {
             AreNoted self.old.version from (lefts_of self.old) self.old.notes →
             AreNoted self.old.version from (lefts_of self.new) self.new.notes) }
 
-        // The one tree, where its source has it, is not refused, and a failed read is told.
-        ensures old { TellsOld S.goes_over S.failures S.stands self.old.version old.old old.new
-            self.old.before self.new.before result }
-        ensures new { TellsNew R.goes_over R.failures R.stands self.old.version new.old new.new
-            self.old.after self.new.after result }
+        // A failed read is told. Of files that the sources go over it is told what is wrong first.
+        ensures old { TellsOld S.goes_over S.failures old.old old.new result }
+        ensures new { TellsNew R.goes_over R.failures new.old new.new result }
+        ensures files { TellsFiles S.goes_over S.stands R.goes_over R.stands self.old.version
+            old.old new.old self.old.before self.new.before self.old.after self.new.after result }
     {
         if self.stopped {
             return Err(RootDiffFault::Stopped);
@@ -202,12 +203,10 @@ fn next_change<
         (record { before = left_of before.old; after = left_of after.old }) notes.old →
         AreNoted version from
         (record { before = left_of before.new; after = left_of after.new }) notes.new) }
-    ensures old { TellsOld S.goes_over S.failures S.stands version old.old old.new
-        before.old before.new
-        result }
-    ensures new { TellsNew R.goes_over R.failures R.stands version new.old new.new
-        after.old after.new
-        result }
+    ensures old { TellsOld S.goes_over S.failures old.old old.new result }
+    ensures new { TellsNew R.goes_over R.failures new.old new.new result }
+    ensures files { TellsFiles S.goes_over S.stands R.goes_over R.stands version old.old new.old
+        before.old before.new after.old after.new result }
 {
     // By these laws what is left of a tree stays the same where a chunk of it is read.
     walks_are_right();

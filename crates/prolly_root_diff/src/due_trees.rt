@@ -1,15 +1,16 @@
 //! The subtrees of a tree that are due.
-ghost use Rattle.std.specs.Prelude.{◌≡◌, ◌<◌, ◌∷◌, length, OnOk, IfOk};
-ghost use Rattle.prolly_look_up.specs.Content.{Content};
-ghost use Rattle.prolly_root.specs.ChunkSource.{HasAsked, GoesOverTree};
-ghost use Rattle.prolly_root.specs.RootFault.{IsOrFails, MayFail};
-ghost use Rattle.prolly_root_diff.specs.DueTrees.{AreDueIn, IsWholeTree, ReadsFirst, all_due};
+ghost use Rattle.std.specs.Prelude.{◌≡◌, ◌<◌, ◌∷◌, List, length, OnOk, IfOk};
+ghost use Rattle.prolly_root.specs.ChunkFile.{ChunkFile};
+ghost use Rattle.prolly_root.specs.ChunkSource.{HasAsked};
+ghost use Rattle.prolly_root.specs.RootFault.{IsOrFails};
+ghost use Rattle.prolly_root_diff.specs.DueTrees.{IsWholeTree, ReadsFirst, all_due};
+ghost use Rattle.prolly_root_diff.specs.FirstFault.{DueAt, MayStopWith, ReadsAt};
+ghost use Rattle.prolly_root_diff.specs.Places.{AllStand};
 ghost use Rattle.prolly_root_diff.specs.Sides.{PutBehindFirst};
 
 use crate::siblings::Siblings;
 use prolly_entry::{Ref, Version};
 use prolly_look_up::LEAF;
-use prolly_look_up::laws::tops_are_read;
 use prolly_root::{ChunkSource, RootFault};
 use std::alloc::{AllocError, Global};
 use std::collections::VecDeque;
@@ -37,13 +38,12 @@ pub(crate) fn read_first<S: ChunkSource>(
     requires { 0 < length (all_due due.old.items) }
     ensures reads { IfOk result (λ read. ReadsFirst version (all_due due.old.items) read.0.0
         read.1.items (all_due due.new.items)) }
-    ensures lawful { (content : Content) → GoesOverTree S.goes_over source.old content →
-        version ≡ content.version → AreDueIn S.stands content due.old.items →
-        IsOrFails (λ _. AreDueIn S.stands content due.new.items) MayFail result }
+    ensures tells { (file : ChunkFile) (old : List DueAt) → S.goes_over source.old file →
+        AllStand S.stands file due.old.items old → IsOrFails (λ read. (new : List DueAt) ×
+        ReadsAt version file read.1.items old new × AllStand S.stands file due.new.items new)
+        (MayStopWith version file old) result }
     ensures asked { HasAsked S.goes_over S.failures source.old source.new result }
 {
-    // By this law the children of a chunk of a lawful tree are the trees below it.
-    tops_are_read();
     let Some(mut siblings) = due.pop_front() else {
         return Err(RootFault::Missing);
     };

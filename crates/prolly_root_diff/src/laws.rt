@@ -1,5 +1,7 @@
 //! Laws of what is left of two trees. They are the contract of a function that does nothing: to call
 //! it is to know the laws, and to prove the crate is to prove them.
+ghost use Rattle.prolly_root_diff.specs.FileWalks.{WalkFaultsAreOne};
+ghost use Rattle.prolly_root_diff.specs.FirstFault.{LawfulFilesAreWalked, LeafFaultsAreOne};
 ghost use Rattle.prolly_root_diff.specs.Leaves.{AllLeavesAreRight, FirstLeavesAreRight};
 ghost use Rattle.prolly_root_diff.specs.Leaves.{LeavesBeginAtRoot, LeavesOpenFirst};
 ghost use Rattle.prolly_root_diff.specs.Left.{BeginsAtRoot, OpensFirst, PassesEqual};
@@ -20,6 +22,17 @@ pub fn walks_are_right()
     ensures all { WalksAreRight }
     ensures before { BeforeIsRight }
     ensures notes { NotesAreRight }
+{
+    tops_are_read();
+}
+
+/// No walk over the tree of a lawful content has a fault in its chunk file. One fault is the first for a
+/// walk over the leaves of a file of any bytes, and one for a walk over two files. There is none where
+/// the walk comes to its end.
+pub fn walks_tell_one_fault()
+    ensures lawful { LawfulFilesAreWalked }
+    ensures leaves { LeafFaultsAreOne }
+    ensures walks { WalkFaultsAreOne }
 {
     tops_are_read();
 }

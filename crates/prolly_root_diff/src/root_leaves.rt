@@ -1,12 +1,13 @@
 //! The leaves of a tree, for who knows its root.
-ghost use Rattle.std.specs.Prelude.{◌≡◌, ◌<◌, [], true, false, length, None, Some, Err, IfOk};
-ghost use Rattle.std.specs.Prelude.{IfErr, IfSome, OnOk};
-ghost use Rattle.prolly_look_up.specs.Content.{Content};
-ghost use Rattle.prolly_root.specs.ChunkSource.{HasAsked, GoesOverTree};
-ghost use Rattle.prolly_root.specs.RootFault.{IsOrFails, MayFail};
+ghost use Rattle.std.specs.Prelude.{◌≡◌, ◌<◌, [], List, true, false, length, None, Some, Err};
+ghost use Rattle.std.specs.Prelude.{IfErr, IfOk, IfSome, OnOk};
+ghost use Rattle.prolly_root.specs.ChunkFile.{ChunkFile};
+ghost use Rattle.prolly_root.specs.ChunkSource.{HasAsked};
 ghost use Rattle.prolly_root.specs.declared.root_fault.RootFault.{RootFault as RootFaultValue};
-ghost use Rattle.prolly_root_diff.specs.DueTrees.{AreDueIn, all_due};
-ghost use Rattle.prolly_root_diff.specs.LeafWalk.{GivesNext, IsLeafWalk, WalksIn, due_of_walk};
+ghost use Rattle.prolly_root_diff.specs.DueTrees.{all_due};
+ghost use Rattle.prolly_root_diff.specs.FirstFault.{DueAt};
+ghost use Rattle.prolly_root_diff.specs.LeafWalk.{GivesNext, IsLeafWalk, TellsLeaf, due_of_walk};
+ghost use Rattle.prolly_root_diff.specs.Places.{AllStand};
 ghost use Rattle.prolly_root_diff.specs.ToGo.{weights};
 
 use crate::due_trees::{read_first, whole_tree};
@@ -33,7 +34,8 @@ pub struct LeafRead {
 /// Taken together they are the leaves of any map with the tree's root, unless two different chunks
 /// have one reference: see [`laws::leaves_are_right`](crate::laws::leaves_are_right). That holds
 /// whatever the source does: each chunk is compared with the reference in the one above it, and the
-/// first with the root. The tree that the source has is never refused.
+/// first with the root. Of a chunk file of any bytes the first fault is told. A lawful file has none:
+/// see [`laws::walks_tell_one_fault`](crate::laws::walks_tell_one_fault).
 ///
 /// Each chunk of the tree is read once. Memory is taken for the leaf that is given, and for the
 /// references of the children of the nodes above.
@@ -95,11 +97,10 @@ impl<T: Copy + Drop> RootLeaves<T> {
         ensures stopped { (fault : RootFaultValue) → self.old.fault ≡ Some fault →
             (result ≡ Err fault) × (source.new ≡ source.old) }
 
-        // The tree, where the source has it, is not refused, and a failed read is told.
-        ensures lawful { (content : Content) → GoesOverTree S.goes_over source.old content →
-            self.old.version ≡ content.version → self.old.fault ≡ None →
-            WalksIn S.stands content self.old →
-            IsOrFails (λ _. WalksIn S.stands content self.new) MayFail result }
+        // Of a file that the source goes over it is told what is wrong first.
+        ensures tells { (file : ChunkFile) (old : List DueAt) → self.old.fault ≡ None →
+            S.goes_over source.old file → AllStand S.stands file self.old.due.items old →
+            TellsLeaf S.stands self.old.version file old self.new.due.items result }
         ensures asked { self.old.fault ≡ None →
             HasAsked S.goes_over S.failures source.old source.new result }
     {
@@ -126,9 +127,9 @@ fn next_leaf<S: ChunkSource>(
         (all_due due.new.items)) }
     ensures nearer { IfOk result (λ leaf. IfSome leaf (λ _.
         weights (all_due due.new.items) < weights (all_due due.old.items))) }
-    ensures lawful { (content : Content) → GoesOverTree S.goes_over source.old content →
-        version ≡ content.version → AreDueIn S.stands content due.old.items →
-        IsOrFails (λ _. AreDueIn S.stands content due.new.items) MayFail result }
+    ensures tells { (file : ChunkFile) (old : List DueAt) → S.goes_over source.old file →
+        AllStand S.stands file due.old.items old →
+        TellsLeaf S.stands version file old due.new.items result }
     ensures asked { HasAsked S.goes_over S.failures source.old source.new result }
 {
     // By these laws the leaves that are left stay the same where a node is read.

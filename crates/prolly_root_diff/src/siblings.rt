@@ -1,18 +1,17 @@
 //! The subtrees that are due below one node.
-ghost use Rattle.std.specs.Prelude.{◌≡◌, ◌<◌, [], map, true, false, drop, None};
+ghost use Rattle.std.specs.Prelude.{◌≡◌, ◌<◌, ◌⊎◌, [], ◌∷◌, List, map, true, false, drop, None};
 ghost use Rattle.std.specs.Prelude.{IfOk, MatchOption};
-ghost use Rattle.prolly_look_up.specs.Content.{Content};
 ghost use Rattle.prolly_look_up.specs.Entries.{IsNode, IsWhole, children_in};
 ghost use Rattle.prolly_look_up.specs.Way.{FallsTo, IsNamed, level_of};
-ghost use Rattle.prolly_root.specs.ChunkSource.{HasAsked, GoesOverTree};
-ghost use Rattle.prolly_root.specs.Descent.{StandsBelow};
-ghost use Rattle.prolly_root.specs.RootFault.{IsOrFails, MayFail, OnlyRead};
-ghost use Rattle.prolly_root_diff.specs.Sides.{AreChildrenOf, AreSiblingsOf, HaveSame};
-ghost use Rattle.prolly_root_diff.specs.Sides.{IsBehindFirst, IsTopThere, bound_of};
+ghost use Rattle.prolly_root.specs.ChunkFile.{ChunkFile};
+ghost use Rattle.prolly_root.specs.ChunkSource.{HasAsked};
+ghost use Rattle.prolly_root.specs.RootFault.{IsOrFails, MayFail};
+ghost use Rattle.prolly_root_diff.specs.FirstFault.{DueAt, IsFaultAt};
+ghost use Rattle.prolly_root_diff.specs.Places.{FindsFirst, IsThere, SiblingsStand};
+ghost use Rattle.prolly_root_diff.specs.Sides.{AreChildrenOf, HaveSame, IsBehindFirst, bound_of};
 ghost use Rattle.prolly_root_diff.specs.Sides.{level_above};
 
 use prolly_entry::{Ref, Version};
-use prolly_look_up::laws::tops_are_read;
 use prolly_look_up::split_first_child;
 use prolly_root::{ChunkSource, RootFault, tested_chunk};
 use std::alloc::{AllocError, Global};
@@ -127,14 +126,13 @@ impl<T: Copy + Drop> Siblings<T> {
         version: Version,
     ) -> Result<T, RootFault>
         ensures same { HaveSame self.old self.new }
-        ensures lawful { (content : Content) → GoesOverTree S.goes_over source.old content →
-            version ≡ content.version → AreSiblingsOf S.stands content self.old →
-            AreSiblingsOf S.stands content self.new × IsOrFails (StandsBelow S.stands content
-            self.old.next.0 (level_above self.old)) OnlyRead result }
+        ensures stays { (file : ChunkFile) (due : List DueAt) → S.goes_over source.old file →
+            SiblingsStand S.stands file self.old due → SiblingsStand S.stands file self.new due }
+        ensures finds { (file : ChunkFile) (first : DueAt) (others : List DueAt) →
+            S.goes_over source.old file → SiblingsStand S.stands file self.old (first ∷ others) →
+            FindsFirst S.stands version file first result }
         ensures asked { HasAsked S.goes_over S.failures source.old source.new result }
     {
-        // By these laws the tops of a lawful tree's subtrees are found by their references.
-        tops_are_read();
         match &mut self.parent {
             None => source.root(version),
             Some(parent) => {
@@ -155,10 +153,12 @@ impl<T: Copy + Drop> Siblings<T> {
         ensures named { IfOk result (λ read. IsNamed version self.old.next.0 read.0.items) }
         ensures falls { IfOk result (λ read. FallsTo (level_above self.old) read.0.items) }
         ensures same { HaveSame self.old self.new }
-        ensures lawful { (content : Content) → GoesOverTree S.goes_over source.old content →
-            version ≡ content.version → AreSiblingsOf S.stands content self.old →
-            AreSiblingsOf S.stands content self.new × IsOrFails (λ read. IsTopThere S.stands
-            content self.old.next.0 (read.0.items, read.1)) MayFail result }
+        ensures stays { (file : ChunkFile) (due : List DueAt) → S.goes_over source.old file →
+            SiblingsStand S.stands file self.old due → SiblingsStand S.stands file self.new due }
+        ensures tells { (file : ChunkFile) (first : DueAt) (others : List DueAt) →
+            S.goes_over source.old file → SiblingsStand S.stands file self.old (first ∷ others) →
+            IsOrFails (λ read. IsThere S.stands version file first read.0.items read.1)
+            (λ fault. MayFail fault ⊎ IsFaultAt version file first fault) result }
         ensures asked { HasAsked S.goes_over S.failures source.old source.new result }
     {
         let place = self.find(source, version)?;

@@ -1,14 +1,14 @@
 //! What is left of one tree.
 ghost use Rattle.std.specs.Prelude.{◌≡◌, ◌<◌, [], ◌∷◌, length, List, true, false, OnOk, IfOk};
-ghost use Rattle.std.specs.Prelude.{MatchOption};
-ghost use Rattle.prolly_look_up.specs.Content.{Content};
+ghost use Rattle.std.specs.Prelude.{IfErr, MatchOption};
 ghost use Rattle.prolly_entry.specs.Pair.{Pair as PairValue};
-ghost use Rattle.prolly_root.specs.ChunkSource.{HasAsked, GoesOverTree};
-ghost use Rattle.prolly_root.specs.RootFault.{IsOrFails, MayFail};
+ghost use Rattle.prolly_root.specs.ChunkSource.{HasAsked};
+ghost use Rattle.prolly_root_diff.specs.FileWalks.{ComesInFile, StopsInFile};
+ghost use Rattle.prolly_root_diff.specs.FirstFault.{TreeStep};
 ghost use Rattle.prolly_root_diff.specs.Left.{Due};
 ghost use Rattle.prolly_root_diff.specs.Notes.{Reads};
-ghost use Rattle.prolly_root_diff.specs.Sides.{IsAtRoot, IsSideOf, PassesFirst};
-ghost use Rattle.prolly_root_diff.specs.Sides.{left_of};
+ghost use Rattle.prolly_root_diff.specs.DueTrees.{IsAtRoot};
+ghost use Rattle.prolly_root_diff.specs.Sides.{PassesFirst, left_of};
 ghost use Rattle.prolly_root_diff.specs.Walks.{IsDue, IsReady};
 
 use crate::due_trees::{put_others, read_first, whole_tree};
@@ -77,10 +77,11 @@ impl<T: Copy + Drop> Side<T> {
         version: Version,
     ) -> Result<Note, RootFault>
         requires { IsDue (left_of self.old) }
-        ensures opens { IfOk result (Reads version (left_of self.old) (left_of self.new)) }
-        ensures lawful { (content : Content) → GoesOverTree S.goes_over source.old content →
-            version ≡ content.version → IsSideOf S.stands content self.old →
-            IsOrFails (λ _. IsSideOf S.stands content self.new) MayFail result }
+        ensures opens { IfOk result (λ note. (reads : Reads version (left_of self.old)
+            (left_of self.new) note) × ComesInFile S.goes_over S.stands version source.old
+            (TreeStep.Reads reads.opens.chunk ∷ []) self.old.due.items self.new.due.items) }
+        ensures stops { IfErr result (StopsInFile S.goes_over S.stands version source.old []
+            self.old.due.items) }
         ensures asked { HasAsked S.goes_over S.failures source.old source.new result }
     {
         let (reference, chunk) = read_first(&mut self.due, alloc, source, version)?;

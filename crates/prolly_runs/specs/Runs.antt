@@ -1,7 +1,7 @@
 -- What `build` and `apply` answer over files that are open.
 use Rattle.std.specs.Prelude.{◌≡◌, ◌↔◌, ◌<◌, ℕ, List, Option, Result, Ok, Err, IfOk}
 use Rattle.std.specs.declared.alloc.AllocError.{AllocError}
-use Rattle.prolly_look_up.specs.Content.{Content}
+use Rattle.prolly_root.specs.ChunkFile.{ChunkFile}
 use Rattle.prolly_io.specs.Sink.{SinkView}
 use Rattle.prolly_io.specs.Source.{SourceView}
 use Rattle.prolly_link.specs.declared.fault.RunFault.{RunFault}
@@ -55,17 +55,18 @@ module _ {S W : Type 0} (seen : S → SourceView) (sees : W → SinkView) where
     pub tells : IsToldBehind sees unbuilt held_back mid new built told
     pub shows : IfOk result (λ answer. ShowsBuild answer told)
 
-  -- What `apply` answers, over the source of an old tree, of which `has` says which contents it has,
-  -- and `failures` how many of its calls failed; over so many sources of changes; and a sink.
-  pub record AnswersApply {D : Type 0} (has : D → Content → Type 0) (failures : D → ℕ)
+  -- What `apply` answers, over the source of an old tree, so many sources of changes, and a sink.
+  -- `goes_over` says which chunk files the old tree's source goes over, and `failures` how many of its
+  -- calls failed.
+  pub record AnswersApply {D : Type 0} (goes_over : D → ChunkFile → Type 0) (failures : D → ℕ)
       (settings : Settings) (held_back : HeldBack) (root : List ℕ) (source : D) (count : ℕ)
       (before after : List S) (old new : W) (result : Result Answer AllocError) : Type 0 where
     pub applied : Result Report ApplyFault
     pub mid : W
-    pub outcome : IsApplyOutcome seen (has source) settings root before after (sees old) (sees mid)
-        (mid ≡ old) applied
+    pub outcome : IsApplyOutcome seen (goes_over source) settings root before after (sees old)
+        (sees mid) (mid ≡ old) applied
     pub given : Option D
-    pub given_back : IsGivenBack has failures source given applied
+    pub given_back : IsGivenBack goes_over failures source given applied
     pub too_many : (applied ≡ Err (Run TooManyFiles)) ↔ (15 < count)
     pub told : Result Report ApplyFault
     pub tells : IsToldBehind sees unapplied held_back mid new applied told

@@ -3,7 +3,6 @@
 ghost use Rattle.std.specs.Prelude.{vec_len};
 ghost use Rattle.prolly_runs.specs.Runs.{AnswersApply, AnswersBuild, IsToldBehind};
 ghost use Rattle.prolly_runs.specs.Runs.{unapplied, unbuilt};
-ghost use Rattle.prolly_root.specs.ChunkSource.{GoesOverTree};
 
 use crate::applied::answer_apply;
 use crate::built::answer_build;
@@ -79,7 +78,7 @@ pub fn answer_apply_into<
 ) -> Result<Answer, AllocError>
 where
     D::Place: Send,
-    ensures { AnswersApply S.seen W.seen (GoesOverTree D.goes_over) D.failures config.now held_back
+    ensures { AnswersApply S.seen W.seen D.goes_over D.failures config.now held_back
         root.now.0 old (vec_len sources.old) sources.old.items sources.new.items sink.old sink.new
         result }
 {

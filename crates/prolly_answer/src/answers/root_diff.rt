@@ -6,9 +6,9 @@ ghost use Rattle.prolly_text.specs.RecordForms.{spelled};
 ghost use Rattle.prolly_answer.specs.Diff.{AreStopped, AreWritten};
 ghost use Rattle.prolly_answer.specs.Outputs.{TookAll, TookSoFar, TookUntil, WroteOwn};
 ghost use Rattle.prolly_answer.specs.RootDiffs.{Counts, IsEndedDiff, IsRootDiff, IsStoppedDiff};
-ghost use Rattle.prolly_answer.specs.RootDiffs.{TellsDiffReads, TellsNumbers, WroteIn};
+ghost use Rattle.prolly_answer.specs.RootDiffs.{MayStopInNew, MayStopInOld, TellsDiffReads};
+ghost use Rattle.prolly_answer.specs.RootDiffs.{TellsNumbers, WroteIn};
 ghost use Rattle.prolly_answer.specs.RootDiffs.{fault_of, record_of};
-ghost use Rattle.prolly_answer.specs.RootFaults.{RefusesNone};
 ghost use Rattle.prolly_fault.specs.declared.fault.Fault.{Fault as FaultValue};
 ghost use Rattle.prolly_fault.specs.declared.fault.Fault.TheVariants.{Memory, RootNew, RootOld};
 ghost use Rattle.prolly_fault.specs.declared.output_fault.OutputFault.TheVariants.{Write};
@@ -19,7 +19,7 @@ use prolly_entry::{Ref, Version};
 use prolly_fault::{Answer, Fault, OutputFault};
 use prolly_io::{Sink, write_all};
 use prolly_root::ChunkSource;
-use prolly_root_diff::laws::walks_are_right;
+use prolly_root_diff::laws::{walks_are_right, walks_tell_one_fault};
 use prolly_root_diff::{RootChange, RootDiffFault, RootDifferences};
 use prolly_text::{RecordForm, append_change};
 use std::alloc::{AllocError, Global};
@@ -42,7 +42,7 @@ pub struct RootDiff<'a> {
 /// What `diff` answers to who names the roots: it writes what turns the map of the old root into
 /// that of the new one to the sink, where it is given a form; its status tells whether there is a
 /// change. Where `stat` is asked for it shows the line that [`answer_diff`](crate::answer_diff)
-/// shows of two checked files. Or it shows the line of the fault that stopped it, and the changes
+/// shows of two checked files. Or it shows the line of the first fault, which stopped it, and the changes
 /// that were found before were written. An `Err` is want of memory for that line.
 ///
 /// Of both trees no more is read than the walk wants: see
@@ -60,8 +60,10 @@ pub fn answer_diff_by_root<S: ChunkSource, R: ChunkSource, W: Sink>(
     sink: &mut W,
 ) -> Result<Answer, AllocError>
     ensures ok { IfOk result (IsRootDiff
-        (RefusesNone (S.goes_over old.old) diff.now.version diff.now.old.now.0)
-        (RefusesNone (R.goes_over new.old) diff.now.version diff.now.new.now.0)
+        (MayStopInOld (S.goes_over old.old) (R.goes_over new.old) diff.now.version
+        diff.now.old.now.0 diff.now.new.now.0)
+        (MayStopInNew (S.goes_over old.old) (R.goes_over new.old) diff.now.version
+        diff.now.old.now.0 diff.now.new.now.0)
         diff.now.version diff.now.old.now.0 diff.now.new.now.0 diff.now.stat
         (AreWritten diff.now.form (λ bytes. TookAll W.seen bytes sink.old sink.new)
         (sink.new ≡ sink.old))
@@ -70,8 +72,10 @@ pub fn answer_diff_by_root<S: ChunkSource, R: ChunkSource, W: Sink>(
         (λ told. TellsDiffReads RootOld (S.failures old.old) (S.failures old.new) told ×
         TellsDiffReads RootNew (R.failures new.old) (R.failures new.new) told)) }
     ensures err { OnErr result ((fault : FaultValue) × IsStoppedDiff
-        (RefusesNone (S.goes_over old.old) diff.now.version diff.now.old.now.0)
-        (RefusesNone (R.goes_over new.old) diff.now.version diff.now.new.now.0)
+        (MayStopInOld (S.goes_over old.old) (R.goes_over new.old) diff.now.version
+        diff.now.old.now.0 diff.now.new.now.0)
+        (MayStopInNew (S.goes_over old.old) (R.goes_over new.old) diff.now.version
+        diff.now.old.now.0 diff.now.new.now.0)
         diff.now.version diff.now.old.now.0 diff.now.new.now.0
         (AreWritten diff.now.form (λ bytes. TookAll W.seen bytes sink.old sink.new)
         (sink.new ≡ sink.old))
@@ -107,8 +111,10 @@ fn write_diff<S: ChunkSource, R: ChunkSource, W: Sink>(
     sink: &mut W,
 ) -> Result<Told, Fault>
     ensures ended { IsEndedDiff
-        (RefusesNone (S.goes_over old.old) diff.now.version diff.now.old.now.0)
-        (RefusesNone (R.goes_over new.old) diff.now.version diff.now.new.now.0)
+        (MayStopInOld (S.goes_over old.old) (R.goes_over new.old) diff.now.version
+        diff.now.old.now.0 diff.now.new.now.0)
+        (MayStopInNew (S.goes_over old.old) (R.goes_over new.old) diff.now.version
+        diff.now.old.now.0 diff.now.new.now.0)
         diff.now.version diff.now.old.now.0 diff.now.new.now.0 diff.now.stat
         (AreWritten diff.now.form (λ bytes. TookAll W.seen bytes sink.old sink.new)
         (sink.new ≡ sink.old))
@@ -133,8 +139,10 @@ fn write_changes<S: ChunkSource, R: ChunkSource, W: Sink>(
     sink: &mut W,
 ) -> Result<Told, Fault>
     ensures ended { IsEndedDiff
-        (RefusesNone (S.goes_over old.old) diff.now.version diff.now.old.now.0)
-        (RefusesNone (R.goes_over new.old) diff.now.version diff.now.new.now.0)
+        (MayStopInOld (S.goes_over old.old) (R.goes_over new.old) diff.now.version
+        diff.now.old.now.0 diff.now.new.now.0)
+        (MayStopInNew (S.goes_over old.old) (R.goes_over new.old) diff.now.version
+        diff.now.old.now.0 diff.now.new.now.0)
         diff.now.version diff.now.old.now.0 diff.now.new.now.0 diff.now.stat
         (AreWritten diff.now.form (λ bytes. TookSoFar W.seen bytes sink.old sink.new)
         (sink.new ≡ sink.old))
@@ -143,8 +151,10 @@ fn write_changes<S: ChunkSource, R: ChunkSource, W: Sink>(
     ensures reads_old { TellsDiffReads RootOld (S.failures old.old) (S.failures old.new) result }
     ensures reads_new { TellsDiffReads RootNew (R.failures new.old) (R.failures new.new) result }
 {
-    // By these laws what the walk tells is so of the maps of the two roots.
+    // By these laws what the walk tells is so of the maps of the two roots, and a lawful file is not
+    // refused.
     walks_are_right();
+    walks_tell_one_fault();
     let Ok(mut walk) = begin(alloc, diff) else {
         return Err(Fault::Memory);
     };

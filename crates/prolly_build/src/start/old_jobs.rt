@@ -29,7 +29,6 @@ pub(crate) struct OldRead<D> {
 }
 
 impl<D: ReadAhead + Drop> Job for LoadOld<D> {
-    ghost use Rattle.prolly_root.specs.ChunkSource.{GoesOverTree};
     ghost use Rattle.prolly_build.specs.OldWorkers.{IsOldLoadedFrom};
 
     type Item = OldLeaf;
@@ -38,7 +37,7 @@ impl<D: ReadAhead + Drop> Job for LoadOld<D> {
 
     ghost IsReady = { λ _. Unit {0} };
 
-    ghost Gives = { λ job link done closed. IsOldLoadedFrom (GoesOverTree D.goes_over) D.failures
+    ghost Gives = { λ job link done closed. IsOldLoadedFrom D.goes_over D.failures
         job.version job.root.0 job.source link done.source done.fault closed };
 
     /// The loader of the old tree has the number by which faults name the tree.

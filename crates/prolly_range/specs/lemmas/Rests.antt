@@ -8,7 +8,7 @@ use Rattle.prolly_look_up.specs.Way.{level_of}
 use Rattle.prolly_entry.specs.Pair.{Pair}
 use Rattle.prolly_entry.specs.declared.version.Version.{Version}
 use Rattle.prolly_entry.specs.declared.version.Version.TheVariants.{One, Two}
-use Rattle.prolly_entry.specs.lemmas.Lists.{apart}
+use Rattle.prolly_entry.specs.lemmas.Lists.{apart, head_is, tail_is}
 use Rattle.prolly_io.specs.Frame.{framed, IsSmall}
 use Rattle.prolly_io.specs.FrameLaws.{one_front}
 use Rattle.prolly_range.specs.KeySet.{KeySet}
@@ -32,12 +32,6 @@ rest_begins version root set bytes left pairs start p = record {
   taken = p.taken;
 }
 
-firsts : {d e : Due} {ds es : List Due} → d ∷ ds ≡ e ∷ es → d ≡ e
-firsts e = cc
-
-others : {d e : Due} {ds es : List Due} → d ∷ ds ≡ e ∷ es → ds ≡ es
-others e = cc
-
 -- Behind a chunk that was taken the others are left.
 pub rest_behind : (version : Version) (due : List Due) (chunk : List ℕ) (shown : List Pair)
     (next : List Due) (left after : List ℕ) → Takes version due chunk shown next → IsSmall chunk →
@@ -57,8 +51,8 @@ rest_behind version due chunk shown next left after t small is r =
         let was = sym t.was ∙ taken.3.was in
         let same : next ≡ taken.2 = t.is ∙
         ap (λ x. due_below (level_of x) t.first.set (kind_of version x) ++ t.others) one.front ∙
-        ap (λ d. due_below (level_of c) d.set (kind_of version c) ++ t.others) (firsts was) ∙
-        ap (λ ds. due_below (level_of c) taken.3.first.set (kind_of version c) ++ ds) (others was) ∙
+        ap (λ d. due_below (level_of c) d.set (kind_of version c) ++ t.others) (head_is _ _ _ _ was) ∙
+        ap (λ ds. due_below (level_of c) taken.3.first.set (kind_of version c) ++ ds) (tail_is _ _ _ _ was) ∙
         sym taken.3.is in
         record {
           chunks = chunks;

@@ -22,7 +22,12 @@ use Rattle.prolly_root.specs.FileTrees.{IsChildNumber, IsTreeAt, chunks_below, c
 use Rattle.prolly_root.specs.FileTrees.{root_level, root_tree}
 use Rattle.prolly_root.specs.Walk.{IsBehind, IsFirstOfLevel, IsNth}
 use Rattle.prolly_root.specs.lemmas.Levels.{behind_next, behind_one, nth_next, nth_one}
-use Rattle.prolly_root.specs.lemmas.Places.{level_is}
+
+-- The first byte of a tree's top is the tree's level.
+pub level_is : (version : Version) (level : ℕ) (t : Tree level) →
+    level_of (bytes_of version level t) ≡ level
+level_is version zero t = refl
+level_is version (suc level) t = refl
 
 -- ---- the chunks of a tree
 

@@ -1,29 +1,30 @@
--- The chunk file of a lawful content: that nothing is wrong with it before a chunk is read, and
--- where the trees of the content are found in it.
-use Rattle.std.proofs.Common.{◌≡◌, ◌≤◌, ◌<◌, ◌∙◌, ℕ, suc, ◌-◌, List, [], ◌∷◌, length, Some, None}
-use Rattle.std.proofs.Common.{inl, inr, Result, Ok, Err, refl, sym, ap, arith, drop}
+-- The chunk file of a lawful content: that nothing is wrong with it before a chunk is read, nor with
+-- the chunks that stand where they are due.
+use Rattle.std.proofs.Common.{◌≡◌, ◌≤◌, ◌<◌, ◌∙◌, ℕ, ◌-◌, List, [], ◌∷◌, length, Option, None}
+use Rattle.std.proofs.Common.{refl, sym, ap, subst, arith, drop}
 use Rattle.std.specs.Int.{w64, to_be_bytes}
 use Rattle.std.proofs.lemmas.Bool.{le-leb, le-ltb}
 use Rattle.std.proofs.lemmas.List.{length-append}
-use Rattle.prolly_look_up.specs.Content.{Content}
-use Rattle.prolly_look_up.specs.Way.{level_of}
+use Rattle.prolly_look_up.specs.Content.{chunks_of, Content}
+use Rattle.prolly_look_up.specs.Kinds.{kind_of}
+use Rattle.prolly_look_up.specs.MapTree.{IsTreeOf, RootIsTree, TopIsRead, entries_below}
+use Rattle.prolly_look_up.specs.Way.{FallsTo, level_of}
+use Rattle.prolly_look_up.specs.lemmas.Ways.{no_flaw}
 use Rattle.prolly_entry.specs.Cut.{sha512_cut}
 use Rattle.prolly_entry.specs.Overlay.{or_else}
+use Rattle.prolly_entry.specs.Reference.{reference_of}
 use Rattle.prolly_entry.specs.declared.version.Version.{Version}
 use Rattle.prolly_entry.specs.declared.version.Version.TheVariants.{One, Two}
 use Rattle.prolly_tree.specs.Chunk.{chunks}
 use Rattle.prolly_tree.specs.File.{root_reference}
-use Rattle.prolly_tree.specs.Tree.{Tree}
+use Rattle.prolly_tree.specs.Tree.{Tree, bytes_of}
 use Rattle.prolly_root.specs.ChunkFile.{ChunkFile, IsLawful, chunk_file, fault_at_end, file_fault}
 use Rattle.prolly_root.specs.ChunkFile.{frames_fault, header_or_version_fault, nth_in}
 use Rattle.prolly_root.specs.ChunkFile.{no_chunk_fault}
-use Rattle.prolly_root.specs.ChunkSource.{FindsChild, FindsRoot, GoesOverStill, GoesOverTree}
-use Rattle.prolly_root.specs.FileTrees.{IsChildNumber, IsTreePlace, root_level, root_tree}
-use Rattle.prolly_root.specs.RootFault.{IsOrFails, OnlyRead}
+use Rattle.prolly_root.specs.FileTrees.{IsTreeAt, root_level, root_tree}
+use Rattle.prolly_root.specs.LookUpFault.{IsFaultOfChunk}
 use Rattle.prolly_root.specs.declared.root_fault.RootFault.{RootFault}
-use Rattle.prolly_root.specs.lemmas.FileTrees.{child_among, root_at, root_length, some_chunk}
-use Rattle.prolly_root.specs.lemmas.FileTrees.{top_is, top_nth, tree_found}
-use Rattle.prolly_root.specs.lemmas.Places.{level_is}
+use Rattle.prolly_root.specs.lemmas.FileTrees.{level_is, root_at, root_length, some_chunk, top_is}
 
 -- ---- before a chunk is read
 
@@ -68,85 +69,54 @@ pub no_file_fault : {content : Content} → IsLawful content → {version : Vers
 no_file_fault {content = content} f {version = version} same =
     rw (lawful_header version content f.bits same, lawful_frames content) refl
 
-some_none : {A : Type 0} {x : A} → Some x ≡ None → ⊥
-some_none e = cc
+-- ---- where the trees stand
 
--- ---- where the trees are found
+-- The chunk with this reference that is due below this level is the top of a tree of the content, and
+-- stands there: as the chunk of this number, with the frames below it from that of the chunk `from`
+-- on.
+pub record IsTopDue (content : Content) (reference : List ℕ) (above : Option ℕ) (number from : ℕ)
+    : Type 0 where
+  pub level : ℕ
+  pub t : Tree level
+  pub below : IsTreeOf content.version (chunks_of content) level t
+  pub named : reference ≡ reference_of (bytes_of content.version level t)
+  pub stands : IsTreeAt content level t number from
+  pub falls : FallsTo above (bytes_of content.version level t)
 
--- The root is found, but for a failed read.
-pub root_place : {T : Type 0} (stands : ChunkFile → T → ℕ → ℕ → Type 0) {content : Content} →
-    IsLawful content → {version : Version} → version ≡ content.version →
-    (found : Result T RootFault) → FindsRoot stands version (chunk_file content) found →
-    IsOrFails (IsTreePlace stands content (root_level content) (root_tree content)) OnlyRead found
-root_place stands {content = content} f same (Ok place) is = record {
-  number = length (chunk_file content).chunks - 1;
-  from = 0;
-  stands_there = is.1;
-  at = root_at content;
+-- So is the root.
+pub root_due : RootIsTree → {content : Content} → IsLawful content → IsTopDue content
+    (root_reference (sha512_cut content.bits) content.version content.pairs) None
+    (length (chunk_file content).chunks - 1) 0
+root_due root_tree_is {content = content} f = record {
+  level = root_level content;
+  t = root_tree content;
+  below = root_tree_is content.version content.bits content.pairs f.lawful f.rising;
+  named = refl;
+  stands = root_at content;
+  falls = tt;
 }
-root_place stands f same (Err fault) (inl only) = only
-root_place stands f same (Err fault) (inr told) =
-    absurd (some_none (sym told ∙ no_file_fault f same))
 
-module _ {T : Type 0} (stands : ChunkFile → T → ℕ → ℕ → Type 0) (content : Content) where
-  -- A node of which a child of this level was sought stands where it stood.
-  abbrev pub StaysIn : ℕ → T → T → Type 0
-  StaysIn level old new = (n from : ℕ) → stands (chunk_file content) old n from →
-      level ≡ level_of (nth_in (chunk_file content) n) - 1 → stands (chunk_file content) new n from
+module _ {content : Content} {reference : List ℕ} {above : Option ℕ} {number from : ℕ}
+    (due : IsTopDue content reference above number from) where
+  abbrev pub there : List ℕ
+  there = nth_in (chunk_file content) number
 
-  -- And its child of this number was found, or not.
-  abbrev pub FindsIn : ℕ → ℕ → T → Result T RootFault → Type 0
-  FindsIn level number old found = (n from : ℕ) → stands (chunk_file content) old n from →
-      level ≡ level_of (nth_in (chunk_file content) n) - 1 →
-      FindsChild stands (chunk_file content) level from number found
+  pub top_there : there ≡ bytes_of content.version due.level due.t
+  top_there = top_is due.stands
 
-  -- The chunk of a tree is of the tree's level.
-  pub level_there : {level : ℕ} {t : Tree level} {place : T} →
-      (p : IsTreePlace stands content level t place) →
-      level_of (nth_in (chunk_file content) p.number) ≡ level
-  level_there {level = level} {t = t} p =
-      ap level_of (top_is p.at) ∙ level_is content.version level t
+  pub level_there : level_of there ≡ due.level
+  level_there = ap level_of top_there ∙ level_is content.version due.level due.t
 
-  lower : {level : ℕ} {ts : List (Tree level)} {place : T} →
-      (p : IsTreePlace stands content (suc level) ts place) →
-      level ≡ level_of (nth_in (chunk_file content) p.number) - 1
-  lower p = omega (arith, level_there p)
+  module _ (read : TopIsRead content.version) where
+    pub entries_there : kind_of content.version there ≡
+        entries_below content.version due.level due.t
+    entries_there = ap (kind_of content.version) top_there ∙
+        (read (chunks_of content) due.level due.t due.below).1
 
-  -- So a tree whose child was sought stands there still.
-  pub node_place : {level : ℕ} {ts : List (Tree level)} {old new : T} → StaysIn level old new →
-      IsTreePlace stands content (suc level) ts old → IsTreePlace stands content (suc level) ts new
-  node_place stays p = record {
-    number = p.number;
-    from = p.from;
-    stands_there = stays p.number p.from p.stands_there (lower p);
-    at = p.at;
-  }
-
-  -- The child is found, but for a failed read.
-  pub child_place : {level number : ℕ} {ts : List (Tree level)} {t : Tree level} {old : T} →
-      (found : Result T RootFault) → FindsIn level number old found →
-      IsTreePlace stands content (suc level) ts old → IsChildNumber level ts number t →
-      IsOrFails (IsTreePlace stands content level t) OnlyRead found
-  child_place {level = level} {number = number} {t = t} found finds p at =
-      there found (finds p.number p.from p.stands_there (lower p))
-    where
-      there : (found : Result T RootFault) →
-          FindsChild stands (chunk_file content) level p.from number found →
-          IsOrFails (IsTreePlace stands content level t) OnlyRead found
-      there (Ok place) is = record {
-        number = is.0;
-        from = is.1;
-        stands_there = is.2;
-        at = tree_found (child_among p.at at) is.3 is.4;
-      }
-      there (Err fault) (inl only) = only
-      there (Err fault) (inr none) = absurd (none.1 _ (top_nth (child_among p.at at)))
-
--- ---- of a source
-
--- Where it goes over still what it went over, it has still the trees that it had.
-pub has_still : {S : Type 0} {goes_over : S → ChunkFile → Type 0} {old new : S}
-    {content : Content} → GoesOverStill goes_over old new → GoesOverTree goes_over old content →
-    GoesOverTree goes_over new content
-has_still {content = content} still has =
-    record { lawful = has.lawful; goes = still (chunk_file content) has.goes }
+    -- Nothing is wrong with it.
+    pub no_fault_there : (fault : RootFault) →
+        IsFaultOfChunk content.version reference above there number fault → ⊥
+    no_fault_there fault flawed = no_flaw content.version reference above there flawed.0
+        (ap reference_of top_there ∙ sym due.named)
+        (rw top_there (read (chunks_of content) due.level due.t due.below).0)
+        (subst (FallsTo above) (sym top_there) due.falls) flawed.1

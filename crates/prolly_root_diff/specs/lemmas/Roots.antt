@@ -1,40 +1,132 @@
--- Walks that begin at the roots of lawful trees.
-use Rattle.std.proofs.Common.{◌≡◌, ℕ, List, [], ◌∷◌, map, refl, sym, ap, ◌∙◌, subst}
-use Rattle.std.specs.List.{AllByRecursion}
+-- Walks that begin at a root.
+use Rattle.std.proofs.Common.{◌≡◌, ◌⊎◌, ℕ, inl, inr, List, [], ◌∷◌, refl, sym, ap, subst}
 use Rattle.prolly_look_up.specs.Content.{Content}
 use Rattle.prolly_entry.specs.Cut.{sha512_cut}
+use Rattle.prolly_entry.specs.lemmas.Lists.{no_cons}
 use Rattle.prolly_entry.specs.declared.version.Version.{Version}
 use Rattle.prolly_tree.specs.File.{root_reference}
-use Rattle.prolly_root_diff.specs.LeafWalk.{IsLeafWalk, LeafWalk, WalksIn}
-use Rattle.prolly_root_diff.specs.Sides.{AreLastBelow, AreSiblingsOf, IsAtRoot, IsSideOf}
+use Rattle.prolly_root.specs.ChunkFile.{ChunkFile, IsLawful, chunk_file}
+use Rattle.prolly_root.specs.RootFault.{MayFail}
+use Rattle.prolly_root.specs.declared.root_fault.RootFault.{RootFault}
+use Rattle.prolly_root_diff.specs.DueTrees.{IsAtRoot, IsWholeTree, all_due}
+use Rattle.prolly_root_diff.specs.FileWalks.{IsWalkFault, StopsInNew, StopsInOld, new_steps}
+use Rattle.prolly_root_diff.specs.FileWalks.{old_steps}
+use Rattle.prolly_root_diff.specs.FirstFault.{ComesBy, DueAt, LawfulFilesAreWalked, MayStopWith}
+use Rattle.prolly_root_diff.specs.FirstFault.{TreeStep, tree_at}
+use Rattle.prolly_root_diff.specs.Places.{AllStand, StandBelow}
+use Rattle.prolly_root_diff.specs.Sides.{left_of}
+use Rattle.prolly_root_diff.specs.Walks.{Leads, at_roots}
+use Rattle.prolly_root_diff.specs.declared.fault.RootDiffFault.TheVariants as faults
 use Rattle.prolly_root_diff.specs.declared.side.Side.{Side}
-use Rattle.prolly_root.specs.ChunkFile.{ChunkFile}
+use Rattle.prolly_root_diff.specs.declared.siblings.Siblings.{Siblings}
 
--- What a walk keeps of a tree at its beginning is so of any content with this root.
-pub begins_in : {T : Type 0} (stands_at : ChunkFile → T → ℕ → ℕ → Type 0)
-    (content : Content) (root : List ℕ) (side : Side T) → IsAtRoot root side →
-    root ≡ root_reference (sha512_cut content.bits) content.version content.pairs →
-    IsSideOf stands_at content side
-begins_in stands_at content root side at is =
-    subst (AllByRecursion (AreSiblingsOf stands_at content)) (sym at.one) (
-      subst (AreLastBelow stands_at content
-          (at.whole.next.0 ∷ map (λ r. r.0) at.whole.behind.items)) (sym at.top)
-          (ap (λ rs. at.whole.next.0 ∷ map (λ r. r.0) rs) at.alone ∙ ap (λ r. r ∷ []) (at.next ∙ is)),
-      tt,
+-- Where the whole tree is due, it is due at the root.
+pub whole_stands : {T : Type 0} (stands : ChunkFile → T → ℕ → ℕ → Type 0) (file : ChunkFile)
+    (root : List ℕ) (due : List (Siblings T)) → IsWholeTree root due →
+    AllStand stands file due (tree_at root)
+whole_stands stands file root due w = subst (λ ss. AllStand stands file ss (tree_at root))
+    (sym w.one) (
+      tree_at root,
+      [],
+      refl,
+      subst (λ p. StandBelow stands file p w.whole.next w.whole.behind.items (tree_at root))
+          (sym w.top) (w.alone, ap tree_at (sym w.next)),
+      refl,
     )
 
--- So is what a walk over the leaves keeps.
-pub leaves_begin_in : {T : Type 0} (stands_at : ChunkFile → T → ℕ → ℕ → Type 0)
-    (content : Content) (version : Version) (root : List ℕ) (walk : LeafWalk T) →
-    IsLeafWalk version root walk →
+-- Nothing stops it in the file of a lawful content.
+pub lawful_only : LawfulFilesAreWalked → {version : Version} {content : Content} → IsLawful content →
+    version ≡ content.version → {root : List ℕ} →
     root ≡ root_reference (sha512_cut content.bits) content.version content.pairs →
-    WalksIn stands_at content walk
-leaves_begin_in stands_at content version root walk begun is =
-    begins_in stands_at content root (record { leaf = []; due = walk.due }) (record {
-      whole = begun.at.whole;
-      none = refl;
-      one = begun.at.one;
-      next = begun.at.next;
-      alone = begun.at.alone;
-      top = begun.at.top;
-    }) is
+    (steps : List TreeStep) {due : List DueAt} {fault : RootFault} →
+    ComesBy version (chunk_file content) steps (tree_at root) due →
+    MayStopWith version (chunk_file content) due fault → MayFail fault
+lawful_only law lawful same is steps comes (inl may) = may
+lawful_only law {content = content} lawful same is steps {due = due} {fault = fault} comes
+    (inr stops) = absurd (law content steps due fault lawful (rw (same, is) at comes)
+    (rw same at stops))
+
+-- Where nothing is due, nothing stands due.
+pub none_stands : {T : Type 0} (stands : ChunkFile → T → ℕ → ℕ → Type 0) (file : ChunkFile)
+    (due : List (Siblings T)) (there : List DueAt) → all_due due ≡ [] →
+    AllStand stands file due there → there ≡ []
+none_stands stands file [] there none st = st
+none_stands stands file (s ∷ ss) there none st = no_cons _ _ none
+
+-- ---- walks over two trees
+
+module _ {S T R U : Type 0} (goes_over : S → ChunkFile → Type 0)
+    (stands : ChunkFile → T → ℕ → ℕ → Type 0) (goes_over' : R → ChunkFile → Type 0)
+    (stands' : ChunkFile → U → ℕ → ℕ → Type 0) (version : Version) (start : S) (start' : R)
+    (root root' : List ℕ) (before end : Side T) (after end' : Side U) (at_root : IsAtRoot root before)
+    (at_root' : IsAtRoot root' after)
+    (lefts : (record { before = left_of before; after = left_of after }) ≡ at_roots root root')
+    (fault : RootFault) where
+  -- What stops a walk from the roots is wrong first with the two files.
+  pub old_told : StopsInOld goes_over stands goes_over' stands' version start start' before end after
+      end' fault → (file file' : ChunkFile) → goes_over start file → goes_over' start' file' →
+      MayFail fault ⊎ IsWalkFault version file file' root root' (faults.Old fault)
+  old_told s file file' goes goes' = so (s.stops file (tree_at root) goes
+      (whole_stands stands file root before.due.items at_root.at))
+      (s.comes' file' (tree_at root') goes'
+      (whole_stands stands' file' root' after.due.items at_root'.at))
+    where
+      so : ((due : List DueAt) × ComesBy version file (old_steps s.way) (tree_at root) due ×
+          MayStopWith version file due fault) → ((due : List DueAt) ×
+          ComesBy version file' (new_steps s.way) (tree_at root') due ×
+          AllStand stands' file' end'.due.items due) →
+          MayFail fault ⊎ IsWalkFault version file file' root root' (faults.Old fault)
+      so (due, comes, inl may) on = inl may
+      so (due, comes, inr stops) on = inr (record {
+        way = s.way;
+        lefts = s.lefts;
+        lead = subst (λ l. Leads version l s.way s.lefts) lefts s.lead;
+        due = due;
+        due' = on.0;
+        comes = comes;
+        comes' = on.1;
+        stops = (s.onward, stops);
+      })
+
+  pub new_told : StopsInNew goes_over stands goes_over' stands' version start start' before end after
+      end' fault → (file file' : ChunkFile) → goes_over start file → goes_over' start' file' →
+      MayFail fault ⊎ IsWalkFault version file file' root root' (faults.New fault)
+  new_told s file file' goes goes' = so (s.comes file (tree_at root) goes
+      (whole_stands stands file root before.due.items at_root.at))
+      (s.stops file' (tree_at root') goes'
+      (whole_stands stands' file' root' after.due.items at_root'.at))
+    where
+      so : ((due : List DueAt) × ComesBy version file (old_steps s.way) (tree_at root) due ×
+          AllStand stands file end.due.items due) → ((due : List DueAt) ×
+          ComesBy version file' (new_steps s.way) (tree_at root') due ×
+          MayStopWith version file' due fault) →
+          MayFail fault ⊎ IsWalkFault version file file' root root' (faults.New fault)
+      so on (due, comes, inl may) = inl may
+      so on (due, comes, inr stops) = inr (record {
+        way = s.way;
+        lefts = s.lefts;
+        lead = subst (λ l. Leads version l s.way s.lefts) lefts s.lead;
+        due = on.0;
+        due' = due;
+        comes = on.1;
+        comes' = comes;
+        stops = (s.onward, stops);
+      })
+
+  pub old_lawful : LawfulFilesAreWalked → StopsInOld goes_over stands goes_over' stands' version start
+      start' before end after end' fault → (content : Content) → IsLawful content →
+      goes_over start (chunk_file content) → version ≡ content.version →
+      root ≡ root_reference (sha512_cut content.bits) content.version content.pairs → MayFail fault
+  old_lawful law s content lawful goes same is =
+      let there = s.stops (chunk_file content) (tree_at root) goes
+      (whole_stands stands (chunk_file content) root before.due.items at_root.at) in
+      lawful_only law lawful same is (old_steps s.way) there.1 there.2
+
+  pub new_lawful : LawfulFilesAreWalked → StopsInNew goes_over stands goes_over' stands' version start
+      start' before end after end' fault → (content : Content) → IsLawful content →
+      goes_over' start' (chunk_file content) → version ≡ content.version →
+      root' ≡ root_reference (sha512_cut content.bits) content.version content.pairs → MayFail fault
+  new_lawful law s content lawful goes same is =
+      let there = s.stops (chunk_file content) (tree_at root') goes
+      (whole_stands stands' (chunk_file content) root' after.due.items at_root'.at) in
+      lawful_only law lawful same is (new_steps s.way) there.1 there.2

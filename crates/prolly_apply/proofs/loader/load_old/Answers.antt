@@ -1,5 +1,8 @@
-use Rattle.prolly_root.specs.lemmas.LawfulFiles.{has_still}
+use Rattle.prolly_apply.proofs.Loading.{leaves_told}
 use Rattle.prolly_apply.proofs.loader.load_old.Goals as goal
 
-pub returns-clause-keeps : goal.returns-clause-keeps
-returns-clause-keeps g c content has = has_still c.send_leaves.ensures.asked.0 has
+pub returns-clause-first : goal.returns-clause-first
+returns-clause-first g c = leaves_told (g.S.ChunkSource.goes_over c.args.source) c.args.version
+    c.args.root.now.0 c.send_leaves.result c.err-fault.result c.err-fault.ensures.value
+    c.send_leaves.ensures.all
+    c.send_leaves.ensures.first

@@ -1,7 +1,11 @@
 use Rattle.std.proofs.Common.{◌∙◌, refl, sym, subst}
-use Rattle.prolly_root.specs.lemmas.LawfulFiles.{has_still}
+use Rattle.std.proofs.lemmas.Result.{err_from_is_err_and}
+use Rattle.prolly_root_diff.specs.FirstFault.{MayStopBehind, tree_at}
+use Rattle.prolly_root_diff.specs.lemmas.WalkParts.{none_read, stop_on}
+use Rattle.prolly_root_diff.specs.lemmas.Roots.{whole_stands}
 use Rattle.prolly_root_diff.specs.LeafWalk.{due_of_walk}
-use Rattle.prolly_apply.proofs.Loading.{IsLoading, all_loaded, none_yet, of_each, one_sent, stopped}
+use Rattle.prolly_apply.proofs.Loading.{IsLoading, all_loaded, all_read, none_yet, of_each, one_sent, reads_further}
+use Rattle.prolly_apply.proofs.Loading.{stopped}
 use Rattle.prolly_apply.proofs.loader.send_leaves.Goals as goal
 
 pub returns-in_err-leaves-clause-err : goal.returns-in_err-leaves-clause-err
@@ -43,9 +47,47 @@ loop-leaves-preserved g c =
       link = c.in_ok-send_leaf.ensures.link ∙ before.link;
       still = λ file goes. asked.0 file (before.still file goes);
       failures = asked.1 ∙ before.failures;
-      lawful = λ content has same is. next.lawful content (has_still before.still has)
-          (before.version ∙ same) (before.lawful content has same is);
+      reads = λ file goes.
+          let on = before.reads file goes in
+          reads_further g.S.ChunkSource.stands file c.args.version c.loop-leaves.leaves.version
+          before.version on.1 c.next_leaf.new.leaves.due.items c.in_ok-leaf.field-0
+          (next.tells file on.0 (before.still file goes) on.2);
     }
+
+pub loop-leaves-init : goal.loop-leaves-init
+loop-leaves-init g c = record {
+  version = c.in_ok-leaves.ensures.version_is;
+  goes = c.in_ok-leaves.ensures.goes;
+  loading = none_yet c.args.version c.args.root.now.0 (g.O.Out.sent c.args.out.now) _
+      c.in_ok-leaves.ensures.due;
+  link = refl;
+  still = λ file goes. goes;
+  failures = refl;
+  reads = λ file goes. (
+    tree_at c.args.root.now.0,
+    none_read (tree_at c.args.root.now.0),
+    whole_stands g.S.ChunkSource.stands file c.args.root.now.0 _ c.in_ok-leaves.ensures.at,
+  );
+}
+
+pub returns-in_err-leaf-clause-first : goal.returns-in_err-leaf-clause-first
+returns-in_err-leaf-clause-first g c =
+    let before = c.loop-leaves.invariant in
+    let p = err_from_is_err_and c.from_residual-in_err-leaf.result
+    c.from_residual-in_err-leaf.ensures.1 in
+    rw (p.1, p.2) (λ file goes.
+    let on = before.reads file goes in
+    stop_on on.1 (subst (λ v. MayStopBehind v file on.0 c.in_err-leaf.field-0.0) before.version
+    (c.in_err-leaf.ensures.tells file on.0 (before.still file goes) on.2)))
+
+pub returns-clause-all : goal.returns-clause-all
+returns-clause-all g c file goes =
+    let before = c.loop-leaves.invariant in
+    let on = before.reads file goes in
+    all_read g.S.ChunkSource.stands file c.args.version c.loop-leaves.leaves.version before.version
+    on.1 c.next_leaf.new.leaves.due.items c.in_ok-leaf.field-0
+    (c.in_ok-leaf.ensures.tells file on.0 (before.still file goes) on.2) (due_of_walk
+    c.loop-leaves.leaves) c.in_default.is c.in_ok-leaf.ensures.gives
 
 pub returns-clause-ok : goal.returns-clause-ok
 returns-clause-ok g c =

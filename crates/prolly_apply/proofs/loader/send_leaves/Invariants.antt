@@ -1,10 +1,10 @@
-use Rattle.std.proofs.Common.{◌≡◌, None}
-use Rattle.prolly_look_up.specs.Content.{Content}
-use Rattle.prolly_root.specs.ChunkSource.{GoesOverStill, GoesOverTree}
-use Rattle.prolly_entry.specs.Cut.{sha512_cut}
-use Rattle.prolly_root_diff.specs.LeafWalk.{WalksIn, due_of_walk}
+use Rattle.std.proofs.Common.{◌≡◌, List, None}
+use Rattle.prolly_root.specs.ChunkFile.{ChunkFile}
+use Rattle.prolly_root.specs.ChunkSource.{GoesOverStill}
+use Rattle.prolly_root_diff.specs.FirstFault.{DueAt, ReadsOn, tree_at}
+use Rattle.prolly_root_diff.specs.LeafWalk.{due_of_walk}
+use Rattle.prolly_root_diff.specs.Places.{AllStand}
 use Rattle.prolly_root_diff.specs.ToGo.{weights}
-use Rattle.prolly_tree.specs.File.{root_reference}
 use Rattle.prolly_apply.proofs.Loading.{IsLoading}
 use Rattle.prolly_apply.proofs.loader.send_leaves.Given as goal
 
@@ -17,10 +17,9 @@ invariant-loop-leaves g l = record {
   link : g.O.Out.link l.out ≡ g.O.Out.link l.fn.out;
   still : GoesOverStill g.S.ChunkSource.goes_over l.fn.source l.source;
   failures : g.S.ChunkSource.failures l.source ≡ g.S.ChunkSource.failures l.fn.source;
-  lawful : (content : Content) → GoesOverTree g.S.ChunkSource.goes_over l.fn.source content →
-      l.version ≡ content.version →
-      l.root.0 ≡ root_reference (sha512_cut content.bits) content.version content.pairs →
-      WalksIn g.S.ChunkSource.stands content l.leaves;
+  reads : (file : ChunkFile) → g.S.ChunkSource.goes_over l.fn.source file → (now : List DueAt) ×
+      ReadsOn l.version file (tree_at l.root.0) now ×
+      AllStand g.S.ChunkSource.stands file l.leaves.due.items now;
 }
 
 abbrev pub decreases-loop-leaves : goal.decreases-loop-leaves

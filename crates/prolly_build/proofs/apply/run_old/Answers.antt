@@ -1,5 +1,4 @@
 use Rattle.std.proofs.Common.{ap, sym, subst, ◌∙◌, arith}
-use Rattle.prolly_root.specs.ChunkSource.{GoesOverTree}
 use Rattle.prolly_build.specs.GivenBack.{IsGivenBack}
 use Rattle.prolly_build.proofs.ApplyOutcomes.{changes_link, halted_outcome, lent_outcome}
 use Rattle.prolly_build.proofs.GivenBack.{given_back, gone}
@@ -42,13 +41,13 @@ returns-in-Ok g c =
     let run = at_ok _ _ _ c.in-Ok.is c.run_scoped-ran.ensures.run in
     let written = at_ok _ _ _ c.in-Ok.is c.run_scoped-ran.ensures.hands_on.written in
     let answered = lent_outcome g.S.Source.seen
-    (GoesOverTree g.D.ChunkSource.goes_over c.args.old.base.middle.source)
+    (g.D.ChunkSource.goes_over c.args.old.base.middle.source)
     c.args.lent.now.config _ c.args.sources.now.items c.run_scoped-ran.result.1.items _ _ _
     source.left_are_bytes c.requires.lawful
     (omega (arith, c.requires.files, c.args.sources.now.ok.0)) _ c.requires.levels _
     (ap (λ v. v.items) c.replace-taken.ensures.value) _ c.in-Ok.ran.out run _ c.requires.cut
-    (GoesOverTree g.D.ChunkSource.goes_over) g.D.ChunkSource.failures _
-    c.args.old.base.middle.source (λ content h. h)
+    g.D.ChunkSource.goes_over g.D.ChunkSource.failures _
+    c.args.old.base.middle.source (λ file h. h) c.walks_tell_one_fault.ensures.lawful
     c.requires.version _ _ _ _ _ _ run.made.cuts _ _ _ _ run.made.passes _ _ run.made.fed _ _
     (omega (arith, c.args.sources.now.ok.0)) c.requires.changes _
     (c.end_old.ensures.ended _ written.written) in
@@ -56,9 +55,9 @@ returns-in-Ok g c =
       outcome = answered.outcome;
       counted = answered.counted;
       given_back = subst
-          (λ s. IsGivenBack (GoesOverTree g.D.ChunkSource.goes_over) g.D.ChunkSource.failures
+          (λ s. IsGivenBack g.D.ChunkSource.goes_over g.D.ChunkSource.failures
           c.args.old.base.middle.source s c.end_old.result.answer) (sym c.end_old.ensures.source)
-          (given_back (GoesOverTree g.D.ChunkSource.goes_over) g.D.ChunkSource.failures _ _ _ _ _ _
+          (given_back g.D.ChunkSource.goes_over g.D.ChunkSource.failures _ _ _ _ _ _
           _
           run.made.passes _ _ _ _ _ _ _ _ _ _ c.in-Ok.ran.out run run.made.cuts _ _ _
           c.end_old.result.answer
@@ -73,5 +72,5 @@ returns-in-Err-clause-outcome g c =
 
 pub returns-in-Err-clause-given_back : goal.returns-in-Err-clause-given_back
 returns-in-Err-clause-given_back g c =
-    gone (GoesOverTree g.D.ChunkSource.goes_over) g.D.ChunkSource.failures
+    gone g.D.ChunkSource.goes_over g.D.ChunkSource.failures
     c.args.old.base.middle.source c.in-Err.halt c.fault.result c.fault.ensures

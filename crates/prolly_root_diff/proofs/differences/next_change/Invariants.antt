@@ -2,7 +2,8 @@ use Rattle.std.proofs.Common.{◌≡◌, ◌≤◌}
 use Rattle.std.specs.Option.{is_some}
 use Rattle.prolly_root_diff.specs.Notes.{AreNoted}
 use Rattle.prolly_root_diff.specs.Sides.{left_of}
-use Rattle.prolly_root_diff.specs.Walks.{GoesOn, Lefts, Moves}
+use Rattle.prolly_root_diff.specs.FileWalks.{HasStill, WalksOn}
+use Rattle.prolly_root_diff.specs.Walks.{Lefts, Moves}
 use Rattle.prolly_root_diff.specs.ToGo.{far}
 use Rattle.prolly_root_diff.proofs.differences.next_change.Given as goal
 
@@ -12,10 +13,10 @@ invariant-walk g l = record {
       (record { before = left_of l.before; after = left_of l.after });
   nearer : far (record { before = left_of l.before; after = left_of l.after }) ≤
       far (record { before = left_of l.fn.before; after = left_of l.fn.after });
-  old : GoesOn g.S.ChunkSource.goes_over g.S.ChunkSource.failures g.S.ChunkSource.stands l.version
-      l.fn.old l.old l.fn.before l.before;
-  new : GoesOn g.R.ChunkSource.goes_over g.R.ChunkSource.failures g.R.ChunkSource.stands l.version
-      l.fn.new l.new l.fn.after l.after;
+  old : HasStill g.S.ChunkSource.goes_over g.S.ChunkSource.failures l.fn.old l.old;
+  new : HasStill g.R.ChunkSource.goes_over g.R.ChunkSource.failures l.fn.new l.new;
+  walked : WalksOn g.S.ChunkSource.goes_over g.S.ChunkSource.stands g.R.ChunkSource.goes_over
+      g.R.ChunkSource.stands l.version l.fn.old l.fn.new l.fn.before l.before l.fn.after l.after;
   notes : is_some l.notes ≡ is_some l.fn.notes;
   noted : (from : Lefts) → AreNoted l.version from
       (record { before = left_of l.fn.before; after = left_of l.fn.after }) l.fn.notes →

@@ -1,11 +1,13 @@
-use Rattle.std.proofs.Common.{◌≡◌, ◌==◌, ◌<◌, ◌∙◌, [], ap, arith, length, rules, sym}
+use Rattle.std.proofs.Common.{◌≡◌, ◌==◌, ◌<◌, ◌∙◌, [], ap, arith, length, refl, rules, sym}
 use Rattle.std.proofs.lemmas.List.{nil_from_length}
+use Rattle.std.proofs.lemmas.Result.{err_from_is_err_and}
 use Rattle.prolly_look_up.specs.HeldPairs.{pairs_held}
-use Rattle.prolly_root.specs.lemmas.LawfulFiles.{has_still}
 use Rattle.prolly_root_diff.specs.DueTrees.{all_due}
 use Rattle.prolly_root_diff.proofs.Lists.{some_due}
 use Rattle.prolly_root_diff.proofs.LeafSteps.{gives_leaf, leaves_end, no_pairs, reads_lighter}
-use Rattle.prolly_root_diff.proofs.LeafSteps.{some_pairs, stay_on}
+use Rattle.prolly_root_diff.proofs.LeafSteps.{some_pairs, stay, stay_on}
+use Rattle.prolly_root_diff.specs.lemmas.WalkParts.{none_read}
+use Rattle.prolly_root_diff.proofs.FileSteps.{reads_more, stops_behind}
 use Rattle.prolly_root_diff.proofs.root_leaves.next_leaf.Goals as goal
 
 pub read_first-requires : goal.read_first-requires
@@ -37,6 +39,29 @@ returns-then-not-is_empty-clause-nearer g c = omega (
       c.in_ok-reference.reference.0 c.in_ok-reference.chunk.items c.in_ok-reference.ensures.reads,
 )
 
+pub returns-then-not-is_empty-clause-tells : goal.returns-then-not-is_empty-clause-tells
+returns-then-not-is_empty-clause-tells g c file old goes st =
+    let on = c.nodes.invariant.reads file old goes st in
+    reads_more g.S.ChunkSource.stands c.read_first.new.due.items on.1
+    (c.in_ok-reference.ensures.tells file on.0
+    (c.nodes.invariant.goes file goes) on.2)
+
+pub returns-in_err-reference-clause-tells : goal.returns-in_err-reference-clause-tells
+returns-in_err-reference-clause-tells g c file old goes st =
+    let on = c.nodes.invariant.reads file old goes st in
+    let p = err_from_is_err_and c.from_residual.result c.from_residual.ensures.1 in
+    rw (p.1, p.2) (stops_behind on.1 (c.in_err-reference.ensures.tells file on.0
+    (c.nodes.invariant.goes file goes) on.2))
+
+pub nodes-init : goal.nodes-init
+nodes-init g c = record {
+  stays = stay c.args.version (all_due c.args.due.now.items);
+  nearer = omega arith;
+  goes = λ file goes. goes;
+  failures = refl;
+  reads = λ file old goes st. (old, none_read old, st);
+}
+
 pub nodes-smaller : goal.nodes-smaller
 nodes-smaller g c = reads_lighter c.args.version (all_due c.nodes.due.items)
     (all_due c.read_first.new.due.items) c.in_ok-reference.reference.0
@@ -64,8 +89,9 @@ nodes-preserved g c =
       );
       goes = λ file goes. c.in_ok-reference.ensures.asked.0 file (before.goes file goes);
       failures = c.in_ok-reference.ensures.asked.1 ∙ before.failures;
-      lawful = λ content has same due. c.in_ok-reference.ensures.lawful content
-          (has_still before.goes has) same (before.lawful content has same due);
+      reads = λ file old goes st. let on = before.reads file old goes st in
+          reads_more g.S.ChunkSource.stands c.read_first.new.due.items on.1
+          (c.in_ok-reference.ensures.tells file on.0 (before.goes file goes) on.2);
     }
 
 pub returns-clause-gives : goal.returns-clause-gives

@@ -1,7 +1,9 @@
-use Rattle.std.proofs.Common.{◌≡◌, ◌≤◌}
-use Rattle.prolly_look_up.specs.Content.{Content}
-use Rattle.prolly_root.specs.ChunkSource.{GoesOverStill, GoesOverTree}
-use Rattle.prolly_root_diff.specs.DueTrees.{AreDueIn, all_due}
+use Rattle.std.proofs.Common.{◌≡◌, ◌≤◌, List}
+use Rattle.prolly_root.specs.ChunkFile.{ChunkFile}
+use Rattle.prolly_root.specs.ChunkSource.{GoesOverStill}
+use Rattle.prolly_root_diff.specs.DueTrees.{all_due}
+use Rattle.prolly_root_diff.specs.FirstFault.{DueAt, ReadsOn}
+use Rattle.prolly_root_diff.specs.Places.{AllStand}
 use Rattle.prolly_root_diff.specs.ToGo.{weights}
 use Rattle.prolly_root_diff.proofs.LeafSteps.{LeavesStay}
 use Rattle.prolly_root_diff.proofs.root_leaves.next_leaf.Given as goal
@@ -12,9 +14,9 @@ invariant-nodes g l = record {
   nearer : weights (all_due l.due.items) ≤ weights (all_due l.fn.due.items);
   goes : GoesOverStill g.S.ChunkSource.goes_over l.fn.source l.source;
   failures : g.S.ChunkSource.failures l.source ≡ g.S.ChunkSource.failures l.fn.source;
-  lawful : (content : Content) → GoesOverTree g.S.ChunkSource.goes_over l.fn.source content →
-      l.version ≡ content.version → AreDueIn g.S.ChunkSource.stands content l.fn.due.items →
-      AreDueIn g.S.ChunkSource.stands content l.due.items;
+  reads : (file : ChunkFile) (old : List DueAt) → g.S.ChunkSource.goes_over l.fn.source file →
+      AllStand g.S.ChunkSource.stands file l.fn.due.items old → (now : List DueAt) ×
+      ReadsOn l.version file old now × AllStand g.S.ChunkSource.stands file l.due.items now;
 }
 
 abbrev pub decreases-nodes : goal.decreases-nodes

@@ -2,7 +2,8 @@ use Rattle.std.proofs.Common.{rules}
 use Rattle.prolly_answer.specs.RootFaults.{MayRefuse}
 use Rattle.prolly_entry.specs.declared.version.Version.TheVariants.{Two}
 use Rattle.prolly_look_up.specs.Sought.Sought.{Number}
-use Rattle.prolly_answer.proofs.RootFaultSteps.{none_refused, not_opened, refuses_so}
+use Rattle.prolly_root.specs.lemmas.FirstFaults.{not_opened}
+use Rattle.prolly_answer.proofs.RootFaultSteps.{none_refused, refuses_so}
 use Rattle.prolly_entry.specs.declared.version.Version.TheVariants.{Two}
 use Rattle.prolly_root.specs.Reader.{way_of}
 use Rattle.prolly_answer.proofs.FoundByRoot.{pair_found}

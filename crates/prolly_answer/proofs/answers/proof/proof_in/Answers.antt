@@ -1,7 +1,8 @@
 use Rattle.std.proofs.Common.{rules}
 use Rattle.prolly_answer.specs.RootFaults.{MayRefuse}
 use Rattle.prolly_look_up.specs.Sought.Sought.{Key}
-use Rattle.prolly_answer.proofs.RootFaultSteps.{none_refused, not_opened, refuses_so}
+use Rattle.prolly_root.specs.lemmas.FirstFaults.{not_opened}
+use Rattle.prolly_answer.proofs.RootFaultSteps.{none_refused, refuses_so}
 use Rattle.prolly_answer.proofs.answers.proof.proof_in.Goals as goal
 
 pub returns-clause-refuses : goal.returns-clause-refuses

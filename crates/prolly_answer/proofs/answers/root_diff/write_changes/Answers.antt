@@ -1,10 +1,11 @@
 use Rattle.std.proofs.Common.{None, Some, ◌∙◌, subst, sym}
 use Rattle.prolly_root_diff.specs.Notes.{AreNoted}
 use Rattle.prolly_root_diff.specs.Walks.{Gives, at_roots, lefts_of}
-use Rattle.prolly_answer.specs.RootFaults.{RefusesNone}
+use Rattle.prolly_answer.specs.RootDiffs.{MayStopInNew, MayStopInOld}
 use Rattle.prolly_fault.specs.declared.fault.Fault.TheVariants.{RootNew, RootOld}
 use Rattle.prolly_answer.proofs.RootDiffSteps.{WrotePart, WroteSoFar, all_told, begins, gave_so_far}
-use Rattle.prolly_answer.proofs.RootDiffSteps.{goes_on, keeps_first, keeps_on, may_new, may_old}
+use Rattle.prolly_answer.proofs.RootDiffSteps.{goes_on, refuses_new, refuses_old, walks_first}
+use Rattle.prolly_answer.proofs.RootDiffSteps.{walks_further}
 use Rattle.prolly_answer.proofs.RootDiffSteps.{memory_stopped, memory_tells, new_memory, new_write}
 use Rattle.prolly_answer.proofs.RootDiffSteps.{old_memory, old_write, output_new, output_old, told_reads}
 use Rattle.prolly_answer.proofs.RootDiffSteps.{unwritten, walk_stopped, walk_tells_new}
@@ -18,12 +19,11 @@ walk-init g c = record {
       c.args.diff.now.new.now.0 c.args.diff.now.form c.args.diff.now.stat
       (lefts_of c.in-Ok.walk) c.in-Ok.ensures.begun.lefts c.in-Ok.walk.notes c.in-Ok.ensures.noted
       c.none-counts.result c.none-counts.ensures c.args.sink.now;
-  old = keeps_first g.S.ChunkSource.goes_over g.S.ChunkSource.failures g.S.ChunkSource.stands
-      c.args.diff.now.version c.args.diff.now.old.now.0 c.args.old.now
-      c.in-Ok.walk.before c.in-Ok.ensures.begun.before;
-  new = keeps_first g.R.ChunkSource.goes_over g.R.ChunkSource.failures g.R.ChunkSource.stands
-      c.args.diff.now.version c.args.diff.now.new.now.0 c.args.new.now
-      c.in-Ok.walk.after c.in-Ok.ensures.begun.after;
+  walking = walks_first g.S.ChunkSource.goes_over g.S.ChunkSource.failures
+      g.S.ChunkSource.stands g.R.ChunkSource.goes_over g.R.ChunkSource.failures
+      g.R.ChunkSource.stands c.args.diff.now.version c.args.diff.now.old.now.0
+      c.args.diff.now.new.now.0 c.args.old.now c.args.new.now
+      c.in-Ok.walk c.in-Ok.ensures.begun;
 }
 
 pub returns-in-Ok-None-clause-ended : goal.returns-in-Ok-None-clause-ended
@@ -40,28 +40,32 @@ returns-in-Ok-None-clause-ended g c = all_told g.W.Sink.seen c.args.diff.now.ver
     c.walk.invariant.gave.noted)))
     (subst (λ v. Gives v (lefts_of c.walk.walk) None (lefts_of c.next.new.self))
     c.walk.invariant.version (rw c.in-Ok-None.field-0-is at c.in-Ok-None.ensures.gives))
-    (RefusesNone (g.S.ChunkSource.goes_over c.args.old.now) c.args.diff.now.version
-    c.args.diff.now.old.now.0)
-    (RefusesNone (g.R.ChunkSource.goes_over c.args.new.now) c.args.diff.now.version
+    (MayStopInOld (g.S.ChunkSource.goes_over c.args.old.now)
+    (g.R.ChunkSource.goes_over c.args.new.now) c.args.diff.now.version c.args.diff.now.old.now.0
+    c.args.diff.now.new.now.0)
+    (MayStopInNew (g.S.ChunkSource.goes_over c.args.old.now)
+    (g.R.ChunkSource.goes_over c.args.new.now) c.args.diff.now.version c.args.diff.now.old.now.0
     c.args.diff.now.new.now.0)
     (WrotePart g.W.Sink.seen c.args.diff.now.form c.args.sink.now c.walk.sink) c.told_of.result
     c.told_of.ensures.changed c.told_of.ensures.line c.told_of.ensures.err
 
 pub returns-in-Ok-None-clause-reads_old : goal.returns-in-Ok-None-clause-reads_old
 returns-in-Ok-None-clause-reads_old g c = told_reads RootOld old_write _ _ old_memory
-    (c.in-Ok-None.ensures.old.still.failures_are ∙ c.walk.invariant.old.still.failures_are)
+    (c.in-Ok-None.ensures.old.failures_are ∙ c.walk.invariant.walking.still.failures_are)
     c.told_of.result c.told_of.ensures.err
 
 pub returns-in-Ok-None-clause-reads_new : goal.returns-in-Ok-None-clause-reads_new
 returns-in-Ok-None-clause-reads_new g c = told_reads RootNew new_write _ _ new_memory
-    (c.in-Ok-None.ensures.new.still.failures_are ∙ c.walk.invariant.new.still.failures_are)
+    (c.in-Ok-None.ensures.new.failures_are ∙ c.walk.invariant.walking.still'.failures_are)
     c.told_of.result c.told_of.ensures.err
 
 pub returns-in-Err-count-clause-ended : goal.returns-in-Err-count-clause-ended
 returns-in-Err-count-clause-ended g c = memory_stopped
-    (RefusesNone (g.S.ChunkSource.goes_over c.args.old.now) c.args.diff.now.version
-    c.args.diff.now.old.now.0)
-    (RefusesNone (g.R.ChunkSource.goes_over c.args.new.now) c.args.diff.now.version
+    (MayStopInOld (g.S.ChunkSource.goes_over c.args.old.now)
+    (g.R.ChunkSource.goes_over c.args.new.now) c.args.diff.now.version c.args.diff.now.old.now.0
+    c.args.diff.now.new.now.0)
+    (MayStopInNew (g.S.ChunkSource.goes_over c.args.old.now)
+    (g.R.ChunkSource.goes_over c.args.new.now) c.args.diff.now.version c.args.diff.now.old.now.0
     c.args.diff.now.new.now.0)
     c.args.diff.now.version c.args.diff.now.old.now.0 c.args.diff.now.new.now.0
     (WroteSoFar g.W.Sink.seen c.args.diff.now.form c.args.sink.now c.walk.sink)
@@ -74,18 +78,20 @@ returns-in-Err-count-clause-ended g c = memory_stopped
 pub returns-in-Err-count-clause-reads_old : goal.returns-in-Err-count-clause-reads_old
 returns-in-Err-count-clause-reads_old g c = memory_tells RootOld old_write _ _ c.in-Err-count.fault
     c.in-Err-count.ensures.err old_memory
-    (c.in-Ok-Some.ensures.old.still.failures_are ∙ c.walk.invariant.old.still.failures_are)
+    (c.in-Ok-Some.ensures.old.failures_are ∙ c.walk.invariant.walking.still.failures_are)
 
 pub returns-in-Err-count-clause-reads_new : goal.returns-in-Err-count-clause-reads_new
 returns-in-Err-count-clause-reads_new g c = memory_tells RootNew new_write _ _ c.in-Err-count.fault
     c.in-Err-count.ensures.err new_memory
-    (c.in-Ok-Some.ensures.new.still.failures_are ∙ c.walk.invariant.new.still.failures_are)
+    (c.in-Ok-Some.ensures.new.failures_are ∙ c.walk.invariant.walking.still'.failures_are)
 
 pub returns-in-Err-clause-ended : goal.returns-in-Err-clause-ended
 returns-in-Err-clause-ended g c = rw c.fault_of.ensures (walk_stopped
-    (RefusesNone (g.S.ChunkSource.goes_over c.args.old.now) c.args.diff.now.version
-    c.args.diff.now.old.now.0)
-    (RefusesNone (g.R.ChunkSource.goes_over c.args.new.now) c.args.diff.now.version
+    (MayStopInOld (g.S.ChunkSource.goes_over c.args.old.now)
+    (g.R.ChunkSource.goes_over c.args.new.now) c.args.diff.now.version c.args.diff.now.old.now.0
+    c.args.diff.now.new.now.0)
+    (MayStopInNew (g.S.ChunkSource.goes_over c.args.old.now)
+    (g.R.ChunkSource.goes_over c.args.new.now) c.args.diff.now.version c.args.diff.now.old.now.0
     c.args.diff.now.new.now.0)
     c.args.diff.now.version c.args.diff.now.old.now.0 c.args.diff.now.new.now.0
     (WroteSoFar g.W.Sink.seen c.args.diff.now.form c.args.sink.now c.walk.sink)
@@ -94,27 +100,33 @@ returns-in-Err-clause-ended g c = rw c.fault_of.ensures (walk_stopped
     c.args.diff.now.new.now.0 c.args.diff.now.form c.args.diff.now.stat
     (lefts_of c.walk.walk) c.walk.walk.notes c.walk.changed c.walk.counts c.args.sink.now
     c.walk.sink c.walk.invariant.gave)
-    (may_old g.S.ChunkSource.goes_over g.S.ChunkSource.failures g.S.ChunkSource.stands
-    c.args.diff.now.version c.args.diff.now.old.now.0 c.args.old.now
-    c.walk.walk.version c.walk.invariant.version c.walk.old c.next.new.old c.walk.walk.before
-    c.next.new.self.before c.in-Err.fault c.walk.invariant.old c.in-Err.ensures.old)
-    (may_new g.R.ChunkSource.goes_over g.R.ChunkSource.failures g.R.ChunkSource.stands
-    c.args.diff.now.version c.args.diff.now.new.now.0 c.args.new.now
-    c.walk.walk.version c.walk.invariant.version c.walk.new c.next.new.new c.walk.walk.after
-    c.next.new.self.after c.in-Err.fault c.walk.invariant.new c.in-Err.ensures.new))
+    (refuses_old g.S.ChunkSource.goes_over g.S.ChunkSource.failures
+    g.S.ChunkSource.stands g.R.ChunkSource.goes_over g.R.ChunkSource.failures
+    g.R.ChunkSource.stands c.args.diff.now.version c.args.diff.now.old.now.0
+    c.args.diff.now.new.now.0 c.args.old.now c.args.new.now
+    c.walk.walk.version c.walk.invariant.version c.walk.old c.next.new.old c.walk.new
+    c.next.new.new c.walk.walk.before c.next.new.self.before c.walk.walk.after
+    c.next.new.self.after c.walk.invariant.walking
+    c.walks_tell_one_fault.ensures.lawful c.in-Err.fault c.in-Err.ensures.files)
+    (refuses_new g.S.ChunkSource.goes_over g.S.ChunkSource.failures
+    g.S.ChunkSource.stands g.R.ChunkSource.goes_over g.R.ChunkSource.failures
+    g.R.ChunkSource.stands c.args.diff.now.version c.args.diff.now.old.now.0
+    c.args.diff.now.new.now.0 c.args.old.now c.args.new.now
+    c.walk.walk.version c.walk.invariant.version c.walk.old c.next.new.old c.walk.new
+    c.next.new.new c.walk.walk.before c.next.new.self.before c.walk.walk.after
+    c.next.new.self.after c.walk.invariant.walking
+    c.walks_tell_one_fault.ensures.lawful c.in-Err.fault c.in-Err.ensures.files))
 
 pub returns-in-Err-clause-reads_old : goal.returns-in-Err-clause-reads_old
 returns-in-Err-clause-reads_old g c = rw c.fault_of.ensures
-    (walk_tells_old g.S.ChunkSource.goes_over g.S.ChunkSource.failures g.S.ChunkSource.stands
-    c.walk.walk.version c.args.old.now c.walk.old c.next.new.old c.walk.walk.before
-    c.next.new.self.before c.walk.invariant.old.still.failures_are c.in-Err.fault
+    (walk_tells_old g.S.ChunkSource.goes_over g.S.ChunkSource.failures c.args.old.now c.walk.old
+    c.next.new.old c.walk.invariant.walking.still.failures_are c.in-Err.fault
     c.in-Err.ensures.old)
 
 pub returns-in-Err-clause-reads_new : goal.returns-in-Err-clause-reads_new
 returns-in-Err-clause-reads_new g c = rw c.fault_of.ensures
-    (walk_tells_new g.R.ChunkSource.goes_over g.R.ChunkSource.failures g.R.ChunkSource.stands
-    c.walk.walk.version c.args.new.now c.walk.new c.next.new.new c.walk.walk.after
-    c.next.new.self.after c.walk.invariant.new.still.failures_are c.in-Err.fault
+    (walk_tells_new g.R.ChunkSource.goes_over g.R.ChunkSource.failures c.args.new.now c.walk.new
+    c.next.new.new c.walk.invariant.walking.still'.failures_are c.in-Err.fault
     c.in-Err.ensures.new)
 
 pub returns-in-Err-write_change-clause-ended : goal.returns-in-Err-write_change-clause-ended
@@ -126,21 +138,23 @@ returns-in-Err-write_change-clause-ended g c = rw c.from.ensures (unwritten g.W.
     (subst (λ v. Gives v (lefts_of c.walk.walk) (Some c.in-Ok-Some.change)
     (lefts_of c.next.new.self)) c.walk.invariant.version
     (rw c.in-Ok-Some.field-0-is at c.in-Ok-Some.ensures.gives))
-    (RefusesNone (g.S.ChunkSource.goes_over c.args.old.now) c.args.diff.now.version
-    c.args.diff.now.old.now.0)
-    (RefusesNone (g.R.ChunkSource.goes_over c.args.new.now) c.args.diff.now.version
+    (MayStopInOld (g.S.ChunkSource.goes_over c.args.old.now)
+    (g.R.ChunkSource.goes_over c.args.new.now) c.args.diff.now.version c.args.diff.now.old.now.0
+    c.args.diff.now.new.now.0)
+    (MayStopInNew (g.S.ChunkSource.goes_over c.args.old.now)
+    (g.R.ChunkSource.goes_over c.args.new.now) c.args.diff.now.version c.args.diff.now.old.now.0
     c.args.diff.now.new.now.0)
     c.in-Err-write_change.fault c.write_change.new.sink c.in-Err-write_change.ensures)
 
 pub returns-in-Err-write_change-clause-reads_old : goal.returns-in-Err-write_change-clause-reads_old
 returns-in-Err-write_change-clause-reads_old g c = rw c.from.ensures (output_old
     c.in-Err-write_change.fault _ _
-    (c.in-Ok-Some.ensures.old.still.failures_are ∙ c.walk.invariant.old.still.failures_are))
+    (c.in-Ok-Some.ensures.old.failures_are ∙ c.walk.invariant.walking.still.failures_are))
 
 pub returns-in-Err-write_change-clause-reads_new : goal.returns-in-Err-write_change-clause-reads_new
 returns-in-Err-write_change-clause-reads_new g c = rw c.from.ensures (output_new
     c.in-Err-write_change.fault _ _
-    (c.in-Ok-Some.ensures.new.still.failures_are ∙ c.walk.invariant.new.still.failures_are))
+    (c.in-Ok-Some.ensures.new.failures_are ∙ c.walk.invariant.walking.still'.failures_are))
 
 pub walk-preserved : goal.walk-preserved
 walk-preserved g c = record {
@@ -162,12 +176,13 @@ walk-preserved g c = record {
       c.walk.invariant.gave.noted)))
       c.count.new.counts c.in_default-count.ensures.ok
       c.in_default-write_change.field-0 c.write_change.new.sink c.in_default-write_change.ensures;
-  old = keeps_on g.S.ChunkSource.goes_over g.S.ChunkSource.failures g.S.ChunkSource.stands
-      c.args.diff.now.version c.args.diff.now.old.now.0 c.args.old.now
-      c.walk.walk.version c.walk.invariant.version c.walk.old c.next.new.old c.walk.walk.before
-      c.next.new.self.before c.walk.invariant.old c.in-Ok-Some.ensures.old;
-  new = keeps_on g.R.ChunkSource.goes_over g.R.ChunkSource.failures g.R.ChunkSource.stands
-      c.args.diff.now.version c.args.diff.now.new.now.0 c.args.new.now
-      c.walk.walk.version c.walk.invariant.version c.walk.new c.next.new.new c.walk.walk.after
-      c.next.new.self.after c.walk.invariant.new c.in-Ok-Some.ensures.new;
+  walking = walks_further g.S.ChunkSource.goes_over g.S.ChunkSource.failures
+      g.S.ChunkSource.stands g.R.ChunkSource.goes_over g.R.ChunkSource.failures
+      g.R.ChunkSource.stands c.args.diff.now.version c.args.diff.now.old.now.0
+      c.args.diff.now.new.now.0 c.args.old.now c.args.new.now
+      c.walk.walk.version c.walk.invariant.version c.walk.old c.next.new.old c.walk.new
+      c.next.new.new c.walk.walk.before c.next.new.self.before c.walk.walk.after
+      c.next.new.self.after c.walk.invariant.walking
+      (Some c.in-Ok-Some.change) c.in-Ok-Some.ensures.old c.in-Ok-Some.ensures.new
+      c.in-Ok-Some.ensures.files;
 }

@@ -4,7 +4,8 @@ use Rattle.prolly_look_up.specs.ScanWay.{EndsEmpty}
 use Rattle.prolly_answer.specs.RootDumps.{written_pairs}
 use Rattle.prolly_look_up.specs.Sought.Sought.{Key}
 use Rattle.prolly_answer.specs.RootFaults.{MayRefuse, TellsFirstOf}
-use Rattle.prolly_answer.proofs.RootFaultSteps.{none_refused, not_opened, opened_told}
+use Rattle.prolly_root.specs.lemmas.FirstFaults.{not_opened, opened_told}
+use Rattle.prolly_answer.proofs.RootFaultSteps.{none_refused}
 use Rattle.prolly_answer.proofs.RootSteps.{flushed_told, root_refused}
 use Rattle.prolly_answer.proofs.answers.root_dump.write_dump.Goals as goal
 

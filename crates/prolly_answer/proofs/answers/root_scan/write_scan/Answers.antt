@@ -3,7 +3,8 @@ use Rattle.std.proofs.lemmas.Result.{err_from_is_err_and}
 use Rattle.prolly_look_up.specs.Sought.Sought.{Key}
 use Rattle.prolly_answer.specs.RootFaults.{MayRefuse, TellsFirstOf}
 use Rattle.prolly_answer.specs.RootScans.{AreEnough, limited_lines}
-use Rattle.prolly_answer.proofs.RootFaultSteps.{none_refused, not_opened, opened_told}
+use Rattle.prolly_root.specs.lemmas.FirstFaults.{not_opened, opened_told}
+use Rattle.prolly_answer.proofs.RootFaultSteps.{none_refused}
 use Rattle.prolly_answer.proofs.RootSteps.{flushed_told, nothing_sought, root_refused}
 use Rattle.prolly_answer.proofs.ScanSteps.{none_yet, take_none}
 use Rattle.prolly_answer.proofs.answers.root_scan.write_scan.Goals as goal

@@ -1,0 +1,173 @@
+-- A walk over the trees of two chunk files of any bytes, and what is wrong first with them for it.
+-- (This project's rules.)
+use Rattle.std.specs.Prelude.{◌≡◌, ℕ, List, [], ◌∷◌, Result, Ok, Err}
+use Rattle.prolly_entry.specs.declared.version.Version.{Version}
+use Rattle.prolly_root.specs.ChunkFile.{ChunkFile}
+use Rattle.prolly_root.specs.ChunkSource.{GoesOverStill}
+use Rattle.prolly_root.specs.RootFault.{TellsFailure}
+use Rattle.prolly_root.specs.declared.root_fault.RootFault.{RootFault}
+use Rattle.prolly_root_diff.specs.FirstFault.{ComesBy, DueAt, MayStopWith, StopsWith, TreeStep}
+use Rattle.prolly_root_diff.specs.FirstFault.{tree_at}
+use Rattle.prolly_root_diff.specs.Places.{AllStand}
+use Rattle.prolly_root_diff.specs.Sides.{left_of}
+use Rattle.prolly_root_diff.specs.Walks.{IsAtEnd, IsOnward, Leads, Lefts, Move, at_roots}
+use Rattle.prolly_root_diff.specs.declared.fault.RootDiffFault.{RootDiffFault}
+use Rattle.prolly_root_diff.specs.declared.fault.RootDiffFault.TheVariants as faults
+use Rattle.prolly_root_diff.specs.declared.onward.Onward.TheVariants as ways
+use Rattle.prolly_root_diff.specs.declared.side.Side.{Side}
+use Rattle.prolly_root_diff.specs.declared.siblings.Siblings.{Siblings}
+
+-- ---- two files
+
+-- What a walk does of the old tree.
+abbrev pub old_steps : List Move → List TreeStep
+old_steps [] = []
+old_steps (Move.ReadsOld chunk ∷ way) = TreeStep.Reads chunk ∷ old_steps way
+old_steps (Move.ReadsNew chunk ∷ way) = old_steps way
+old_steps (Move.PassesBoth ∷ way) = TreeStep.Passes ∷ old_steps way
+old_steps (Move.TakesOld ∷ way) = old_steps way
+old_steps (Move.TakesNew ∷ way) = old_steps way
+old_steps (Move.TakesBoth ∷ way) = old_steps way
+
+-- What it does of the new one.
+abbrev pub new_steps : List Move → List TreeStep
+new_steps [] = []
+new_steps (Move.ReadsOld chunk ∷ way) = new_steps way
+new_steps (Move.ReadsNew chunk ∷ way) = TreeStep.Reads chunk ∷ new_steps way
+new_steps (Move.PassesBoth ∷ way) = TreeStep.Passes ∷ new_steps way
+new_steps (Move.TakesOld ∷ way) = new_steps way
+new_steps (Move.TakesNew ∷ way) = new_steps way
+new_steps (Move.TakesBoth ∷ way) = new_steps way
+
+-- A walk is to read in one of the trees next, and stops there with this fault.
+abbrev pub StopsIn : Version → ChunkFile → ChunkFile → Lefts → List DueAt → List DueAt →
+    RootDiffFault → Type 0
+StopsIn version old new lefts due due' (faults.Old fault) =
+    IsOnward lefts.before lefts.after ways.OpenOld × StopsWith version old due fault
+StopsIn version old new lefts due due' (faults.New fault) =
+    IsOnward lefts.before lefts.after ways.OpenNew × StopsWith version new due' fault
+StopsIn version old new lefts due due' fault = ⊥
+
+-- What is wrong first with two files for a walk over the trees with these roots: it goes by its rules
+-- until it stops with this fault.
+pub record IsWalkFault (version : Version) (old new : ChunkFile) (root root' : List ℕ)
+    (fault : RootDiffFault) : Type 0 where
+  pub way : List Move
+  pub lefts : Lefts
+  pub lead : Leads version (at_roots root root') way lefts
+  pub due : List DueAt
+  pub due' : List DueAt
+  pub comes : ComesBy version old (old_steps way) (tree_at root) due
+  pub comes' : ComesBy version new (new_steps way) (tree_at root') due'
+  pub stops : StopsIn version old new lefts due due' fault
+
+-- The two files have all chunks of the walk: it goes by its rules until nothing is left.
+pub record HasAllOfWalk (version : Version) (old new : ChunkFile) (root root' : List ℕ) : Type 0
+  where
+    pub way : List Move
+    pub lefts : Lefts
+    pub lead : Leads version (at_roots root root') way lefts
+    pub due : List DueAt
+    pub due' : List DueAt
+    pub comes : ComesBy version old (old_steps way) (tree_at root) due
+    pub comes' : ComesBy version new (new_steps way) (tree_at root') due'
+    pub at_end : IsAtEnd lefts.before × IsAtEnd lefts.after
+
+-- Law: one fault is the first, and there is none where the files have all chunks.
+pub record WalkFaultsAreOne : Type 0 where
+  pub one : (version : Version) (old new : ChunkFile) (root root' : List ℕ)
+      (fault other : RootDiffFault) → IsWalkFault version old new root root' fault →
+      IsWalkFault version old new root root' other → fault ≡ other
+  pub none : (version : Version) (old new : ChunkFile) (root root' : List ℕ)
+      (fault : RootDiffFault) → HasAllOfWalk version old new root root' →
+      IsWalkFault version old new root root' fault → ⊥
+
+-- ---- two sources
+
+-- Take a file that the source goes over, in which what was due stood. By these steps a walk came to
+-- what is due now.
+abbrev pub ComesInFile : {S T : Type 0} → (S → ChunkFile → Type 0) →
+    (ChunkFile → T → ℕ → ℕ → Type 0) → Version → S → List TreeStep → List (Siblings T) →
+    List (Siblings T) → Type 0
+ComesInFile goes_over stands version source steps old new = (file : ChunkFile) (due : List DueAt) →
+    goes_over source file → AllStand stands file old due → (due' : List DueAt) ×
+    ComesBy version file steps due due' × AllStand stands file new due'
+
+-- By these steps it came to where it stopped with this fault, or memory was refused, or a read
+-- failed.
+abbrev pub StopsInFile : {S T : Type 0} → (S → ChunkFile → Type 0) →
+    (ChunkFile → T → ℕ → ℕ → Type 0) → Version → S → List TreeStep → List (Siblings T) →
+    RootFault → Type 0
+StopsInFile goes_over stands version source steps old fault = (file : ChunkFile)
+    (due : List DueAt) → goes_over source file → AllStand stands file old due →
+    (due' : List DueAt) × ComesBy version file steps due due' × MayStopWith version file due' fault
+
+module _ {S T R U : Type 0} (goes_over : S → ChunkFile → Type 0)
+    (stands : ChunkFile → T → ℕ → ℕ → Type 0) (goes_over' : R → ChunkFile → Type 0)
+    (stands' : ChunkFile → U → ℕ → ℕ → Type 0) (version : Version) (old : S) (new : R)
+    (before new_before : Side T) (after new_after : Side U) where
+  -- A walk went on by its rules, in both trees.
+  pub record WalksOn : Type 0 where
+    pub way : List Move
+    pub lead : Leads version (record { before = left_of before; after = left_of after }) way
+        (record { before = left_of new_before; after = left_of new_after })
+    pub comes : ComesInFile goes_over stands version old (old_steps way) before.due.items
+        new_before.due.items
+    pub comes' : ComesInFile goes_over' stands' version new (new_steps way) after.due.items
+        new_after.due.items
+
+  -- It went on so until it stopped with this fault in the old tree.
+  pub record StopsInOld (fault : RootFault) : Type 0 where
+    pub way : List Move
+    pub lefts : Lefts
+    pub lead : Leads version (record { before = left_of before; after = left_of after }) way lefts
+    pub onward : IsOnward lefts.before lefts.after ways.OpenOld
+    pub stops : StopsInFile goes_over stands version old (old_steps way) before.due.items fault
+    pub comes' : ComesInFile goes_over' stands' version new (new_steps way) after.due.items
+        new_after.due.items
+
+  -- Or in the new one.
+  pub record StopsInNew (fault : RootFault) : Type 0 where
+    pub way : List Move
+    pub lefts : Lefts
+    pub lead : Leads version (record { before = left_of before; after = left_of after }) way lefts
+    pub onward : IsOnward lefts.before lefts.after ways.OpenNew
+    pub comes : ComesInFile goes_over stands version old (old_steps way) before.due.items
+        new_before.due.items
+    pub stops : StopsInFile goes_over' stands' version new (new_steps way) after.due.items fault
+
+  -- What a call of a walk tells of the files. With other faults it tells nothing of them.
+  abbrev pub TellsFiles : {C : Type 0} → Result C RootDiffFault → Type 0
+  TellsFiles (Ok given) = WalksOn
+  TellsFiles (Err (faults.Old fault)) = StopsInOld fault
+  TellsFiles (Err (faults.New fault)) = StopsInNew fault
+  TellsFiles (Err fault) = Unit {0}
+
+-- ---- what the sources were asked
+
+-- The files that a source went over it goes over still, and no call failed.
+pub record HasStill {S : Type 0} (goes_over : S → ChunkFile → Type 0) (failures : S → ℕ)
+    (old new : S) : Type 0 where
+  pub goes_still : GoesOverStill goes_over old new
+  pub failures_are : failures new ≡ failures old
+
+-- The fault is that of the source: a failed read is told where one more call failed, and only there.
+pub record HasTold {S : Type 0} (goes_over : S → ChunkFile → Type 0) (failures : S → ℕ)
+    (old new : S) (fault : RootFault) : Type 0 where
+  pub goes_still : GoesOverStill goes_over old new
+  pub told : TellsFailure (failures old) (failures new) fault
+
+-- What a call tells of the source of the old tree, and of that of the new one.
+abbrev pub TellsOld : {S C : Type 0} → (S → ChunkFile → Type 0) → (S → ℕ) → S → S →
+    Result C RootDiffFault → Type 0
+TellsOld goes_over failures old new (Ok given) = HasStill goes_over failures old new
+TellsOld goes_over failures old new (Err (faults.Old fault)) =
+    HasTold goes_over failures old new fault
+TellsOld goes_over failures old new (Err fault) = HasStill goes_over failures old new
+
+abbrev pub TellsNew : {S C : Type 0} → (S → ChunkFile → Type 0) → (S → ℕ) → S → S →
+    Result C RootDiffFault → Type 0
+TellsNew goes_over failures old new (Ok given) = HasStill goes_over failures old new
+TellsNew goes_over failures old new (Err (faults.New fault)) =
+    HasTold goes_over failures old new fault
+TellsNew goes_over failures old new (Err fault) = HasStill goes_over failures old new
