@@ -1,7 +1,8 @@
 -- What gives the chunks of a tree.
-use Rattle.std.specs.Prelude.{◌≡◌, ℕ, ◌-◌, ◌⊎◌, length, Some, None, Result, Ok, Err}
+use Rattle.std.specs.Prelude.{◌≡◌, ℕ, ◌-◌, ◌⊎◌, List, length, Some, None, Result, Ok, Err}
 use Rattle.prolly_look_up.specs.Content.{Content}
 use Rattle.prolly_entry.specs.declared.version.Version.{Version}
+use Rattle.prolly_tree.specs.Chunk.{IsIn}
 use Rattle.prolly_root.specs.ChunkFile.{ChunkFile, IsLawful, chunk_file, fault_behind, file_fault}
 use Rattle.prolly_root.specs.RootFault.{OnlyRead, TellsReads}
 use Rattle.prolly_root.specs.Subtree.{HasNoNth}
@@ -17,6 +18,10 @@ pub record GoesOverTree {S : Type 0} (goes_over : S → ChunkFile → Type 0) (s
 -- The files that it went over it goes over still.
 abbrev pub GoesOverStill : {S : Type 0} → (S → ChunkFile → Type 0) → S → S → Type 0
 GoesOverStill goes_over old new = (file : ChunkFile) → goes_over old file → goes_over new file
+
+-- The chunk stands in each file that a source goes over.
+abbrev pub StandsInFile : (ChunkFile → Type 0) → List ℕ → Type 0
+StandsInFile goes_over chunk = (file : ChunkFile) → goes_over file → IsIn chunk file.chunks
 
 -- A source was asked: the files that it went over it goes over still, and a call that failed is
 -- told.

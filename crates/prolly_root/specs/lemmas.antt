@@ -13,3 +13,5 @@ pub mod FileTrees
 -- The chunk file of a lawful content: that nothing is wrong with it before a chunk is read, nor with
 -- the chunks that stand where they are due.
 pub mod LawfulFiles
+-- That chunks which are read stand in the chunk file.
+pub mod ReadChunks
