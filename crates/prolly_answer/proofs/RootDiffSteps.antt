@@ -1,15 +1,17 @@
 -- Writing a difference by the roots, change by change.
-use Rattle.std.proofs.Common.{◌≡◌, ◌≢◌, ◌⊎◌, inl, inr, ℕ, List, [], ◌∷◌, ◌++◌, Bool, true, false}
+use Rattle.std.proofs.Common.{◌≡◌, ◌≢◌, ◌⊎◌, inl, inr, ℕ, List, [], ◌∷◌, ◌++◌, map, Bool, true, false}
 use Rattle.std.proofs.Common.{Option}
 use Rattle.std.proofs.Common.{Some, None, Result, Ok, Err, refl, sym, ap, ◌∙◌, subst, append-nil}
 use Rattle.std.proofs.lemmas.Bool.{false≢true}
+use Rattle.std.specs.List.{AllByRecursion}
+use Rattle.std.proofs.lemmas.List.{map-append}
 use Rattle.std.proofs.lemmas.List.Concat.{flat_map-append}
-use Rattle.prolly_look_up.specs.Content.{Content, chunk_bytes}
-use Rattle.prolly_entry.specs.Cut.{sha512_cut}
+use Rattle.prolly_look_up.specs.Content.{chunk_bytes}
 use Rattle.prolly_chunk.specs.Missing.{AreSo, lacking}
 use Rattle.prolly_entry.specs.Pair.{Pair}
 use Rattle.prolly_entry.specs.Record.{Record}
 use Rattle.prolly_entry.specs.declared.version.Version.{Version}
+use Rattle.prolly_entry.specs.lemmas.Lists.{all_back, all_front}
 use Rattle.prolly_io.specs.Failures.{after_failure}
 use Rattle.prolly_io.specs.Sink.{IsSettled, SinkView}
 use Rattle.prolly_root.specs.RootFault.{TellsFailure}
@@ -18,33 +20,30 @@ use Rattle.prolly_root.specs.declared.root_fault.RootFault.TheVariants as roots
 use Rattle.prolly_root.specs.ChunkFile.{ChunkFile}
 use Rattle.prolly_root_diff.specs.Notes.{AreNoted, TellsMissing}
 use Rattle.prolly_root_diff.specs.DueTrees.{IsAtRoot}
-use Rattle.prolly_root_diff.specs.FileWalks.{HasStill, StopsInNew, StopsInOld, TellsFiles, TellsNew}
-use Rattle.prolly_root_diff.specs.FileWalks.{TellsOld, WalksOn}
-use Rattle.prolly_root_diff.specs.FirstFault.{LawfulFilesAreWalked}
+use Rattle.prolly_root_diff.specs.FileWalks.{HasStill, IsWalked, StopsInNew, StopsInOld, TellsNew}
+use Rattle.prolly_root_diff.specs.FileWalks.{TellsOld, TellsWalk, WalksOn}
+use Rattle.prolly_root_diff.specs.FirstFault.{LawfulFilesAreWalked, tree_at}
 use Rattle.prolly_root_diff.specs.Sides.{left_of}
-use Rattle.prolly_root_diff.specs.Walks.{BeforeIsRight, Changes, Ends, FoundClash, Gives, GivesAll}
-use Rattle.prolly_root_diff.specs.Walks.{GivesFirst, IsAtEnd, IsBegun, Lefts, Walk, at_roots}
-use Rattle.prolly_root_diff.specs.Walks.{lefts_of}
+use Rattle.prolly_root_diff.specs.Walks.{AreChangesOf, Clashing, IsAtEnd, IsBegun, Leads, Move}
+use Rattle.prolly_root_diff.specs.Walks.{Walk, WalksAreRight, at_roots, before_of, changes_on}
+use Rattle.prolly_root_diff.specs.Walks.{lefts_of, read_on, record_of}
 use Rattle.prolly_root_diff.specs.declared.notes.Notes.{Notes}
 use Rattle.prolly_root_diff.specs.declared.change.RootChange.{RootChange}
-use Rattle.prolly_root_diff.specs.declared.change.RootChange.TheVariants.{Added, Changed, Removed}
 use Rattle.prolly_root_diff.specs.declared.fault.RootDiffFault.{RootDiffFault}
 use Rattle.prolly_root_diff.specs.declared.fault.RootDiffFault.TheVariants as walks
 use Rattle.prolly_root_diff.specs.declared.side.Side.{Side}
 use Rattle.prolly_root_diff.specs.lemmas.WalkParts.{has_still, still_on, stops_in_new, stops_in_old}
 use Rattle.prolly_root_diff.specs.lemmas.WalkParts.{walks_none, walks_on}
-use Rattle.prolly_root_diff.specs.lemmas.Given.{gives_more, gives_no_more}
-use Rattle.prolly_root_diff.specs.lemmas.Roots.{new_lawful, new_told, old_lawful, old_told}
+use Rattle.prolly_root_diff.specs.lemmas.Roots.{is_walked, new_lawful, new_told, old_lawful, old_told}
 use Rattle.prolly_text.specs.RecordForms.{spelled, written_records}
 use Rattle.prolly_text.specs.declared.lines.form.RecordForm.{RecordForm}
-use Rattle.prolly_tree.specs.File.{root_reference}
+use Rattle.prolly_tree.specs.LookUp.{find}
 use Rattle.prolly_answer.specs.Counts.{AreCounts, are_some, counts_line}
 use Rattle.prolly_answer.specs.Diff.{AreStopped, AreWritten}
 use Rattle.prolly_answer.specs.Outputs.{IsSettledAs, TookAll, TookSoFar, TookUntil}
-use Rattle.prolly_answer.specs.RootDiffs.{Counts, GaveFirst, IsDoneDiff, IsEndedDiff, IsStatLine}
-use Rattle.prolly_answer.specs.RootDiffs.{IsStoppedDiff, MayStopInNew, MayStopInOld, OfRoots}
-use Rattle.prolly_answer.specs.RootDiffs.{TellsDiffReads, TellsNumbers}
-use Rattle.prolly_answer.specs.RootDiffs.{before_of, fault_of, WroteIn, record_of}
+use Rattle.prolly_answer.specs.RootDiffs.{Counts, GaveFirst, IsEndedDiff, IsStatLine}
+use Rattle.prolly_answer.specs.RootDiffs.{IsStoppedDiff, MayStopInNew, MayStopInOld}
+use Rattle.prolly_answer.specs.RootDiffs.{TellsDiffReads, TellsNumbers, WroteIn, fault_of, records_on}
 use Rattle.std.specs.Prelude.{IfErr, IfOk}
 use Rattle.prolly_answer.specs.declared.answers.root_diff.Told.{Told}
 use Rattle.prolly_answer.specs.declared.answers.diff.ChangeCounts.{ChangeCounts}
@@ -59,12 +58,12 @@ use Rattle.prolly_answer.proofs.Writing.{flushed, took_more, took_none, took_unt
 -- ---- the trees
 
 -- A walk came from the two roots to here, and each source goes over what it went over; no call of
--- one failed.
+-- one failed. It gave these changes.
 pub record IsWalking {S T R U : Type 0} (goes_over : S → ChunkFile → Type 0) (failures : S → ℕ)
     (stands : ChunkFile → T → ℕ → ℕ → Type 0) (goes_over' : R → ChunkFile → Type 0)
     (failures' : R → ℕ) (stands' : ChunkFile → U → ℕ → ℕ → Type 0) (version : Version)
     (root root' : List ℕ) (start source : S) (start' source' : R) (at : Side T) (at' : Side U)
-    : Type 0 where
+    (notes : Option Notes) : Type 0 where
   pub before : Side T
   pub after : Side U
   pub at_root : IsAtRoot root before
@@ -72,19 +71,23 @@ pub record IsWalking {S T R U : Type 0} (goes_over : S → ChunkFile → Type 0)
   pub lefts : (record { before = left_of before; after = left_of after }) ≡ at_roots root root'
   pub still : HasStill goes_over failures start source
   pub still' : HasStill goes_over' failures' start' source'
+  pub first : Option Notes
+  pub none_noted : AreNoted [] first
+  pub changes : List RootChange
   pub on : WalksOn goes_over stands goes_over' stands' version start start' before at after at'
+      changes first notes
 
 module _ {S T R U : Type 0} (goes_over : S → ChunkFile → Type 0) (failures : S → ℕ)
     (stands : ChunkFile → T → ℕ → ℕ → Type 0) (goes_over' : R → ChunkFile → Type 0)
     (failures' : R → ℕ) (stands' : ChunkFile → U → ℕ → ℕ → Type 0) (version : Version)
     (root root' : List ℕ) (start : S) (start' : R) where
-  abbrev Walking : S → R → Side T → Side U → Type 0
-  Walking source source' at at' = IsWalking goes_over failures stands goes_over' failures' stands'
-      version root root' start source start' source' at at'
+  abbrev Walking : S → R → Side T → Side U → Option Notes → Type 0
+  Walking source source' at at' notes = IsWalking goes_over failures stands goes_over' failures'
+      stands' version root root' start source start' source' at at' notes
 
-  pub walks_first : (walk : Walk T U) → IsBegun version root root' walk →
-      Walking start start' walk.before walk.after
-  walks_first walk begun = record {
+  abbrev pub walks_first : (walk : Walk T U) → IsBegun version root root' walk → AreNoted [] walk.notes →
+      Walking start start' walk.before walk.after walk.notes
+  walks_first walk begun none = record {
     before = walk.before;
     after = walk.after;
     at_root = begun.before;
@@ -92,56 +95,102 @@ module _ {S T R U : Type 0} (goes_over : S → ChunkFile → Type 0) (failures :
     lefts = begun.lefts;
     still = has_still goes_over failures start;
     still' = has_still goes_over' failures' start';
-    on = walks_none goes_over stands goes_over' stands' version start start' walk.before walk.after;
+    first = walk.notes;
+    none_noted = none;
+    changes = [];
+    on = walks_none goes_over stands goes_over' stands' version start start' walk.before walk.after
+        walk.notes;
   }
 
-  module _ (walked : Version) (same : walked ≡ version) (mid new : S) (mid' new' : R)
-      (at later : Side T) (at' later' : Side U) (w : Walking mid mid' at at') where
-    abbrev FilesTold : Result (Option RootChange) RootDiffFault → Type 0
-    FilesTold result = TellsFiles goes_over stands goes_over' stands' walked mid mid' at later at' later'
-        result
+  module _ (source : S) (source' : R) (at : Side T) (at' : Side U) (notes : Option Notes)
+      (w : Walking source source' at at' notes) where
+    -- it went its way from the roots
+    pub went : IsWalked (goes_over start) (goes_over' start') version root root' w.on.way
+        (record { before = left_of at; after = left_of at' })
+    went = is_walked goes_over stands goes_over' stands' version start start' root root' w.before
+        at w.after at' w.at_root w.at_root' w.lefts w.changes w.first notes w.on
 
-    pub walks_further : (change : Option RootChange) →
-        TellsOld {C = Option RootChange} goes_over failures mid new (Ok change) →
-        TellsNew {C = Option RootChange} goes_over' failures' mid' new' (Ok change) →
-        FilesTold (Ok change) → Walking new new' later later'
-    walks_further change old new_told on = record {
-      before = w.before;
-      after = w.after;
-      at_root = w.at_root;
-      at_root' = w.at_root';
-      lefts = w.lefts;
-      still = still_on goes_over failures start mid new w.still (old.goes_still, old.failures_are);
-      still' = still_on goes_over' failures' start' mid' new' w.still'
-          (new_told.goes_still, new_told.failures_are);
-      on = walks_on goes_over stands goes_over' stands' version start mid start' mid'
-          w.still.goes_still w.still'.goes_still w.before at w.after at' w.on later later'
-          (subst (λ v. WalksOn goes_over stands goes_over' stands' v mid mid' at later at' later') same
-          on);
+    -- what holds of the changes that it gave holds of those of its way
+    pub gave : (So : List Record → Type 0) → So (map record_of w.changes) → GaveFirst
+        (goes_over start) (goes_over' start') version root root' (λ way. So (records_on way))
+    gave So so = record {
+      way = w.on.way;
+      rest = record { before = left_of at; after = left_of at' };
+      walked = went;
+      so = subst (λ cs. So (map record_of cs)) (sym w.on.gives) so;
     }
 
-    pub refuses_old : LawfulFilesAreWalked → (fault : RootDiffFault) → FilesTold (Err fault) →
+    -- what it noted is of this way
+    pub noted_so : AreNoted w.on.way notes
+    noted_so = w.on.noted [] w.none_noted
+
+  module _ (walked : Version) (same : walked ≡ version) (mid new : S) (mid' new' : R)
+      (at later : Side T) (at' later' : Side U) (notes later_notes : Option Notes)
+      (w : Walking mid mid' at at' notes) where
+    abbrev WayTold : Result (Option RootChange) RootDiffFault → Type 0
+    WayTold result = TellsWalk goes_over stands goes_over' stands' walked mid mid' at later at' later'
+        notes later_notes result
+
+    -- it gave this change, or none
+    module _ (change : Option RootChange)
+        (old : TellsOld {C = Option RootChange} goes_over failures mid new (Ok change))
+        (new_told : TellsNew {C = Option RootChange} goes_over' failures' mid' new' (Ok change)) where
+      abbrev further : (given : List RootChange) → WalksOn goes_over stands goes_over' stands' walked mid
+          mid' at later at' later' given notes later_notes →
+          Walking new new' later later' later_notes
+      further given on = record {
+        before = w.before;
+        after = w.after;
+        at_root = w.at_root;
+        at_root' = w.at_root';
+        lefts = w.lefts;
+        still = still_on goes_over failures start mid new w.still
+            (old.goes_still, old.failures_are);
+        still' = still_on goes_over' failures' start' mid' new' w.still'
+            (new_told.goes_still, new_told.failures_are);
+        first = w.first;
+        none_noted = w.none_noted;
+        changes = w.changes ++ given;
+        on = walks_on goes_over stands goes_over' stands' version start mid start' mid'
+            w.still.goes_still w.still'.goes_still w.before at w.after at' w.changes w.first notes
+            w.on later later' given later_notes (subst (λ v. WalksOn goes_over stands goes_over'
+            stands' v mid mid' at later at' later' given notes later_notes) same on);
+      }
+
+      abbrev pub walks_further : (one : RootChange) → change ≡ Some one → WayTold (Ok change) →
+          Walking new new' later later' later_notes
+      walks_further one is told =
+          further (one ∷ []) (subst (λ given. WayTold (Ok given)) is told)
+
+      abbrev pub walks_to_end : change ≡ None → WayTold (Ok change) →
+          Walking new new' later later' later_notes
+      walks_to_end none told =
+          further [] (subst (λ given. WayTold (Ok given)) none told).0
+
+    pub refuses_old : LawfulFilesAreWalked → (fault : RootDiffFault) → WayTold (Err fault) →
         (f : RootFault) → fault ≡ walks.Old f →
         MayStopInOld (goes_over start) (goes_over' start') version root root' f
     refuses_old law fault told f is =
         let stops = stops_in_old goes_over stands goes_over' stands' version start mid start' mid'
-        w.still.goes_still w.still'.goes_still w.before at w.after at' w.on later later' f
+        w.still.goes_still w.still'.goes_still w.before at w.after at' w.changes w.first notes w.on
+        later later' f
         (subst (λ v. StopsInOld goes_over stands goes_over' stands' v mid mid' at later at' later' f)
-        same (subst (λ x. FilesTold (Err x)) is told)) in (
+        same (subst (λ x. WayTold (Err x)) is told)) in (
           old_lawful goes_over stands goes_over' stands' version start start' root root' w.before later
               w.after later' w.at_root w.at_root' w.lefts f law stops,
           old_told goes_over stands goes_over' stands' version start start' root root' w.before later
               w.after later' w.at_root w.at_root' w.lefts f stops,
         )
 
-    pub refuses_new : LawfulFilesAreWalked → (fault : RootDiffFault) → FilesTold (Err fault) →
+    pub refuses_new : LawfulFilesAreWalked → (fault : RootDiffFault) → WayTold (Err fault) →
         (f : RootFault) → fault ≡ walks.New f →
         MayStopInNew (goes_over start) (goes_over' start') version root root' f
     refuses_new law fault told f is =
         let stops = stops_in_new goes_over stands goes_over' stands' version start mid start' mid'
-        w.still.goes_still w.still'.goes_still w.before at w.after at' w.on later later' f
+        w.still.goes_still w.still'.goes_still w.before at w.after at' w.changes w.first notes w.on
+        later later' f
         (subst (λ v. StopsInNew goes_over stands goes_over' stands' v mid mid' at later at' later' f)
-        same (subst (λ x. FilesTold (Err x)) is told)) in (
+        same (subst (λ x. WayTold (Err x)) is told)) in (
           new_lawful goes_over stands goes_over' stands' version start start' root root' w.before later
               w.after later' w.at_root w.at_root' w.lefts f law stops,
           new_told goes_over stands goes_over' stands' version start start' root root' w.before later
@@ -172,7 +221,7 @@ one_more form done own = flat_map-append (spelled form) done (own ∷ []) ∙
     ap (λ bytes. written_records form done ++ bytes) (append-nil (spelled form own))
 
 module _ {W : Type 0} (seen : W → SinkView) where
-  wrote_none : (form : Option RecordForm) (sink : W) → WroteSoFar seen form sink sink []
+  pub wrote_none : (form : Option RecordForm) (sink : W) → WroteSoFar seen form sink sink []
   wrote_none None sink = refl
   wrote_none (Some form) sink = took_none seen sink
 
@@ -222,226 +271,213 @@ module _ {W : Type 0} (seen : W → SinkView) where
 
 -- ---- the numbers
 
--- The numbers are those of these records.
-abbrev pub AreCounted : Bool → Version → List ℕ → List ℕ → List Record → ChangeCounts → Type 0
-AreCounted stat version old new records counts = stat ≡ true →
-    OfRoots version old new (λ before after. AreCounts before.pairs records counts)
+-- The numbers are those of these changes, for every map that has what they tell.
+abbrev pub AreCounted : Bool → List RootChange → ChangeCounts → Type 0
+AreCounted stat changes counts = stat ≡ true → (old : List Pair) →
+    AllByRecursion (λ change. find old (record_of change).key ≡ before_of change) changes →
+    AreCounts old (map record_of changes) counts
 
-module _ (version : Version) (old new : List ℕ) where
-  none_counted : (stat : Bool) (counts : ChangeCounts) →
-      ((m : List Pair) → AreCounts m [] counts) → AreCounted stat version old new [] counts
-  none_counted stat counts none = λ asked bits bits' m m' rising lawful rising' lawful' is is'.
-      inl (none m)
+more_counted : (stat : Bool) (changes : List RootChange) (change : RootChange)
+    (counts later : ChangeCounts) → (stat ≡ true → Counts change counts later) →
+    AreCounted stat changes counts → AreCounted stat (changes ++ change ∷ []) later
+more_counted stat changes change counts later count counted = λ asked old had.
+    subst (λ records. AreCounts old records later)
+    (sym (map-append record_of changes (change ∷ [])))
+    (count asked old (map record_of changes) (counted asked old
+    (all_front (λ c. find old (record_of c).key ≡ before_of c) changes (change ∷ []) had))
+    (all_back (λ c. find old (record_of c).key ≡ before_of c) changes (change ∷ []) had).0)
 
-  more_counted : BeforeIsRight → (stat : Bool) (records : List Record) (mid next : Lefts)
-      (change : RootChange) (counts later : ChangeCounts) →
-      GivesFirst version (at_roots old new) records mid →
-      Changes version mid (record_of change).key (before_of change) (record_of change).value next →
-      (stat ≡ true → Counts change counts later) →
-      AreCounted stat version old new records counts →
-      AreCounted stat version old new (records ++ record_of change ∷ []) later
-  more_counted right stat records mid next change counts later given changes count counted =
-      λ asked bits bits' m m' rising lawful rising' lawful' is is'.
-      join (counted asked bits bits' m m' rising lawful rising' lawful' is is')
-      (right version bits bits' m m' records mid next (record_of change).key (before_of change)
-      (record_of change).value rising lawful rising' lawful'
-      (subst (λ r. GivesFirst version r records mid) (roots is is') given) changes)
-      (count asked m records)
-    where
-      roots : {x y : List ℕ} → old ≡ x → new ≡ y → at_roots old new ≡ at_roots x y
-      roots e f = ap (λ r. at_roots r new) e ∙ ap (at_roots _) f
-
-      join : {A B C Z : Type 0} → A ⊎ Z → B ⊎ Z → (A → B → C) → C ⊎ Z
-      join (inl a) (inl b) both = inl (both a b)
-      join (inl a) (inr z) both = inr z
-      join (inr z) b both = inr z
-
-  -- the line behind the last change
-  line_told : {T U : Type 0} (stat : Bool) (walk : Walk T U) → walk.version ≡ version →
-      (records : List Record) (counts : ChangeCounts) (line : List ℕ) →
-      AreNoted version (at_roots old new) (lefts_of walk) walk.notes →
-      IsAtEnd (lefts_of walk).before → IsAtEnd (lefts_of walk).after →
-      AreCounted stat version old new records counts → TellsNumbers stat walk counts line →
-      IsStatLine stat version old new records line
-  line_told false walk same records counts line noted at_end at_end' counted tells = tells
-  line_told true walk same records counts line noted at_end at_end' counted tells =
-      λ bits bits' m m' rising lawful rising' lawful' is is'.
-      join bits bits' m m' (counted refl bits bits' m m' rising lawful rising' lawful' is is')
-      (subst (λ v. TellsMissing v (lefts_of walk) walk.notes tells.0) same tells.1
-      bits bits' m m' rising lawful rising' lawful'
-      (subst (λ r. AreNoted version r (lefts_of walk) walk.notes)
-      (ap (λ r. at_roots r new) is ∙ ap (at_roots _) is') noted) at_end at_end')
-    where
-      join : (bits bits' : ℕ) (m m' : List Pair) →
-          AreCounts m records counts
-          ⊎ FoundClash version (chunk_bytes version bits m) (chunk_bytes version bits' m') →
-          AreSo (lacking (chunk_bytes version bits m) (chunk_bytes version bits' m')) tells.0
-          ⊎ FoundClash version (chunk_bytes version bits m) (chunk_bytes version bits' m') →
-          (line ≡ counts_line (record { version = version; bits = bits; pairs = m })
-          (record { version = version; bits = bits'; pairs = m' }) records)
-          ⊎ FoundClash version (chunk_bytes version bits m) (chunk_bytes version bits' m')
-      join bits bits' m m' (inl a) (inl b) = inl (tells.2 ∙
-          line_is (record { version = version; bits = bits; pairs = m })
-          (record { version = version; bits = bits'; pairs = m' }) records counts tells.0 a b)
-      join bits bits' m m' (inl a) (inr z) = inr z
-      join bits bits' m m' (inr z) b = inr z
+-- the line after the last change
+line_told : {T U : Type 0} (law : WalksAreRight) (version : Version) (old new : List ℕ)
+    (stat : Bool) (walk : Walk T U) → walk.version ≡ version → (way : List Move) →
+    Leads version (at_roots old new) way (lefts_of walk) → AreNoted way walk.notes →
+    IsAtEnd (lefts_of walk).before → IsAtEnd (lefts_of walk).after → (counts : ChangeCounts) →
+    AreCounted stat (changes_on way) counts → (line : List ℕ) →
+    TellsNumbers stat walk counts line → IsStatLine stat version old new way line
+line_told law version old new false walk same way lead noted at_end at_end' counts counted line
+    tells = tells
+line_told law version old new true walk same way lead noted at_end at_end' counts counted line
+    tells = λ bits bits' m m' rising lawful rising' lawful' is is'.
+    let from = subst (λ r. Leads version r way (lefts_of walk))
+    (ap (λ r. at_roots r new) is ∙ ap (at_roots _) is') lead in
+    join bits bits' m m'
+    (law version bits bits' m m' way (lefts_of walk) rising lawful rising' lawful' from)
+    (subst (λ v. TellsMissing v (lefts_of walk) walk.notes tells.0) same tells.1
+    bits bits' m m' way rising lawful rising' lawful' from noted at_end at_end')
+  where
+    join : (bits bits' : ℕ) (m m' : List Pair) →
+        AreChangesOf m m' (changes_on way) (lefts_of walk) ⊎ Clashing (read_on way)
+        (chunk_bytes version bits m ++ chunk_bytes version bits' m') →
+        AreSo (lacking (chunk_bytes version bits m) (chunk_bytes version bits' m')) tells.0
+        ⊎ Clashing (read_on way)
+        (chunk_bytes version bits m ++ chunk_bytes version bits' m') →
+        (line ≡ counts_line (record { version = version; bits = bits; pairs = m })
+        (record { version = version; bits = bits'; pairs = m' }) (records_on way))
+        ⊎ Clashing (read_on way) (chunk_bytes version bits m ++ chunk_bytes version bits' m')
+    join bits bits' m m' (inl a) (inl b) = inl (tells.2 ∙
+        line_is (record { version = version; bits = bits; pairs = m })
+        (record { version = version; bits = bits'; pairs = m' }) (records_on way) counts tells.0
+        (counted refl m a.before) b)
+    join bits bits' m m' (inl a) (inr z) = inr z
+    join bits bits' m m' (inr z) b = inr z
 
 -- ---- faults
 
-module _ (may_old may_new : RootFault → Type 0) (version : Version)
-    (old new : List ℕ) (took took_part : List Record → Type 0) where
-  pub walk_stopped : (fault : RootDiffFault) → GaveFirst version old new took →
-      ((f : RootFault) → fault ≡ walks.Old f → may_old f) →
-      ((f : RootFault) → fault ≡ walks.New f → may_new f) →
-      IsStoppedDiff may_old may_new version old new took took_part (fault_of fault)
+module _ (goes_over goes_over' : ChunkFile → Type 0) (version : Version) (old new : List ℕ)
+    (took took_part : List Record → Type 0) where
+  abbrev Gave : Type 0
+  Gave = GaveFirst goes_over goes_over' version old new (λ way. took (records_on way))
+
+  abbrev Stopped : Fault → Type 0
+  Stopped fault = IsStoppedDiff goes_over goes_over' version old new took took_part fault
+
+  pub walk_stopped : (fault : RootDiffFault) → Gave → ((f : RootFault) → fault ≡ walks.Old f →
+      MayStopInOld goes_over goes_over' version old new f) → ((f : RootFault) →
+      fault ≡ walks.New f → MayStopInNew goes_over goes_over' version old new f) →
+      Stopped (fault_of fault)
   walk_stopped walks.Memory gave a b = inl (gave, tt)
   walk_stopped walks.Stopped gave a b = inl (gave, tt)
   walk_stopped (walks.Old f) gave a b = inl (gave, a f refl)
   walk_stopped (walks.New f) gave a b = inl (gave, b f refl)
 
-  pub memory_stopped : (fault : Fault) → fault ≡ faults.Memory → GaveFirst version old new took →
-      IsStoppedDiff may_old may_new version old new took took_part fault
-  memory_stopped fault is gave =
-      subst (IsStoppedDiff may_old may_new version old new took took_part) (sym is) (inl (gave, tt))
+  -- before the walk began nothing was given
+  pub none_gave : took [] → Gave
+  none_gave none = record {
+    way = [];
+    rest = at_roots old new;
+    walked = record {
+      lead = refl;
+      comes = λ file goes. (tree_at old, refl);
+      comes' = λ file goes. (tree_at new, refl);
+    };
+    so = none;
+  }
+
+  pub memory_stopped : (fault : Fault) → fault ≡ faults.Memory → Gave → Stopped fault
+  memory_stopped fault is gave = subst Stopped (sym is) (inl (gave, tt))
 
 -- ---- the changes
 
--- These changes were given, written and counted so far, and this is what the walk noted.
-pub record IsUnderWay {W : Type 0} (seen : W → SinkView) (version : Version) (old new : List ℕ)
-    (form : Option RecordForm) (stat : Bool) (rest : Lefts) (notes : Option Notes)
-    (changed : Bool) (counts : ChangeCounts) (sink sink' : W) : Type 0 where
-  pub records : List Record
-  pub gives : GivesFirst version (at_roots old new) records rest
-  pub took : WroteSoFar seen form sink sink' records
-  pub some : changed ≡ are_some records
-  pub counted : AreCounted stat version old new records counts
-  pub noted : AreNoted version (at_roots old new) rest notes
+-- These changes were written and counted so far.
+pub record AreWrittenSoFar {W : Type 0} (seen : W → SinkView) (form : Option RecordForm)
+    (stat : Bool) (changes : List RootChange) (changed : Bool) (counts : ChangeCounts)
+    (sink sink' : W) : Type 0 where
+  pub took : WroteSoFar seen form sink sink' (map record_of changes)
+  pub some : changed ≡ are_some (map record_of changes)
+  pub counted : AreCounted stat changes counts
 
-pub change_given : (version : Version) (lefts : Lefts) (change : RootChange) (next : Lefts) →
-    Gives version lefts (Some change) next →
-    Changes version lefts (record_of change).key (before_of change) (record_of change).value next
-change_given version lefts (Removed pair) next given = given
-change_given version lefts (Added pair) next given = given
-change_given version lefts (Changed before after) next given = given
+some_more : (changes : List RootChange) (change : RootChange) →
+    true ≡ are_some (map record_of (changes ++ change ∷ []))
+some_more [] change = refl
+some_more (c ∷ changes) change = refl
 
-some_more : (records : List Record) (r : Record) → true ≡ are_some (records ++ r ∷ [])
-some_more [] r = refl
-some_more (s ∷ records) r = refl
-
-module _ {W : Type 0} (seen : W → SinkView) (version : Version) (old new : List ℕ)
-    (form : Option RecordForm) (stat : Bool) where
-  pub begins : (lefts : Lefts) → lefts ≡ at_roots old new → (notes : Option Notes) →
-      AreNoted version lefts lefts notes → (counts : ChangeCounts) →
-      ((m : List Pair) → AreCounts m [] counts) → (sink : W) →
-      IsUnderWay seen version old new form stat lefts notes false counts sink sink
-  begins lefts same notes noted counts none sink = record {
-    records = [];
-    gives = sym same;
+module _ {W : Type 0} (seen : W → SinkView) (form : Option RecordForm) (stat : Bool) where
+  pub begins : (counts : ChangeCounts) → ((m : List Pair) → AreCounts m [] counts) → (sink : W) →
+      AreWrittenSoFar seen form stat [] false counts sink sink
+  begins counts none sink = record {
     took = wrote_none seen form sink;
     some = refl;
-    counted = none_counted version old new stat counts none;
-    noted = subst (λ l. AreNoted version l lefts notes) same noted;
+    counted = λ asked old had. none old;
   }
 
-  module _ (rest : Lefts) (notes : Option Notes) (changed : Bool) (counts : ChangeCounts)
-      (sink mid : W) (w : IsUnderWay seen version old new form stat rest notes changed counts sink mid)
+  module _ (changes : List RootChange) (changed : Bool) (counts : ChangeCounts) (sink mid : W)
+      (w : AreWrittenSoFar seen form stat changes changed counts sink mid) (change : RootChange)
     where
-      -- what was given was written
-      pub gave_so_far : GaveFirst version old new (WroteSoFar seen form sink mid)
-      gave_so_far = record { records = w.records; rest = rest; gives = w.gives; so = w.took }
-
-      pub all_given : {T U : Type 0} (walk : Walk T U) → walk.version ≡ version →
-          AreNoted version (at_roots old new) (lefts_of walk) walk.notes →
-          IsAtEnd (lefts_of walk).before → IsAtEnd (lefts_of walk).after → (line : List ℕ) →
-          TellsNumbers stat walk counts line → Ends version rest →
-          IsDoneDiff version old new stat (WroteSoFar seen form sink mid) changed line
-      all_given walk same noted at_end at_end' line tells ends = record {
-        records = w.records;
-        gives = gives_no_more version (at_roots old new) rest w.records w.gives ends;
-        so = (
-          w.took,
-          w.some,
-          line_told version old new stat walk same w.records counts line noted at_end at_end' w.counted
-              tells,
-        );
+      pub goes_on : (later : ChangeCounts) → (stat ≡ true → Counts change counts later) →
+          (x : Unit {0}) (after : W) → WroteIn seen form (record_of change) mid after (Ok x) →
+          AreWrittenSoFar seen form stat (changes ++ change ∷ []) true later sink after
+      goes_on later count x after wrote = record {
+        took = subst (WroteSoFar seen form sink after)
+            (sym (map-append record_of changes (change ∷ []))) (wrote_more seen form sink mid after
+            (map record_of changes) (record_of change) x w.took wrote);
+        some = some_more changes change;
+        counted = more_counted stat changes change counts later count w.counted;
       }
 
-      -- so it is with what is told behind the last change, or with want of memory for it
-      pub all_told : {T U : Type 0} (walk : Walk T U) → walk.version ≡ version →
-          AreNoted version (at_roots old new) (lefts_of walk) walk.notes →
-          Gives version rest None (lefts_of walk) → (may_old may_new : RootFault → Type 0)
-          (took_part : List Record → Type 0) (result : Result Told Fault) →
-          IfOk result (λ told. told.changed ≡ changed) →
-          IfOk result (λ told. TellsNumbers stat walk counts told.line.items) →
-          IfErr result (λ fault. fault ≡ faults.Memory) →
-          IsEndedDiff may_old may_new version old new stat (WroteSoFar seen form sink mid) took_part
-          result
-      all_told walk same noted ends may_old may_new took_part (Err fault) flag line is =
-          memory_stopped may_old may_new version old new (WroteSoFar seen form sink mid) took_part
-          fault is gave_so_far
-      all_told walk same noted ends may_old may_new took_part (Ok told) flag line is =
-          subst (λ b. IsDoneDiff version old new stat (WroteSoFar seen form sink mid) b
-          told.line.items) (sym flag)
-          (all_given walk same noted ends.1 ends.2 told.line.items line ends.0)
+      pub cut_off_at : (after : W) →
+          WroteIn seen form (record_of change) mid after (Err outputs.Write) →
+          WrotePart seen form sink after (map record_of (changes ++ change ∷ []))
+      cut_off_at after wrote = subst (WrotePart seen form sink after)
+          (sym (map-append record_of changes (change ∷ []))) (wrote_until seen form sink mid after
+          (map record_of changes) (record_of change) w.took wrote)
 
-      module _ (change : RootChange) (next : Lefts) (given : Gives version rest (Some change) next) where
-        abbrev own : Record
-        own = record_of change
+-- ---- where it ends
 
-        gives_own : GivesFirst version (at_roots old new) (w.records ++ own ∷ []) next
-        gives_own = gives_more version (at_roots old new) rest next w.records own (before_of change)
-            w.gives (change_given version rest change next given)
+module _ {S T R U W : Type 0} (goes_over : S → ChunkFile → Type 0) (failures : S → ℕ)
+    (stands : ChunkFile → T → ℕ → ℕ → Type 0) (goes_over' : R → ChunkFile → Type 0)
+    (failures' : R → ℕ) (stands' : ChunkFile → U → ℕ → ℕ → Type 0) (version : Version)
+    (root root' : List ℕ) (start source : S) (start' source' : R) (at : Side T) (at' : Side U)
+    (notes : Option Notes) (w : IsWalking goes_over failures stands goes_over' failures' stands'
+    version root root' start source start' source' at at' notes) (seen : W → SinkView)
+    (form : Option RecordForm) (stat : Bool) (changed : Bool) (counts : ChangeCounts) (sink mid : W)
+    (so : AreWrittenSoFar seen form stat w.changes changed counts sink mid) where
+  -- what was given was written
+  pub gave_so_far : GaveFirst (goes_over start) (goes_over' start') version root root' (λ way.
+      WroteSoFar seen form sink mid (records_on way))
+  gave_so_far = gave goes_over failures stands goes_over' failures' stands' version root root' start
+      start' source source' at at' notes w (WroteSoFar seen form sink mid) so.took
 
-        pub goes_on : BeforeIsRight → (noted : Option Notes) →
-            AreNoted version (at_roots old new) next noted → (later : ChangeCounts) →
-            (stat ≡ true → Counts change counts later) → (x : Unit {0}) (after : W) →
-            WroteIn seen form own mid after (Ok x) →
-            IsUnderWay seen version old new form stat next noted true later sink after
-        goes_on right noted are later count x after wrote = record {
-          records = w.records ++ own ∷ [];
-          gives = gives_own;
-          took = wrote_more seen form sink mid after w.records own x w.took wrote;
-          some = some_more w.records own;
-          counted = more_counted version old new right stat w.records rest next change counts later
-              w.gives (change_given version rest change next given) count w.counted;
-          noted = are;
-        }
+  -- where it came to the end, so it is with what is told then, or with want of memory for it
+  pub all_told : WalksAreRight → (walk : Walk T U) → walk.version ≡ version → (last : S)
+      (last' : R) (end : IsWalking goes_over failures stands goes_over' failures' stands' version
+      root root' start last start' last' walk.before walk.after walk.notes) →
+      end.changes ≡ w.changes ++ [] → IsAtEnd (lefts_of walk).before →
+      IsAtEnd (lefts_of walk).after → (result : Result Told Fault) →
+      IfOk result (λ told. told.changed ≡ changed) →
+      IfOk result (λ told. TellsNumbers stat walk counts told.line.items) →
+      IfErr result (λ fault. fault ≡ faults.Memory) → IsEndedDiff (goes_over start)
+      (goes_over' start') version root root' (WroteSoFar seen form sink mid)
+      (WrotePart seen form sink mid) stat result
+  all_told law walk same last last' end are at_end at_end' (Err fault) flag line is =
+      memory_stopped (goes_over start) (goes_over' start') version root root'
+      (WroteSoFar seen form sink mid) (WrotePart seen form sink mid) fault is gave_so_far
+  all_told law walk same last last' end are at_end at_end' (Ok told) flag line is =
+      let walked = went goes_over failures stands goes_over' failures' stands' version root root'
+      start start' last last' walk.before walk.after walk.notes end in
+      let given = sym (end.on.gives ∙ are ∙ append-nil w.changes) in record {
+        first = record {
+          way = end.on.way;
+          rest = lefts_of walk;
+          walked = walked;
+          so = (
+            subst (λ cs. WroteSoFar seen form sink mid (map record_of cs)) given so.took,
+            flag ∙ so.some ∙ ap (λ cs. are_some (map record_of cs)) given,
+            line_told law version root root' stat walk same end.on.way walked.lead
+                (noted_so goes_over failures stands goes_over' failures' stands' version root root'
+                start start' last last' walk.before walk.after walk.notes end) at_end at_end' counts
+                (subst (λ cs. AreCounted stat cs counts) given so.counted) told.line.items line,
+          );
+        };
+        at_end = (at_end, at_end');
+      }
 
-        pub unwritten : (may_old may_new : RootFault → Type 0) (fault : OutputFault) (after : W) →
-            WroteIn seen form own mid after (Err fault) →
-            IsStoppedDiff may_old may_new version old new (WroteSoFar seen form sink after)
-            (WrotePart seen form sink after) (told fault)
-        unwritten may_old may_new outputs.Memory after wrote = inl (
-          record {
-            records = w.records;
-            rest = rest;
-            gives = w.gives;
-            so = left_so seen form sink mid after w.records own w.took wrote;
-          },
-          tt,
-        )
-        unwritten may_old may_new outputs.Write after wrote = inr (
-          record {
-            records = w.records ++ own ∷ [];
-            rest = next;
-            gives = gives_own;
-            so = wrote_until seen form sink mid after w.records own w.took wrote;
-          },
-          refl,
-        )
+  -- where the change that it gives next was not written
+  pub unwritten : (change : RootChange) (later : S) (later' : R) (next : Side T) (next' : Side U)
+      (more : Option Notes) (on : IsWalking goes_over failures stands goes_over' failures' stands'
+      version root root' start later start' later' next next' more) →
+      on.changes ≡ w.changes ++ change ∷ [] → (fault : OutputFault) (after : W) →
+      WroteIn seen form (record_of change) mid after (Err fault) → IsStoppedDiff (goes_over start)
+      (goes_over' start') version root root' (WroteSoFar seen form sink after)
+      (WrotePart seen form sink after) (told fault)
+  unwritten change later later' next next' more on are outputs.Memory after wrote = inl (
+    gave goes_over failures stands goes_over' failures' stands' version root root' start start'
+        source source' at at' notes w (WroteSoFar seen form sink after)
+        (left_so seen form sink mid after (map record_of w.changes) (record_of change) so.took wrote),
+    tt,
+  )
+  unwritten change later later' next next' more on are outputs.Write after wrote = inr (
+    gave goes_over failures stands goes_over' failures' stands' version root root' start start'
+        later later' next next' more on (WrotePart seen form sink after)
+        (subst (λ cs. WrotePart seen form sink after (map record_of cs)) (sym are)
+        (cut_off_at seen form stat w.changes changed counts sink mid so change after wrote)),
+    refl,
+  )
 
 -- ---- the flush
 
-gives_first : (version : Version) (lefts : Lefts) (records : List Record) →
-    GivesAll version lefts records → (rest : Lefts) × GivesFirst version lefts records rest
-gives_first version lefts [] gives = (lefts, refl)
-gives_first version lefts (r ∷ records) gives =
-    let more = gives_first version gives.1 records gives.3 in
-    (more.0, (gives.0, gives.1, gives.2, more.1))
-
-module _ {W : Type 0} (seen : W → SinkView) (version : Version) (old new : List ℕ)
-    (form : Option RecordForm) (f : RecordForm) (is_form : form ≡ Some f) (sink mid after : W)
-    (may_old may_new : RootFault → Type 0) (stat : Bool) where
+module _ {W : Type 0} (seen : W → SinkView) (goes_over goes_over' : ChunkFile → Type 0)
+    (version : Version) (old new : List ℕ) (form : Option RecordForm) (f : RecordForm)
+    (is_form : form ≡ Some f) (sink mid after : W) (stat : Bool) where
   abbrev So : List Record → Type 0
   So = WroteSoFar seen form sink mid
 
@@ -449,36 +485,46 @@ module _ {W : Type 0} (seen : W → SinkView) (version : Version) (old new : Lis
   All = WroteAll seen form sink after
 
   abbrev Before : Result Told Fault → Type 0
-  Before = IsEndedDiff may_old may_new version old new stat So (WrotePart seen form sink mid)
+  Before = IsEndedDiff goes_over goes_over' version old new So (WrotePart seen form sink mid) stat
 
   abbrev After : Result Told Fault → Type 0
-  After = IsEndedDiff may_old may_new version old new stat All (WrotePart seen form sink after)
+  After = IsEndedDiff goes_over goes_over' version old new All (WrotePart seen form sink after) stat
+
+  -- what holds of a way so holds of it otherwise, too
+  also : (P Q : List Move → Type 0) → ((way : List Move) → P way → Q way) →
+      GaveFirst goes_over goes_over' version old new P →
+      GaveFirst goes_over goes_over' version old new Q
+  also P Q then d =
+      record { way = d.way; rest = d.rest; walked = d.walked; so = then d.way d.so }
 
   -- no write failed, and the sink is flushed
   done_flushed : ((records : List Record) → So records → All records) →
       (outcome : Result Told Fault) → outcome ≢ Err faults.Write → Before outcome → After outcome
   done_flushed all (Ok told) other d = record {
-    records = d.records;
-    gives = d.gives;
-    so = (all d.records d.so.0, d.so.1, d.so.2);
+    first = record {
+      way = d.first.way;
+      rest = d.first.rest;
+      walked = d.first.walked;
+      so = (all (records_on d.first.way) d.first.so.0, d.first.so.1, d.first.so.2);
+    };
+    at_end = d.at_end;
   }
   done_flushed all (Err fault) other (inl d) = inl (
-    record {
-      records = d.0.records;
-      rest = d.0.rest;
-      gives = d.0.gives;
-      so = all d.0.records d.0.so;
-    },
+    also (λ way. So (records_on way)) (λ way. All (records_on way)) (λ way. all (records_on way))
+        d.0,
     d.1,
   )
   done_flushed all (Err fault) other (inr d) = absurd (other (ap Err d.1))
 
-  -- no write failed: these changes were given first
+  -- no write failed: it went this way first
   first_given : (outcome : Result Told Fault) → outcome ≢ Err faults.Write → Before outcome →
-      GaveFirst version old new So
-  first_given (Ok told) other d =
-      let first = gives_first version (at_roots old new) d.records d.gives in
-      record { records = d.records; rest = first.0; gives = first.1; so = d.so.0 }
+      GaveFirst goes_over goes_over' version old new (λ way. So (records_on way))
+  first_given (Ok told) other d = record {
+    way = d.first.way;
+    rest = d.first.rest;
+    walked = d.first.walked;
+    so = d.first.so.0;
+  }
   first_given (Err fault) other (inl d) = d.0
   first_given (Err fault) other (inr d) = absurd (other (ap Err d.1))
 
@@ -486,7 +532,8 @@ module _ {W : Type 0} (seen : W → SinkView) (version : Version) (old new : Lis
   cut_off : after ≡ mid → Before (Err faults.Write) → After (Err faults.Write)
   cut_off is (inl d) = absurd d.1
   cut_off is (inr d) = inr (
-    subst (λ last. GaveFirst version old new (WrotePart seen form sink last)) (sym is) d.0,
+    subst (λ last. GaveFirst goes_over goes_over' version old new (λ way.
+        WrotePart seen form sink last (records_on way))) (sym is) d.0,
     refl,
   )
 
@@ -497,13 +544,10 @@ module _ {W : Type 0} (seen : W → SinkView) (version : Version) (old new : Lis
   diff_told outcome shown d (inr is) = elim is.1.tells [
     | inl s ↦ subst After (sym s.0) (done_flushed
         (all_flushed seen sink mid after is.1.same form f is_form s.1 s.2 is.1.keeping) outcome is.0 d)
-    | inr s ↦ let first = first_given outcome is.0 d in subst After (sym s.0) (inr (
-      record {
-        records = first.records;
-        rest = first.rest;
-        gives = first.gives;
-        so = part_flushed seen sink mid after is.1.same form f is_form s.1 first.records first.so;
-      },
+    | inr s ↦ subst After (sym s.0) (inr (
+      also (λ way. So (records_on way)) (λ way. WrotePart seen form sink after (records_on way))
+          (λ way. part_flushed seen sink mid after is.1.same form f is_form s.1 (records_on way))
+          (first_given outcome is.0 d),
       refl,
     ))
   ]

@@ -9,6 +9,7 @@ use Rattle.prolly_entry.specs.declared.version.Version.{Version}
 use Rattle.prolly_link.specs.declared.fault.RunFault.TheVariants.{Memory as want_of_memory}
 use Rattle.prolly_link.specs.declared.message.End.{End}
 use Rattle.prolly_link.specs.declared.message.End.TheVariants.{Clean, Fault}
+use Rattle.prolly_root.specs.ChunkFile.{ChunkFile}
 use Rattle.prolly_root.specs.RootFault.{TellsFailure}
 use Rattle.prolly_root.specs.declared.root_fault.RootFault.{RootFault}
 use Rattle.prolly_root.specs.declared.root_fault.RootFault.TheVariants.{Memory}
@@ -30,16 +31,17 @@ abbrev pub AreLeavesOf : Cut → List Pair → Option RootFault → List (List P
 AreLeavesOf cut m None leaves = leaves ≡ full_leaves cut m
 AreLeavesOf cut m (Some fault) leaves = IsPrefix leaves (full_leaves cut m)
 
--- Behind what was sent before, the leaves were sent of any map with this root, whatever the bits of
--- its tree; or else a chunk of the tree has the reference of a different chunk, which can be read.
-pub record IsOldLoaded (version : Version) (root : List ℕ) (before sent : List (List Pair))
-    (fault : Option RootFault) : Type 0 where
+-- After what was sent before, the leaves were sent of any map with this root, whatever the bits of
+-- its tree. Or else a chunk of the tree has the reference of a different chunk. That was read on the
+-- way from the root down, in each file that the source goes over; or it is one of the tree, too.
+pub record IsOldLoaded (goes_over : ChunkFile → Type 0) (version : Version) (root : List ℕ)
+    (before sent : List (List Pair)) (fault : Option RootFault) : Type 0 where
   pub leaves : List (List Pair)
   pub sent_are : sent ≡ before ++ leaves
   pub are : (bits : ℕ) (m : List Pair) → IsMap m → AllByRecursion IsPair m →
       root ≡ root_reference (sha512_cut bits) version m →
       AreLeavesOf (sha512_cut bits) m fault leaves
-      ⊎ FoundClashIn version (chunk_bytes version bits m)
+      ⊎ FoundClashIn goes_over version root (chunk_bytes version bits m)
 
 -- That a read failed is told where one more call of the source failed, and only there.
 abbrev pub TellsReadsOf : ℕ → ℕ → Option RootFault → Type 0

@@ -4,8 +4,8 @@ ghost use Rattle.std.specs.Prelude.{IfSome, OnErr, OnOk};
 ghost use Rattle.prolly_look_up.specs.HeldPairs.{pairs_held};
 ghost use Rattle.prolly_root.specs.ChunkFile.{ChunkFile};
 ghost use Rattle.prolly_root.specs.ChunkSource.{GoesOverStill, HasAsked};
-ghost use Rattle.prolly_root_diff.specs.FirstFault.{DueAt, TellsLeaves};
-ghost use Rattle.prolly_root_diff.specs.LeafWalk.{GivesNext, IsLeafRead, TellsLeaf, due_of_walk};
+ghost use Rattle.prolly_root_diff.specs.FirstFault.{DueAt, MayStopBehind, TellsLeaves};
+ghost use Rattle.prolly_root_diff.specs.LeafWalk.{GivesNext, IsLeafRead, due_of_walk};
 ghost use Rattle.prolly_root_diff.specs.Places.{AllStand};
 ghost use Rattle.prolly_root_diff.specs.ToGo.{weights};
 ghost use Rattle.prolly_apply.specs.OldLoaded.{IsOldLoaded, TellsReadsOf, load_end};
@@ -55,8 +55,8 @@ pub fn load_old<S: ReadAhead, O: Out<OldLeaf>, R: Wait + Threads + Sync>(
     mut out: O,
 ) -> OldLoaded<S, O>
     ensures link { O.closed_link result.out ≡ O.link out }
-    ensures loaded { IsOldLoaded version root.now.0 (O.sent out) (O.all_sent result.out)
-        result.fault }
+    ensures loaded { IsOldLoaded (S.goes_over source) version root.now.0 (O.sent out)
+        (O.all_sent result.out) result.fault }
     ensures end { O.end_sent result.out ≡ load_end result.fault }
 
     // A failed read is told. Of a file that the source goes over it is told what is wrong first, and
@@ -94,10 +94,10 @@ fn send_leaves<S: ReadAhead, O: Out<OldLeaf>, R: Wait + Threads + Sync>(
     out: &mut O,
 ) -> Result<(), RootFault>
     ensures link { O.link out.new ≡ O.link out.old }
-    ensures ok { OnOk result (IsOldLoaded version root.now.0 (O.sent out.old) (O.sent out.new)
-        None) }
-    ensures err { IfErr result (λ fault. IsOldLoaded version root.now.0 (O.sent out.old)
-        (O.sent out.new) (Some fault)) }
+    ensures ok { OnOk result (IsOldLoaded (S.goes_over source.old) version root.now.0
+        (O.sent out.old) (O.sent out.new) None) }
+    ensures err { IfErr result (λ fault. IsOldLoaded (S.goes_over source.old) version root.now.0
+        (O.sent out.old) (O.sent out.new) (Some fault)) }
     ensures first { IfErr result (λ fault. TellsLeaves (S.goes_over source.old) version root.now.0
         (Some fault)) }
     ensures all { OnOk result (TellsLeaves (S.goes_over source.old) version root.now.0 None) }
@@ -131,14 +131,14 @@ fn next_leaf<S: ReadAhead, R: Threads + Sync>(
 ) -> Result<Option<LeafRead>, RootFault>
     requires { leaves.old.fault ≡ None }
     ensures version { leaves.new.version ≡ leaves.old.version }
-    ensures gives { IfOk result (λ leaf. GivesNext leaves.old.version (due_of_walk leaves.old) leaf
-        (due_of_walk leaves.new)) }
+    ensures gives { IfOk result (λ leaf. GivesNext S.goes_over S.stands leaves.old.version
+        source.old leaves.old.due.items leaf leaves.new.due.items) }
     ensures nearer { IfOk result (λ leaf. IfSome leaf (λ _.
         weights (due_of_walk leaves.new) < weights (due_of_walk leaves.old))) }
     ensures goes_on { OnOk result (leaves.new.fault ≡ None) }
     ensures tells { (file : ChunkFile) (old : List DueAt) → S.goes_over source.old file →
         AllStand S.stands file leaves.old.due.items old →
-        TellsLeaf S.stands leaves.old.version file old leaves.new.due.items result }
+        IfErr result (MayStopBehind leaves.old.version file old) }
     ensures asked { HasAsked S.goes_over S.failures source.old source.new result }
 {
     if !leaves.is_exhausted() {

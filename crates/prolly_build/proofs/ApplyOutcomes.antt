@@ -1,5 +1,5 @@
 -- What is answered of a run over an old tree.
-use Rattle.std.proofs.Common.{◌≡◌, ◌⊎◌, ◌≤◌, ◌+◌, ◌-◌, ℕ, Bool, true, false, List, [], ◌∷◌, length}
+use Rattle.std.proofs.Common.{OnOk, ◌≡◌, ◌⊎◌, ◌≤◌, ◌+◌, ◌-◌, ℕ, Bool, true, false, List, [], ◌∷◌, length}
 use Rattle.std.proofs.Common.{map, Option, Some, None, Result, Ok, Err, inl, inr, refl, ap, sym}
 use Rattle.std.proofs.Common.{subst, ◌∙◌, arith}
 use Rattle.std.specs.Prelude.{IfSome}
@@ -22,9 +22,9 @@ use Rattle.prolly_merge.specs.Inputs.{fault_in}
 use Rattle.prolly_root.specs.ChunkFile.{ChunkFile, IsLawful, chunk_file}
 use Rattle.prolly_root.specs.RootFault.{MayFail}
 use Rattle.prolly_root.specs.declared.root_fault.RootFault.{RootFault}
-use Rattle.prolly_root_diff.specs.FirstFault.{IsLeafFault, LawfulFilesAreWalked, TellsLeafFault}
-use Rattle.prolly_root_diff.specs.FirstFault.{TellsLeaves, TreeStep}
-use Rattle.prolly_root_diff.specs.Leaves.{FoundClashIn}
+use Rattle.prolly_root_diff.specs.FirstFault.{HasAllLeaves, IsLeafFault, LawfulFilesAreWalked}
+use Rattle.prolly_root_diff.specs.FirstFault.{TellsLeafFault, TellsLeaves, TreeStep}
+use Rattle.prolly_root_diff.specs.lemmas.ReadChunks.{clash_in_fewer}
 use Rattle.prolly_root_diff.specs.lemmas.Roots.{lawful_only}
 use Rattle.prolly_tree.specs.Chunk.{Chunk, chunks}
 use Rattle.prolly_tree.specs.Difference.{puts}
@@ -37,9 +37,10 @@ use Rattle.prolly_apply.specs.Applied.{SendsApplied, old_tree_fault}
 use Rattle.prolly_apply.specs.Cutting.{AreCut}
 use Rattle.prolly_apply.specs.OldLoaded.{IsOldLoaded, load_end}
 use Rattle.prolly_apply.specs.Taking.{both, pairs_of}
-use Rattle.prolly_build.specs.Applied.{IsApplyOutcome, IsMapOf, IsRefusedOver, IsStoppedOver}
+use Rattle.prolly_build.specs.Applied.{IsApplyOutcome, IsRefusedOver, IsStoppedOver}
 use Rattle.prolly_build.specs.Applied.{MayRefuseOld}
 use Rattle.prolly_build.specs.Applied.{IsTold, OfMaps}
+use Rattle.prolly_build.proofs.GivenBack.{none_at_ok}
 use Rattle.prolly_build.specs.BuiltFile.{AreKept, IsBegun, IsStartFault, IsUnmadeOf}
 use Rattle.prolly_build.specs.BuiltFile.{IsWriterFault}
 use Rattle.prolly_build.specs.Config.{AreLawful, Settings}
@@ -105,9 +106,10 @@ changes_link count outs closed input input' (Some sender) paired fed reads =
 
 -- a sink that was left alone
 pub untouched_refused : {S : Type 0} (seen : S → SourceView) → LeftAreBytes seen →
-    (settings : Settings) (root : List ℕ) (before : List S) (old : SinkView) →
-    AreHonest seen before → OfMaps settings root (IsRefusedOver seen settings before old old)
-untouched_refused seen bytes settings root before old honest m of =
+    (goes : ChunkFile → Type 0) (settings : Settings) (root : List ℕ) (before : List S)
+    (old : SinkView) → AreHonest seen before →
+    OfMaps goes settings root (IsRefusedOver seen settings before old old)
+untouched_refused seen bytes goes settings root before old honest m of =
     let some = some_good seen settings.max_records bytes before honest in inl (record {
       goods = some.0;
       are_good = some.1;
@@ -123,6 +125,20 @@ untouched_refused seen bytes settings root before old honest m of =
         );
       };
     })
+
+-- of fewer files the same is told
+loaded_in : (over goes : ChunkFile → Type 0) → ((file : ChunkFile) → goes file → over file) →
+    (version : Version) (root : List ℕ) (sent : List (List Pair)) (fault : Option RootFault) →
+    IsOldLoaded over version root [] sent fault → IsOldLoaded goes version root [] sent fault
+loaded_in over goes goes_is version root sent fault loaded = record {
+  leaves = loaded.leaves;
+  sent_are = loaded.sent_are;
+  are = λ bits m rising lawful named. elim (loaded.are bits m rising lawful named) [
+    | inl are ↦ inl are
+    | inr clash ↦
+        inr (clash_in_fewer goes over goes_is version root (chunk_bytes version bits m) clash)
+  ];
+}
 
 -- why the old tree was refused
 refused_old : (over goes : ChunkFile → Type 0) (version walked : Version) (root : List ℕ) →
@@ -175,6 +191,7 @@ module _ {S : Type 0} (seen : S → SourceView) (goes : ChunkFile → Type 0) (s
         stopped = λ file. absurd (h.no_file file);
         of_file = λ e. h.no_file (subst IsFileFault (sym (same_run fault old_tree_fault e)) tt);
         cut_so = λ e. absurd (bits_are_no_run fault (sym e));
+        has_all = tt;
         of_old = λ told e. absurd (old_is_no_run told fault (sym e));
         refused = λ e. absurd (h.no_memory (same_run fault Memory e));
         keeps = begun.keeps;
@@ -184,7 +201,7 @@ module _ {S : Type 0} (seen : S → SourceView) (goes : ChunkFile → Type 0) (s
   pub unstarted_outcome : (fault : RunFault) → (IsWriterFault fault → ⊥) →
       (IsFileFault fault → ⊥) → untouched → AreKept seen before after → IsBegun settings old new →
       (fault ≡ Memory → AreHonest seen before →
-      OfMaps settings root (IsRefusedOver seen settings before old new)) →
+      OfMaps goes settings root (IsRefusedOver seen settings before old new)) →
       Answers (Err (answers.Run fault))
   unstarted_outcome fault no_writer no_file none kept begun refused = record {
     applied = tt;
@@ -196,6 +213,7 @@ module _ {S : Type 0} (seen : S → SourceView) (goes : ChunkFile → Type 0) (s
     stopped = λ file. absurd (no_file file);
     of_file = λ e. no_file (subst IsFileFault (sym (same_run fault old_tree_fault e)) tt);
     cut_so = λ e. absurd (bits_are_no_run fault (sym e));
+    has_all = tt;
     of_old = λ told e. absurd (old_is_no_run told fault (sym e));
     refused = λ e. refused (same_run fault Memory e);
     keeps = begun.keeps;
@@ -212,6 +230,7 @@ module _ {S : Type 0} (seen : S → SourceView) (goes : ChunkFile → Type 0) (s
     stopped = λ file. absurd file;
     of_file = λ e. subst IsFileFault (sym (same_run Lost old_tree_fault e)) tt;
     cut_so = λ e. absurd (bits_are_no_run Lost (sym e));
+    has_all = tt;
     of_old = λ told e. absurd (old_is_no_run told Lost (sym e));
     refused = λ e. absurd (lost_is_no_memory (same_run Lost Memory e));
     keeps = begun.keeps;
@@ -254,15 +273,13 @@ module _ {S : Type 0} (seen : S → SourceView) (goes : ChunkFile → Type 0) (s
 
   module _ (bytes : LeftAreBytes seen) (kept : AreKept seen before after) (out : Whole Chunk)
       (refused : Bool) (old_fault : Option RootFault)
-      (never : refused ≡ true → (m : List Pair) → IsMapOf settings root m →
-      ⊥ ⊎ FoundClashIn settings.version (chunk_bytes settings.version settings.bits m))
+      (never : refused ≡ true → OfMaps goes settings root (λ m. ⊥))
       (first : IfSome old_fault (MayRefuseOld goes settings.version root))
-      (over : (m : List Pair) → IsMapOf settings root m →
-      IsRunOver seen settings before after root m out.items out.end
-      ⊎ FoundClashIn settings.version (chunk_bytes settings.version settings.bits m)) where
+      (over : OfMaps goes settings root (λ m. IsRunOver seen settings before after root m out.items
+      out.end)) where
     made_outcome : (report : Report) → IsFinished settings out old new (Ok report) →
-        Answers (Ok report)
-    made_outcome report finished = record {
+        TellsLeaves goes settings.version root None → Answers (Ok report)
+    made_outcome report finished has_all = record {
       applied = λ m of. elim (over m of) [
         | inl r ↦ inl (record {
           goods = r.goods;
@@ -279,6 +296,7 @@ module _ {S : Type 0} (seen : S → SourceView) (goes : ChunkFile → Type 0) (s
       stopped = tt;
       of_file = tt;
       cut_so = tt;
+      has_all = has_all;
       of_old = tt;
       refused = tt;
       keeps = finished.keeps;
@@ -286,7 +304,7 @@ module _ {S : Type 0} (seen : S → SourceView) (goes : ChunkFile → Type 0) (s
 
     refused_so : (fault : RunFault) → IsFinished settings out old new (Err fault) →
         fault ≡ Memory → AreHonest seen before →
-        OfMaps settings root (IsRefusedOver seen settings before old new)
+        OfMaps goes settings root (IsRefusedOver seen settings before old new)
     refused_so fault finished memory honest m of =
         let at = finished.refused memory in
         elim (over m of) [
@@ -296,7 +314,7 @@ module _ {S : Type 0} (seen : S → SourceView) (goes : ChunkFile → Type 0) (s
 
     stopped_so : (fault : RunFault) → IsFinished settings out old new (Err fault) →
         IsFileFault fault → AreHonest seen before →
-        OfMaps settings root (IsStoppedOver seen settings before after old new fault)
+        OfMaps goes settings root (IsStoppedOver seen settings before after old new fault)
     stopped_so fault finished file honest m of =
         let at = finished.stopped file in
         elim (over m of) [
@@ -328,6 +346,7 @@ module _ {S : Type 0} (seen : S → SourceView) (goes : ChunkFile → Type 0) (s
       stopped = stopped_so fault finished;
       of_file = λ e. of_file (same_run fault old_tree_fault e);
       cut_so = λ e. absurd (bits_are_no_run fault (sym e));
+      has_all = tt;
       of_old = λ told e. absurd (old_is_no_run told fault (sym e));
       refused = λ e. refused_so fault finished (same_run fault Memory e);
       keeps = finished.keeps;
@@ -375,6 +394,7 @@ module _ {S : Type 0} (seen : S → SourceView) (goes : ChunkFile → Type 0) (s
         stopped = stopped_so old_tree_fault (as_old fault is finished);
         of_file = λ e. absurd (old_is_no_run told old_tree_fault e);
         cut_so = λ e. absurd (bits_are_no_old told (sym e));
+        has_all = tt;
         of_old = λ t e. subst (MayRefuseOld goes settings.version root) (same_old told t e)
             (subst (λ (f : Option RootFault). IfSome f (MayRefuseOld goes settings.version root))
             some first);
@@ -397,6 +417,7 @@ module _ {S : Type 0} (seen : S → SourceView) (goes : ChunkFile → Type 0) (s
         stopped = stopped_so old_tree_fault (as_old fault is finished);
         of_file = λ e. absurd (bits_are_no_run old_tree_fault e);
         cut_so = λ e. never wrong;
+        has_all = tt;
         of_old = λ told e. absurd (bits_are_no_old told e);
         refused = λ e. absurd (bits_are_no_run Memory e);
         keeps = finished.keeps;
@@ -406,17 +427,17 @@ module _ {S : Type 0} (seen : S → SourceView) (goes : ChunkFile → Type 0) (s
 
     told_outcome : (answer : Result Report RunFault) (result : Result Report ApplyFault) →
         IsFinished settings out old new answer → TellsOf refused old_fault answer result →
-        IsAnswered result
-    told_outcome (Ok report) (Ok told) finished is =
+        OnOk answer (TellsLeaves goes settings.version root None) → IsAnswered result
+    told_outcome (Ok report) (Ok told) finished is has_all =
         subst (λ (r : Report). IsAnswered (Ok r)) (sym is)
-        (record { outcome = made_outcome report finished; counted = λ e. cc })
-    told_outcome (Ok report) (Err told) finished is = absurd is
-    told_outcome (Err run) (Ok told) finished is = absurd is
-    told_outcome (Err run) (Err (answers.Run told)) finished is =
+        (record { outcome = made_outcome report finished has_all; counted = λ e. cc })
+    told_outcome (Ok report) (Err told) finished is has_all = absurd is
+    told_outcome (Err run) (Ok told) finished is has_all = absurd is
+    told_outcome (Err run) (Err (answers.Run told)) finished is has_all =
         run_outcome run told finished is
-    told_outcome (Err run) (Err (answers.Old told)) finished is =
+    told_outcome (Err run) (Err (answers.Old told)) finished is has_all =
         old_outcome run told is.0 is.2 finished
-    told_outcome (Err run) (Err answers.WrongBits) finished is =
+    told_outcome (Err run) (Err answers.WrongBits) finished is has_all =
         bits_outcome run is.0 is.1 finished
 
   -- ---- the run that was lent its sources
@@ -473,11 +494,12 @@ module _ {S : Type 0} (seen : S → SourceView) (goes : ChunkFile → Type 0) (s
       fed in
       let fed_changes = changes_are seen settings.max_records before after count outs
       closed changes_in idle counted paired here in
-      let is_run : IsOldRun seen settings before after root run.leaves = record {
+      let is_run : IsOldRun seen settings before after root goes run.leaves = record {
         fault = fault;
         sent = sent.items;
-        loaded = subst (λ (v : Version). IsOldLoaded v root [] sent.items fault) version_is
-            loaded.loaded;
+        loaded = loaded_in (goes_over source) goes goes_is settings.version root sent.items fault
+            (subst (λ (v : Version). IsOldLoaded (goes_over source) v root [] sent.items fault)
+            version_is loaded.loaded);
         changes = first_sent (senders_of closed idle);
         fed = fed_changes;
         refused = refused;
@@ -492,15 +514,24 @@ module _ {S : Type 0} (seen : S → SourceView) (goes : ChunkFile → Type 0) (s
       let at_top = run_at level below run is_run in
       told_outcome bytes (all_kept seen settings.max_records 0 before fed_changes.loader_outs after
       fed_changes.files fed_changes.loaded) out refused fault
-      (λ wrong m of. never_refused seen settings before after root run.leaves is_run wrong m of)
+      (never_refused seen settings before after root goes run.leaves is_run)
       (refused_old (goes_over source) goes settings.version version root law goes_is version_is
       fault loaded.first)
       (λ m of. at_top m of) met.answer result met.finished met.told
+      (all_at_ok met.answer (none_at_ok cut leaves_in changes_in link leaves changes refused
+      settings Made level out run applied old new fault met.answer met.finished ended))
     where
+      all_at_ok : (answer : Result Report RunFault) → OnOk answer (fault ≡ None) →
+          OnOk answer (TellsLeaves goes settings.version root None)
+      all_at_ok (Err run_fault) none = tt
+      all_at_ok (Ok report) none = λ file g.
+          subst (λ v. HasAllLeaves v file root) version_is
+          (subst (TellsLeaves (goes_over source) version root) none loaded.first file
+          (goes_is file g))
+
       run_at : (l : ℕ) → l ≡ settings.stages - 1 → (r : HasRun Made settings l out.items out.end) →
-          IsOldRun seen settings before after root r.leaves → (m : List Pair) →
-          IsMapOf settings root m → IsRunOver seen settings before after root m out.items out.end
-          ⊎ FoundClashIn settings.version (chunk_bytes settings.version settings.bits m)
+          IsOldRun seen settings before after root goes r.leaves → OfMaps goes settings root
+          (λ m. IsRunOver seen settings before after root m out.items out.end)
       run_at l l_is r o m of =
           let top : HasRun Made settings (settings.stages - 1) out.items out.end = record {
             leaves = r.leaves;
@@ -511,4 +542,4 @@ module _ {S : Type 0} (seen : S → SourceView) (goes : ChunkFile → Type 0) (s
             end_is = r.end_is;
           } in
           old_run seen settings before after root lawful (omega (arith, few)) Made out.items out.end
-          top o m of
+          top goes o m of

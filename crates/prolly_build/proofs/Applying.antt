@@ -5,7 +5,6 @@ use Rattle.std.proofs.Common.{inl, inr, refl, ap, sym, subst, ◌∙◌, arith}
 use Rattle.std.specs.List.{AllByRecursion, flat_map}
 use Rattle.std.specs.Prelude.{IfSome}
 use Rattle.std.proofs.lemmas.List.{append-nil, length-append, length-map, map-append}
-use Rattle.prolly_look_up.specs.Content.{chunk_bytes}
 use Rattle.prolly_entry.specs.Cut.{Cut, sha512_cut}
 use Rattle.prolly_entry.specs.Keys.{Rising}
 use Rattle.prolly_entry.specs.Overlay as overlays
@@ -22,9 +21,10 @@ use Rattle.prolly_link.specs.declared.message.End.TheVariants.{Clean, Fault}
 use Rattle.prolly_link.specs.declared.fault.RunFault.{RunFault}
 use Rattle.prolly_link.specs.declared.fault.RunFault.TheVariants.{Memory}
 use Rattle.prolly_merge.specs.Inputs.{fault_in, lists_of, stop_end}
+use Rattle.prolly_root.specs.ChunkFile.{ChunkFile}
 use Rattle.prolly_root.specs.declared.root_fault.RootFault.{RootFault}
 use Rattle.prolly_root.specs.declared.root_fault.RootFault.TheVariants as roots
-use Rattle.prolly_root_diff.specs.Leaves.{FoundClashIn, full_leaves}
+use Rattle.prolly_root_diff.specs.Leaves.{full_leaves}
 use Rattle.prolly_laws.specs.Stages.{composition, within_is_prefix}
 use Rattle.prolly_stage.specs.lemmas.Takings.{writer_takes}
 use Rattle.prolly_stage.specs.Sends.{Sends, closing_of}
@@ -41,7 +41,7 @@ use Rattle.prolly_apply.specs.OldLoaded.{AreLeavesOf, IsOldLoaded, load_end}
 use Rattle.prolly_apply.specs.Taking.{both, pairs_of}
 use Rattle.prolly_apply.specs.lemmas.OldLeaves.{first_are_cut, first_pairs, leaves_are_cut}
 use Rattle.prolly_apply.specs.lemmas.OldLeaves.{pairs_are, rest_are_cut}
-use Rattle.prolly_build.specs.Applied.{IsMapOf, IsOldFault}
+use Rattle.prolly_build.specs.Applied.{IsMapOf, IsOldFault, OfMaps}
 use Rattle.prolly_build.specs.BuiltFile.{AreRead, IsInputEnd, IsLoadFault, IsRunOf}
 use Rattle.prolly_build.specs.Config.{AreLawful, Settings}
 use Rattle.prolly_build.specs.InputFaults.{CountFor}
@@ -294,10 +294,10 @@ module _ {S : Type 0} (seen : S → SourceView) (settings : Settings) (before af
   cut = sha512_cut settings.bits
 
   -- what the stage of the leaves had, and what it sent
-  pub record IsOldRun (leaves : Whole Chunk) : Type 0 where
+  pub record IsOldRun (goes_over : ChunkFile → Type 0) (leaves : Whole Chunk) : Type 0 where
     pub fault : Option RootFault
     pub sent : List (List Pair)
-    pub loaded : IsOldLoaded settings.version root [] sent fault
+    pub loaded : IsOldLoaded goes_over settings.version root [] sent fault
     pub changes : Input RunFault
     pub fed : AreChanges seen settings.max_records before after changes
     pub refused : Bool
@@ -341,7 +341,8 @@ module _ {S : Type 0} (seen : S → SourceView) (settings : Settings) (before af
 
   module _ (lawful : AreLawful settings) (sixteen : length before ≤ 16) (m : List Pair)
       (of : IsMapOf settings root m) (Made : Whole Chunk → Type 0) (events : List Chunk) (end : End)
-      (run : HasRun Made settings (settings.stages - 1) events end) (old : IsOldRun run.leaves)
+      (run : HasRun Made settings (settings.stages - 1) events end)
+      (goes_over : ChunkFile → Type 0) (old : IsOldRun goes_over run.leaves)
       (are : AreLeavesOf cut m old.fault old.sent) where
     abbrev old_input : Input RunFault
     old_input = map_input (pairs_of old.sent) (fault_in (load_end old.fault))
@@ -657,10 +658,10 @@ module _ {S : Type 0} (seen : S → SourceView) (settings : Settings) (before af
     }
 
   -- the old tree is refused of no map of the root
-  pub never_refused : (leaves : Whole Chunk) (old : IsOldRun leaves) → old.refused ≡ true →
-      (m : List Pair) → IsMapOf settings root m →
-      ⊥ ⊎ FoundClashIn settings.version (chunk_bytes settings.version settings.bits m)
-  never_refused leaves old refused m of =
+  pub never_refused : (goes_over : ChunkFile → Type 0) (leaves : Whole Chunk)
+      (old : IsOldRun goes_over leaves) → old.refused ≡ true →
+      OfMaps goes_over settings root (λ m. ⊥)
+  never_refused goes_over leaves old refused m of =
       elim (old.loaded.are settings.bits m of.rising of.lawful of.named) [
         | inl are ↦ inl (old.wrong refused (subst (λ (ls : List (List Pair)). AreCut cut ls)
             (sym old.loaded.sent_are)
@@ -672,12 +673,12 @@ module _ {S : Type 0} (seen : S → SourceView) (settings : Settings) (before af
   -- so it is of any map of the root, or there is a clash
   pub old_run : AreLawful settings → length before ≤ 16 → (Made : Whole Chunk → Type 0)
       (events : List Chunk) (end : End)
-      (run : HasRun Made settings (settings.stages - 1) events end) → IsOldRun run.leaves →
-      (m : List Pair) → IsMapOf settings root m → IsRunOver m events end ⊎
-      FoundClashIn settings.version (chunk_bytes settings.version settings.bits m)
-  old_run lawful sixteen Made events end run old m of =
+      (run : HasRun Made settings (settings.stages - 1) events end)
+      (goes_over : ChunkFile → Type 0) → IsOldRun goes_over run.leaves →
+      OfMaps goes_over settings root (λ m. IsRunOver m events end)
+  old_run lawful sixteen Made events end run goes_over old m of =
       elim (old.loaded.are settings.bits m of.rising of.lawful of.named) [
-        | inl are ↦ inl (run_over lawful sixteen m of Made events end run old
+        | inl are ↦ inl (run_over lawful sixteen m of Made events end run goes_over old
             (subst (λ (ls : List (List Pair)). AreLeavesOf cut m old.fault ls)
             (sym old.loaded.sent_are) are))
         | inr clash ↦ inr clash

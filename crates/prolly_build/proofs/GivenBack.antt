@@ -40,6 +40,29 @@ pub gone : {D : Type 0} (goes_over : D → ChunkFile → Type 0) (failures : D �
 gone goes_over failures source halts.NoThread fault is = inl (ap (λ f. Err (answers.Run f)) is)
 gone goes_over failures source halts.Lost fault is = inr (ap (λ f. Err (answers.Run f)) is)
 
+-- where an answer is a report the loader told no fault
+module _ (cut : ℕ) (leaves_in : Receiving (List Pair)) (changes_in : Receiving Record)
+    (over : LinkId) (leaves : Receiving (List Pair)) (changes : Receiving Record) (refused : Bool)
+    (settings : Settings) (Made : Whole Chunk → Type 0) (level : ℕ) (out : Whole Chunk)
+    (run : HasRun Made settings level out.items out.end)
+    (applied : IsAppliedTo cut leaves_in changes_in over leaves changes refused run.leaves)
+    (old new : SinkView) (fault : Option RootFault) where
+  -- a clean end at the top is one of the leaves
+  clean_below : out.end ≡ Clean → run.leaves.end ≡ Clean
+  clean_below e = elim run.end_is [
+    | inl is ↦ sym is ∙ e
+    | inr memory ↦ absurd (apart (sym memory ∙ e))
+  ]
+    where
+      apart : Fault Memory ≡ Clean → ⊥
+      apart e = cc
+
+  pub none_at_ok : (answer : Result Report RunFault) → IsFinished settings out old new answer →
+      end_given leaves.progress ≡ load_end fault → OnOk answer (fault ≡ None)
+  none_at_ok (Ok report) finished ended =
+      no_fault fault (ap fault_in (sym ended ∙ applied.clean (clean_below finished.clean)))
+  none_at_ok (Err run_fault) finished ended = tt
+
 module _ {D : Type 0} (goes_over : D → ChunkFile → Type 0) (failures : D → ℕ) (version : Version)
     (root : List ℕ) (source : D) (link : LinkId) (source' : D) (fault : Option RootFault)
     (sent : Whole (List Pair))
@@ -54,22 +77,10 @@ module _ {D : Type 0} (goes_over : D → ChunkFile → Type 0) (failures : D →
       (run : HasRun Made settings level out.items out.end)
       (applied : IsAppliedTo cut leaves_in changes_in over leaves changes refused run.leaves)
       (senders : List (Whole Record)) (old new : SinkView) where
-    -- a clean end at the top is one of the leaves
-    clean_below : out.end ≡ Clean → run.leaves.end ≡ Clean
-    clean_below e = elim run.end_is [
-      | inl is ↦ sym is ∙ e
-      | inr memory ↦ absurd (apart (sym memory ∙ e))
-    ]
-      where
-        apart : Fault Memory ≡ Clean → ⊥
-        apart e = cc
-
-    same : (answer : Result Report RunFault) (result : Result Report ApplyFault) →
-        IsFinished settings out old new answer → end_given leaves.progress ≡ load_end fault →
+    same : (answer : Result Report RunFault) → OnOk answer (fault ≡ None) →
         OnOk answer (failures source' ≡ failures source)
-    same (Ok report) result finished ended =
-        unfailed (no_fault fault (ap fault_in (sym ended ∙ applied.clean (clean_below finished.clean))))
-    same (Err run_fault) result finished ended = tt
+    same (Ok report) none = unfailed none
+    same (Err run_fault) none = tt
 
     tells : (answer : Result Report RunFault) (result : Result Report ApplyFault) →
         TellsOf refused fault answer result → OnOk answer (failures source' ≡ failures source) →
@@ -87,8 +98,9 @@ module _ {D : Type 0} (goes_over : D → ChunkFile → Type 0) (failures : D →
         IsGivenBack goes_over failures source (Some source') result
     given_back result (inl met) = (
       loaded.keeps,
-      tells met.answer result met.told (same met.answer result met.finished
-          (ap end_given (met.leaves_met applied.old_ended).1 ∙ loaded.end_is)),
+      tells met.answer result met.told (same met.answer (none_at_ok cut leaves_in changes_in over
+          leaves changes refused settings Made level out run applied old new fault met.answer
+          met.finished (ap end_given (met.leaves_met applied.old_ended).1 ∙ loaded.end_is))),
     )
     given_back result (inr lost) = (
       loaded.keeps,

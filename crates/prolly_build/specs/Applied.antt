@@ -22,7 +22,7 @@ use Rattle.prolly_link.specs.declared.fault.RunFault.TheVariants.{Memory, Write,
 use Rattle.prolly_root.specs.ChunkFile.{ChunkFile, IsLawful, chunk_file}
 use Rattle.prolly_root.specs.RootFault.{MayFail}
 use Rattle.prolly_root.specs.declared.root_fault.RootFault.{RootFault}
-use Rattle.prolly_root_diff.specs.FirstFault.{TellsLeafFault}
+use Rattle.prolly_root_diff.specs.FirstFault.{TellsLeafFault, TellsLeaves}
 use Rattle.prolly_root_diff.specs.Leaves.{FoundClashIn}
 use Rattle.prolly_apply.specs.Applied.{old_tree_fault}
 use Rattle.prolly_build.specs.BuiltFile.{AreKept, AreRead, IsBegun, IsMadeFile, IsStartFault}
@@ -60,11 +60,13 @@ pub record IsMapOf (settings : Settings) (root : List ℕ) (m : List Pair) : Typ
   pub named : root ≡ root_reference (sha512_cut settings.bits) settings.version m
   pub few : length m < 2 ^ 63
 
--- Of any map of the root it is so; or a chunk of its tree has the reference of a different chunk, which
--- can be read.
-abbrev pub OfMaps : Settings → List ℕ → (List Pair → Type 0) → Type 0
-OfMaps settings root So = (m : List Pair) → IsMapOf settings root m →
-    So m ⊎ FoundClashIn settings.version (chunk_bytes settings.version settings.bits m)
+-- Of any map of the root it is so. Or a chunk of its tree has the reference of a different chunk. That
+-- was read on the way from the root down, in each chunk file that the old tree's source goes over; or
+-- it is one of the tree, too.
+abbrev pub OfMaps : (ChunkFile → Type 0) → Settings → List ℕ → (List Pair → Type 0) → Type 0
+OfMaps goes_over settings root So = (m : List Pair) → IsMapOf settings root m →
+    So m ⊎ FoundClashIn goes_over settings.version root
+    (chunk_bytes settings.version settings.bits m)
 
 -- What the loader of an old tree sends as its fault: want of memory, or that the old tree is at fault.
 abbrev pub IsOldFault : RunFault → Type 0
@@ -138,14 +140,14 @@ pub record IsApplyOutcome {S : Type 0} (seen : S → SourceView) (goes_over : Ch
     (result : Result Report ApplyFault) : Type 0 where
   -- A report: of any map of the root, each source was read to its end, the sink took the chunk file
   -- of the overlay of the map and their records, and the report is that of its tree.
-  pub applied : IfOk result (λ report. OfMaps settings root
+  pub applied : IfOk result (λ report. OfMaps goes_over settings root
       (IsApplied seen settings before after old new report))
   -- The sources are there then, each as its loader left it.
   pub kept : OnOk result (AreKept seen before after)
   -- A fault of the writer: of any map of the root, each source was read to its end, and that file was
   -- not made, for this fault.
   pub unmade : IfErr result (λ fault. (told : RunFault) → fault ≡ answers.Run told →
-      IsWriterFault told → OfMaps settings root
+      IsWriterFault told → OfMaps goes_over settings root
       (IsUnapplied seen settings before after old new told))
   -- Every fault but a failed write: no end record is begun.
   pub begun : IfErr result (λ fault. fault ≢ answers.Run Write → IsBegun settings old new)
@@ -160,17 +162,21 @@ pub record IsApplyOutcome {S : Type 0} (seen : S → SourceView) (goes_over : Ch
   -- and the files decide, the tree being the input before file 0, and the sink took the chunks that
   -- the pairs before it close.
   pub stopped : IfErr result (λ fault. IsFileFault (fault_told fault) → AreHonest seen before →
-      OfMaps settings root (IsStoppedOver seen settings before after old new (fault_told fault)))
+      OfMaps goes_over settings root
+      (IsStoppedOver seen settings before after old new (fault_told fault)))
   -- A fault of the old tree is never told as one of a file.
   pub of_file : IfErr result (λ fault. fault ≢ answers.Run old_tree_fault)
   -- Wrong bits are told of no map of the root.
-  pub cut_so : IfErr result (λ fault. fault ≡ answers.WrongBits → OfMaps settings root (λ m. ⊥))
+  pub cut_so : IfErr result (λ fault. fault ≡ answers.WrongBits →
+      OfMaps goes_over settings root (λ m. ⊥))
+  -- A report: the file that the old tree's source goes over has all chunks of the tree.
+  pub has_all : OnOk result (TellsLeaves goes_over settings.version root None)
   -- Of the old tree's file what is wrong first is told.
   pub of_old : IfErr result (λ fault. (told : RootFault) → fault ≡ answers.Old told →
       MayRefuseOld goes_over settings.version root told)
   -- Want of memory, over honest sources: of any map of the root, the sink took a prefix of the file,
   -- without its end record, of the first pairs of the overlay of the map and all good records.
   pub refused : IfErr result (λ fault. fault ≡ answers.Run Memory → AreHonest seen before →
-      OfMaps settings root (IsRefusedOver seen settings before old new))
+      OfMaps goes_over settings root (IsRefusedOver seen settings before old new))
   -- The sink keeps what it takes, if it did.
   pub keeps : old.is_keeping ≡ true → new.is_keeping ≡ true

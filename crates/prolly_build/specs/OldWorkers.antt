@@ -1,11 +1,10 @@
 -- What the workers give back that an old tree needs.
-use Rattle.std.specs.Prelude.{◌≡◌, ℕ, Bool, true, false, List, [], Option, IfSome}
+use Rattle.std.specs.Prelude.{◌≡◌, ℕ, Bool, true, false, List, [], Option}
 use Rattle.prolly_entry.specs.Cut.{sha512_cut}
 use Rattle.prolly_entry.specs.Pair.{Pair}
 use Rattle.prolly_entry.specs.Record.{Record}
 use Rattle.prolly_entry.specs.declared.version.Version.{Version}
 use Rattle.prolly_tree.specs.Chunk.{Chunk}
-use Rattle.prolly_tree.specs.File.{root_reference}
 use Rattle.prolly_link.specs.Identity.{LinkId}
 use Rattle.prolly_link.specs.Views.{Receiving, Whole}
 use Rattle.prolly_link.specs.Progress.{end_given, HasEnded}
@@ -26,7 +25,7 @@ pub record IsOldLoadedFrom {D : Type 0} (goes_over : D → ChunkFile → Type 0)
     (version : Version) (root : List ℕ) (source : D) (link : LinkId) (source' : D)
     (fault : Option RootFault) (closed : Whole (List Pair)) : Type 0 where
   pub writes : closed.link ≡ link
-  pub loaded : IsOldLoaded version root [] closed.items fault
+  pub loaded : IsOldLoaded (goes_over source) version root [] closed.items fault
   pub end_is : closed.end ≡ load_end fault
   pub first : TellsLeaves (goes_over source) version root fault
   pub reads : TellsReadsOf (failures source) (failures source') fault

@@ -86,8 +86,8 @@ where
 /// as it is, and its pairs are neither copied nor hashed again. All else is done as a build does it.
 ///
 /// The root, the version and the bits of the settings are believed: the tree is the one that these
-/// three name. Of any map of theirs the answer is the first of these that holds, or else two
-/// different chunks with one reference are there:
+/// three name. Of any map of theirs the answer is the first of these that holds, or else a chunk of
+/// its tree has the reference of a different chunk, which was read or is one of the tree, too:
 ///
 /// - `Run(TooManyFiles)`, for more than 15 sources, and `Run(Memory)`, where the links can't be
 ///   made: nothing was started, and nothing is written.

@@ -1,6 +1,6 @@
 -- What the notes of a walk tell of the chunks that the old tree lacks.
 use Rattle.std.proofs.Common.{◌≡◌, ℕ, ◌+◌, ◌<◌, ◌≤◌, ◌⊎◌, inl, inr, Bool, true, false, cond, not}
-use Rattle.std.proofs.Common.{List, [], ◌∷◌, map, length, refl, sym, ap, ◌∙◌, subst, arith, Option}
+use Rattle.std.proofs.Common.{List, [], ◌∷◌, ◌++◌, map, length, refl, sym, ap, ◌∙◌, subst, arith, Option}
 use Rattle.std.proofs.Common.{None, Some, append-nil}
 use Rattle.std.proofs.Math.Path.{fun_ext}
 use Rattle.std.proofs.lemmas.Bool.{cases_Bool, cases_lt, false≢true}
@@ -21,13 +21,12 @@ use Rattle.prolly_laws.specs.Trees.{chunks_differ}
 use Rattle.prolly_tree.specs.Chunk.{AllDiffer, Chunk, IsIn, chunks}
 use Rattle.prolly_tree.specs.File.{root_reference}
 use Rattle.prolly_tree.specs.Tree.{LeveledTree, tree_of}
-use Rattle.prolly_root_diff.specs.Left.{left_of_root}
-use Rattle.prolly_root_diff.specs.Notes.{LeadTo, TellsMissing}
-use Rattle.prolly_root_diff.specs.Notes.{AreNotesOf, AreOf, NotesAreRight, Step, due_in, is_unknown}
+use Rattle.prolly_root_diff.specs.Notes.{AreNotesOf, AreOf, NotesAreRight, TellsMissing, is_unknown}
 use Rattle.prolly_root_diff.specs.Notes.{read_new, read_old, said_by, said_of, unknown_of}
-use Rattle.prolly_root_diff.specs.Walks.{FoundClash, Lefts}
+use Rattle.prolly_root_diff.specs.Walks.{Clashing, Lefts, Move, at_roots, read_on}
 use Rattle.prolly_root_diff.specs.declared.notes.Notes.{Notes}
-use Rattle.prolly_root_diff.proofs.Shares.{Parted, both_clash, parted}
+use Rattle.prolly_root_diff.proofs.Clashes.{both_clash}
+use Rattle.prolly_root_diff.proofs.Shares.{Parted, parted}
 
 -- ---- how often a chunk is there
 
@@ -206,7 +205,7 @@ abbrev lacks : List (List ℕ) → List ℕ → Bool
 lacks others c = not (has_reference others (reference_of c))
 
 module _ (version : Version) (cs : List (List ℕ)) (ds : List Chunk) (differ : AllDiffer ds)
-    (a b passed : List (List ℕ))
+    (a b passed read : List (List ℕ))
     (old : (f : List ℕ → ℕ) → sum_by f cs ≡ sum_by f a + sum_by f passed)
     (new : (f : List ℕ → ℕ) → sum_by f (map (λ d. d.bytes) ds) ≡ sum_by f b + sum_by f passed)
   where
@@ -257,7 +256,7 @@ module _ (version : Version) (cs : List (List ℕ)) (ds : List Chunk) (differ : 
 
     -- the old tree lacks a chunk that was read in the new one where none of those that were read in
     -- it has its reference
-    lacks_alike : (c : List ℕ) → IsIn c b → (lacks cs c ≡ lacks a c) ⊎ FoundClash version cs news
+    lacks_alike : (c : List ℕ) → IsIn c b → (lacks cs c ≡ lacks a c) ⊎ Clashing read (cs ++ news)
     lacks_alike c k = go (cases_Bool (has_reference a (reference_of c)))
         (cases_Bool (has_reference cs (reference_of c)))
       where
@@ -266,14 +265,14 @@ module _ (version : Version) (cs : List (List ℕ)) (ds : List Chunk) (differ : 
         same x y e f g = ap not (e ∙ g ∙ sym f)
 
         was_passed : (d : List ℕ) → IsIn d passed → reference_of d ≡ reference_of c →
-            (lacks cs c ≡ lacks a c) ⊎ FoundClash version cs news
+            (lacks cs c ≡ lacks a c) ⊎ Clashing read (cs ++ news)
         was_passed d l e = by (cases_Bool (bytes_eq d c))
           where
             by : (bytes_eq d c ≡ true) ⊎ (bytes_eq d c ≡ false) →
-                (lacks cs c ≡ lacks a c) ⊎ FoundClash version cs news
+                (lacks cs c ≡ lacks a c) ⊎ Clashing read (cs ++ news)
             by (inl f) = absurd (not_both c k
                 (subst (λ x. IsIn x passed) ((bytes_eq-Decides d c).0 f) l))
-            by (inr f) = inr (both_clash version cs news (record {
+            by (inr f) = inr (both_clash cs news read (record {
               one = d;
               other = c;
               in_one = old_passed d l;
@@ -284,7 +283,7 @@ module _ (version : Version) (cs : List (List ℕ)) (ds : List Chunk) (differ : 
 
         was_known : (d : List ℕ) → IsIn d a ⊎ IsIn d passed → reference_of d ≡ reference_of c →
             has_reference a (reference_of c) ≡ false →
-            (lacks cs c ≡ lacks a c) ⊎ FoundClash version cs news
+            (lacks cs c ≡ lacks a c) ⊎ Clashing read (cs ++ news)
         was_known d (inl l) e none =
             absurd (false≢true (sym none ∙ in_known a (reference_of c) d l e))
         was_known d (inr l) e none = was_passed d l e
@@ -293,7 +292,7 @@ module _ (version : Version) (cs : List (List ℕ)) (ds : List Chunk) (differ : 
             (has_reference a (reference_of c) ≡ false) →
             (has_reference cs (reference_of c) ≡ true) ⊎
             (has_reference cs (reference_of c) ≡ false) →
-            (lacks cs c ≡ lacks a c) ⊎ FoundClash version cs news
+            (lacks cs c ≡ lacks a c) ⊎ Clashing read (cs ++ news)
         go (inl e) (inl f) = inl (same true true f e refl)
         go (inr e) (inr f) = inl (same false false f e refl)
         go (inl e) (inr f) =
@@ -304,8 +303,8 @@ module _ (version : Version) (cs : List (List ℕ)) (ds : List Chunk) (differ : 
             was_known d.0 (old_either d.0 d.1) d.2 e
 
     -- so the chunks that are lacking are among those that were read, whatever is counted of them
-    pub lacking_read : ((weight : List ℕ → ℕ) → sum_by (weighed (lacks cs) weight) news ≡
-        sum_by (weighed (lacks a) weight) b) ⊎ FoundClash version cs news
+    lacking_read : ((weight : List ℕ → ℕ) → sum_by (weighed (lacks cs) weight) news ≡
+        sum_by (weighed (lacks a) weight) b) ⊎ Clashing read (cs ++ news)
     lacking_read = go (each_or (lacks cs) (lacks a) b lacks_alike)
       where
         none : (weight : List ℕ → ℕ) (c : List ℕ) → IsIn c passed →
@@ -314,9 +313,9 @@ module _ (version : Version) (cs : List (List ℕ)) (ds : List Chunk) (differ : 
             (in_known cs (reference_of c) c (old_passed c k) refl)
 
         go : ((weight : List ℕ → ℕ) → sum_by (weighed (lacks cs) weight) b ≡
-            sum_by (weighed (lacks a) weight) b) ⊎ FoundClash version cs news →
+            sum_by (weighed (lacks a) weight) b) ⊎ Clashing read (cs ++ news) →
             ((weight : List ℕ → ℕ) → sum_by (weighed (lacks cs) weight) news ≡
-            sum_by (weighed (lacks a) weight) b) ⊎ FoundClash version cs news
+            sum_by (weighed (lacks a) weight) b) ⊎ Clashing read (cs ++ news)
         go (inr clash) = inr clash
         go (inl same) = inl (λ weight.
             let all = new (weighed (lacks cs) weight) in
@@ -326,9 +325,9 @@ module _ (version : Version) (cs : List (List ℕ)) (ds : List Chunk) (differ : 
 
 -- ---- what was noted
 
-module _ (steps : List Step) (notes : Notes) (are : AreNotesOf steps notes) where
+module _ (way : List Move) (notes : Notes) (are : AreNotesOf way notes) where
   abbrev a : List (List ℕ)
-  a = read_old steps
+  a = read_old way
 
   known_alike : (r : List ℕ) →
       list_any (λ x. bytes_eq x.0 r) notes.old.items ≡ has_reference a r
@@ -339,14 +338,14 @@ module _ (steps : List Step) (notes : Notes) (are : AreNotesOf steps notes) wher
   -- what is counted of the notes is what is counted of the chunks
   noted_sum : (weight : ℕ → ℕ) →
       sum_by (λ n. cond (is_unknown notes.old.items n) (weight n.length) 0) notes.new.items ≡
-      sum_by (weighed (lacks a) (λ c. weight (length c))) (read_new steps)
+      sum_by (weighed (lacks a) (λ c. weight (length c))) (read_new way)
   noted_sum weight =
       let by : List ℕ × ℕ → ℕ = λ p. cond (not (list_any (λ x. bytes_eq x.0 p.0) notes.old.items))
       (weight p.1) 0 in
       sym (sum_map said_by by notes.new.items) ∙
       ap (sum_by by) are.new ∙
-      sum_map said_of by (read_new steps) ∙
-      ap (λ g. sum_by g (read_new steps))
+      sum_map said_of by (read_new way) ∙
+      ap (λ g. sum_by g (read_new way))
       (fun_ext (λ c. ap (λ h. cond (not h) (weight (length c)) 0) (known_alike (reference_of c))))
 
 -- ---- from the roots to the end
@@ -354,15 +353,12 @@ module _ (steps : List Step) (notes : Notes) (are : AreNotesOf steps notes) wher
 module _ (root_is : RootIsTree) (child_is : (version : Version) → ChildIsTree version)
     (top_is_read : (version : Version) → TopIsRead version) where
   pub notes_are_right : NotesAreRight
-  notes_are_right version to notes missing are bits bits' m m' rising lawful rising' lawful' noted
-      at_end at_end' =
-      told (parted child_is top_is_read version cs ds noted.steps (due_in (left_of_root root))
-      (due_in (left_of_root root')) (tree ∷ []) (tree' ∷ [])
-      (root_is version bits m lawful rising, tt) (root_is version bits' m' lawful' rising', tt)
-      refl refl (subst (λ d. LeadTo version (due_in (left_of_root root))
-      (due_in (left_of_root root')) noted.steps d []) (ap (map (λ d. d.reference)) at_end.1)
-      (subst (λ d. LeadTo version (due_in (left_of_root root)) (due_in (left_of_root root'))
-      noted.steps (due_in to.before) d) (ap (map (λ d. d.reference)) at_end'.1) noted.lead)))
+  notes_are_right version to notes missing are bits bits' m m' way rising lawful rising' lawful'
+      lead noted at_end at_end' =
+      told (parted child_is top_is_read version cs ds way (at_roots root root') to (tree ∷ [])
+      (tree' ∷ []) (root_is version bits m lawful rising, tt)
+      (root_is version bits' m' lawful' rising', tt) refl refl lead
+      (ap (map (λ d. d.reference)) at_end.1) (ap (map (λ d. d.reference)) at_end'.1))
     where
       cs : List (List ℕ)
       cs = chunk_bytes version bits m
@@ -383,32 +379,33 @@ module _ (root_is : RootIsTree) (child_is : (version : Version) → ChildIsTree 
       root' = root_reference (sha512_cut bits') version m'
 
       a : List (List ℕ)
-      a = read_old noted.steps
+      a = read_old way
 
       b : List (List ℕ)
-      b = read_new noted.steps
+      b = read_new way
 
       so : ((weight : List ℕ → ℕ) → sum_by (weighed (lacks cs) weight) ds ≡
-          sum_by (weighed (lacks a) weight) b) ⊎ FoundClash version cs ds →
-          AreSo (lacking cs ds) missing ⊎ FoundClash version cs ds
+          sum_by (weighed (lacks a) weight) b) ⊎ Clashing (read_on way) (cs ++ ds) →
+          AreSo (lacking cs ds) missing ⊎ Clashing (read_on way) (cs ++ ds)
       so (inr clash) = inr clash
       so (inl same) = inl (record {
         chunks_are = are.chunks_are ∙ length-filter (is_unknown notes.old.items) notes.new.items ∙
-            noted_sum noted.steps notes noted.are (λ n. 1) ∙ sym (same (λ c. 1)) ∙
+            noted_sum way notes noted (λ n. 1) ∙ sym (same (λ c. 1)) ∙
             sym (length-filter (lacks cs) ds);
         bytes_are = are.bytes_are ∙
             sum_filter (is_unknown notes.old.items) (λ n. n.length) notes.new.items ∙
-            noted_sum noted.steps notes noted.are (λ n. n) ∙ sym (same (λ c. length c)) ∙
+            noted_sum way notes noted (λ n. n) ∙ sym (same (λ c. length c)) ∙
             sym (sum_filter (lacks cs) (λ c. length c) ds) ∙
             sym (length-flat_map (λ c. c) (lacking cs ds));
       })
 
-      told : Parted version (tree ∷ []) (tree' ∷ []) noted.steps ⊎
-          FoundClash version cs ds → AreSo (lacking cs ds) missing ⊎ FoundClash version cs ds
+      told : Parted version (tree ∷ []) (tree' ∷ []) way ⊎
+          Clashing (read_on way) (cs ++ ds) →
+          AreSo (lacking cs ds) missing ⊎ Clashing (read_on way) (cs ++ ds)
       told (inr clash) = inr clash
       told (inl p) = so (lacking_read version cs
           (chunks (sha512_cut bits') version m')
-          (chunks_differ (sha512_cut bits') version m' lawful' rising') a b p.passed
+          (chunks_differ (sha512_cut bits') version m' lawful' rising') a b p.passed (read_on way)
           (λ f. ap (sum_by f) (sym (append-nil cs)) ∙ p.old f)
           (λ f. ap (sum_by f) (sym (append-nil ds)) ∙ p.new f))
 

@@ -1,86 +1,101 @@
 -- A walk over the leaves of a tree, from the first to the last.
-use Rattle.std.proofs.Common.{◌≡◌, ℕ, ◌⊎◌, inl, inr, List, [], ◌∷◌, ◌++◌, refl, ap, ◌∙◌, subst}
-use Rattle.std.proofs.Common.{append-nil, sym}
+use Rattle.std.proofs.Common.{◌≡◌, ℕ, ◌⊎◌, inl, inr, List, [], ◌∷◌, ◌++◌, map, refl, ap, ◌∙◌, subst}
+use Rattle.std.proofs.Common.{append-nil, append_assoc, sym}
 use Rattle.prolly_entry.specs.Cut.{sha512_cut}
 use Rattle.prolly_entry.specs.Pair.{Pair}
 use Rattle.prolly_entry.specs.Prefix.{IsPrefix}
 use Rattle.prolly_entry.specs.declared.version.Version.{Version}
-use Rattle.prolly_look_up.specs.MapTree.{RootIsTree}
+use Rattle.prolly_tree.specs.Tree.{LeveledTree}
+use Rattle.prolly_look_up.specs.HeldPairs.{pairs_held}
 use Rattle.prolly_look_up.specs.Content.{chunk_bytes}
-use Rattle.prolly_root_diff.specs.Leaves.{AllLeavesAreRight, AreLeavesLeft, FirstLeavesAreRight}
-use Rattle.prolly_root_diff.specs.Leaves.{FoundClashIn, GivesLeaves, IsFirstLeaf, full_leaves}
-use Rattle.prolly_root_diff.specs.Left.{Due}
+use Rattle.prolly_look_up.specs.Way.{Clash}
+use Rattle.prolly_root_diff.specs.DueTrees.{due_behind}
+use Rattle.prolly_root_diff.specs.Leaves.{AllLeavesAreRight, AreLeavesLeft, BeginWith}
+use Rattle.prolly_root_diff.specs.Leaves.{FirstLeavesAreRight, LeadDown, LeavesBeginAtRoot}
+use Rattle.prolly_root_diff.specs.Leaves.{LeavesOpenFirst, full_leaves, leaves_of_trees, leaves_on}
+use Rattle.prolly_root_diff.specs.Leaves.{with_pairs}
+use Rattle.prolly_root_diff.specs.Left.{Due, tops_of}
 use Rattle.prolly_root_diff.specs.Walks.{Clashing}
-use Rattle.prolly_root_diff.proofs.LeafSteps.{found_clash}
-use Rattle.prolly_root_diff.proofs.LeafTrees.{leaves_begin}
+use Rattle.prolly_root_diff.specs.lemmas.LeafParts.{with_more}
+use Rattle.prolly_root_diff.proofs.Clashes.{more_last, read_clash}
 
-module _ (version : Version) (cs : List (List ℕ)) where
-  -- the leaves begin with those that were given, and the others are left
-  record BeginWithGiven (leaves given : List (List Pair)) (due : List Due) : Type 0 where
+module _ (law : LeavesOpenFirst) (version : Version) (cs : List (List ℕ)) where
+  -- the leaves begin with those that were read, and the others are left
+  record BeginWithRead (leaves : List (List Pair)) (read : List (List ℕ)) (due : List Due)
+      : Type 0 where
     pub others : List (List Pair)
-    pub are : leaves ≡ given ++ others
+    pub are : leaves ≡ leaves_on read ++ others
     pub left : AreLeavesLeft version cs others due
 
-  gives_first : (given : List (List Pair)) (old new : List Due) (leaves : List (List Pair)) →
-      AreLeavesLeft version cs leaves old → GivesLeaves version old given new →
-      BeginWithGiven leaves given new ⊎ FoundClashIn version cs
-  gives_first [] old new leaves left same = inl (record {
+  reads_first : (read : List (List ℕ)) (old new : List Due) (leaves : List (List Pair)) →
+      AreLeavesLeft version cs leaves old → LeadDown version old read new →
+      BeginWithRead leaves read new ⊎ Clashing read cs
+  reads_first [] old new leaves left same = inl (record {
     others = leaves;
     are = refl;
     left = subst (AreLeavesLeft version cs leaves) same left;
   })
-  gives_first (leaf ∷ given) old new leaves left gives =
-      go (gives.1.tells cs leaves left)
-      (λ others l. gives_first given gives.0 new others l gives.2)
+  reads_first (chunk ∷ read) old new leaves left lead =
+      go (law version cs leaves lead.1.first lead.1.due chunk
+      (subst (AreLeavesLeft version cs leaves) lead.1.was left) lead.1.named)
+      (λ others on. reads_first read lead.0 new others
+      (subst (AreLeavesLeft version cs others) (sym lead.1.is) on) lead.2)
     where
-      first : (f : IsFirstLeaf version cs leaves leaf gives.0) →
-          BeginWithGiven f.others given new ⊎ FoundClashIn version cs →
-          BeginWithGiven leaves (leaf ∷ given) new ⊎ FoundClashIn version cs
-      first f (inl b) = inl (record {
-        others = b.others;
-        are = f.are ∙ ap (λ ls. leaf ∷ ls) b.are;
-        left = b.left;
+      then : (b : BeginWith version cs leaves (pairs_held chunk)
+          (due_behind version chunk lead.1.due)) →
+          BeginWithRead b.others read new ⊎ Clashing read cs →
+          BeginWithRead leaves (chunk ∷ read) new ⊎ Clashing (chunk ∷ read) cs
+      then b (inl r) = inl (record {
+        others = r.others;
+        are = b.are ∙ ap (λ ls. with_pairs (pairs_held chunk ∷ []) ++ ls) r.are ∙
+            sym (append_assoc (with_pairs (pairs_held chunk ∷ [])) (leaves_on read) r.others) ∙
+            ap (λ ls. ls ++ r.others)
+            (sym (with_more (pairs_held chunk ∷ []) (map pairs_held read)));
+        left = r.left;
       })
-      first f (inr clash) = inr clash
+      then b (inr clash) = inr (more_last (chunk ∷ []) read cs clash)
 
-      go : IsFirstLeaf version cs leaves leaf gives.0 ⊎ Clashing gives.1.read cs →
-          ((others : List (List Pair)) → AreLeavesLeft version cs others gives.0 →
-          BeginWithGiven others given new ⊎ FoundClashIn version cs) →
-          BeginWithGiven leaves (leaf ∷ given) new ⊎ FoundClashIn version cs
-      go (inl f) later = first f (later f.others f.left)
-      go (inr clash) later =
-          inr (found_clash version cs old gives.0 gives.1.read gives.1.lead clash)
+      go : BeginWith version cs leaves (pairs_held chunk) (due_behind version chunk lead.1.due)
+          ⊎ Clash (chunk ∷ []) cs → ((others : List (List Pair)) →
+          AreLeavesLeft version cs others (due_behind version chunk lead.1.due) →
+          BeginWithRead others read new ⊎ Clashing read cs) →
+          BeginWithRead leaves (chunk ∷ read) new ⊎ Clashing (chunk ∷ read) cs
+      go (inl b) later = then b (later b.others b.left)
+      go (inr clash) later = inr (read_clash cs cs (λ c h. h) chunk read clash)
 
-pub first_leaves_are_right : RootIsTree → FirstLeavesAreRight
-first_leaves_are_right root_is version bits m given due rising lawful gives =
-    go (gives_first version (chunk_bytes version bits m) given _ due _
-    (leaves_begin root_is version bits m rising lawful) gives)
-  where
-    go : BeginWithGiven version (chunk_bytes version bits m) (full_leaves (sha512_cut bits) m) given due
-        ⊎ FoundClashIn version (chunk_bytes version bits m) →
-        IsPrefix given (full_leaves (sha512_cut bits) m)
-        ⊎ FoundClashIn version (chunk_bytes version bits m)
-    go (inl b) = inl (b.others, b.are)
-    go (inr clash) = inr clash
+  -- where nothing is due no leaf is left
+  none_left : (leaves : List (List Pair)) → AreLeavesLeft version cs leaves [] → leaves ≡ []
+  none_left leaves left = left.are ∙ no_trees left.trees left.named
+    where
+      no_trees : (trees : List LeveledTree) → tops_of version trees ≡ [] →
+          leaves_of_trees trees ≡ []
+      no_trees [] e = refl
+      no_trees (t ∷ trees) e = cc
 
-pub all_leaves_are_right : RootIsTree → AllLeavesAreRight
-all_leaves_are_right root_is version bits m given rising lawful all =
-    go (gives_first version (chunk_bytes version bits m) given _ all.due _
-    (leaves_begin root_is version bits m rising lawful) all.gives)
-  where
-    end : (b : BeginWithGiven version (chunk_bytes version bits m)
-        (full_leaves (sha512_cut bits) m) given all.due) →
-        (b.others ≡ []) ⊎ Clashing all.ends.read (chunk_bytes version bits m) →
-        (given ≡ full_leaves (sha512_cut bits) m)
-        ⊎ FoundClashIn version (chunk_bytes version bits m)
-    end b (inl none) = inl (sym (b.are ∙ ap (λ ls. given ++ ls) none ∙ append-nil given))
-    end b (inr clash) =
-        inr (found_clash version (chunk_bytes version bits m) all.due [] all.ends.read
-        all.ends.lead clash)
+-- the leaves of a map begin so
+module _ (begins : LeavesBeginAtRoot) (law : LeavesOpenFirst) where
+  pub first_leaves_are_right : FirstLeavesAreRight
+  first_leaves_are_right version bits m read due rising lawful lead =
+      go (reads_first law version (chunk_bytes version bits m) read _ due _
+      (begins version bits m rising lawful) lead)
+    where
+      go : BeginWithRead law version (chunk_bytes version bits m) (full_leaves (sha512_cut bits) m)
+          read due ⊎ Clashing read (chunk_bytes version bits m) →
+          IsPrefix (leaves_on read) (full_leaves (sha512_cut bits) m)
+          ⊎ Clashing read (chunk_bytes version bits m)
+      go (inl b) = inl (b.others, b.are)
+      go (inr clash) = inr clash
 
-    go : BeginWithGiven version (chunk_bytes version bits m) (full_leaves (sha512_cut bits) m) given
-        all.due ⊎ FoundClashIn version (chunk_bytes version bits m) →
-        (given ≡ full_leaves (sha512_cut bits) m)
-        ⊎ FoundClashIn version (chunk_bytes version bits m)
-    go (inl b) = end b (all.ends.tells (chunk_bytes version bits m) b.others b.left)
-    go (inr clash) = inr clash
+  pub all_leaves_are_right : AllLeavesAreRight
+  all_leaves_are_right version bits m read rising lawful lead =
+      go (reads_first law version (chunk_bytes version bits m) read _ [] _
+      (begins version bits m rising lawful) lead)
+    where
+      go : BeginWithRead law version (chunk_bytes version bits m) (full_leaves (sha512_cut bits) m)
+          read [] ⊎ Clashing read (chunk_bytes version bits m) →
+          (leaves_on read ≡ full_leaves (sha512_cut bits) m)
+          ⊎ Clashing read (chunk_bytes version bits m)
+      go (inl b) = inl (sym (b.are ∙ ap (λ ls. leaves_on read ++ ls)
+          (none_left law version (chunk_bytes version bits m) b.others b.left) ∙
+          append-nil (leaves_on read)))
+      go (inr clash) = inr clash

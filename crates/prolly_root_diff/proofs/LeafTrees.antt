@@ -21,12 +21,8 @@ use Rattle.prolly_root_diff.specs.DueTrees.{due_behind}
 use Rattle.prolly_root_diff.specs.Leaves.{BeginWith, LeavesBeginAtRoot}
 use Rattle.prolly_root_diff.specs.Leaves.{LeavesOpenFirst, leaves_of_trees, with_pairs}
 use Rattle.prolly_root_diff.specs.Left.{Due, opened, tops_of}
+use Rattle.prolly_root_diff.specs.lemmas.LeafParts.{with_more}
 use Rattle.prolly_root_diff.proofs.Opening.{children_each, leveled, leveled_all, leveled_tops}
-
-pub with_more : (xs ys : List (List Pair)) → with_pairs (xs ++ ys) ≡ with_pairs xs ++ with_pairs ys
-with_more [] ys = refl
-with_more ([] ∷ xs) ys = with_more xs ys
-with_more ((p ∷ ps) ∷ xs) ys = ap (λ ls. (p ∷ ps) ∷ ls) (with_more xs ys)
 
 pub leaves_begin : RootIsTree → LeavesBeginAtRoot
 leaves_begin root_is version bits m rising lawful =

@@ -6,14 +6,16 @@ pub mod Opening
 pub mod Lists
 -- How far a walk has to go yet.
 pub mod Weights
--- A walk goes on.
-pub mod Moving
+-- Clashes of chunks that are read with those of trees.
+pub mod Clashes
 -- Taking pairs in hand.
 pub mod Taking
 -- The steps of a walk over two trees.
 pub mod Steps
--- Walks from the first call to the last.
+-- The way of a walk, and what it gives of two maps.
 pub mod Runs
+-- The chunks that are read on it: that they can be read, and where they stand.
+pub mod ReadOn
 -- The subtrees that are due below one node.
 pub mod Subtrees
 -- Where the subtrees that are due stand in a chunk file of any bytes.
@@ -26,7 +28,7 @@ pub mod LawfulWalks
 pub mod OneFault
 -- That one fault is the first for a walk over two.
 pub mod OneWalk
--- What a walk notes, step by step.
+-- What a walk notes on its way.
 pub mod Noting
 -- What two trees share, and what a walk over them read.
 pub mod Shares

@@ -1,5 +1,5 @@
 -- That one fault is the first for a walk.
-use Rattle.std.proofs.Common.{◌≡◌, ◌∙◌, ℕ, inl, inr, List, [], ◌∷◌, ◌++◌, map, sym, ap, subst}
+use Rattle.std.proofs.Common.{◌≡◌, ◌∙◌, ℕ, inl, inr, List, [], ◌∷◌, ◌++◌, sym, ap, subst}
 use Rattle.prolly_look_up.specs.lemmas.Chosen.{one_same}
 use Rattle.prolly_entry.specs.declared.version.Version.{Version}
 use Rattle.prolly_entry.specs.lemmas.Lists.{head_is, no_cons, tail_is}
@@ -9,8 +9,8 @@ use Rattle.prolly_root.specs.LookUpFault.{IsFaultOfChunk}
 use Rattle.prolly_root.specs.declared.root_fault.RootFault.{RootFault}
 use Rattle.prolly_root.specs.lemmas.Flaws.{no_fault_of, one_fault_of}
 use Rattle.prolly_root.specs.lemmas.Levels.{behind_one, nth_one}
-use Rattle.prolly_root_diff.specs.FirstFault.{ComesBy, DueAt, IsFaultAt, IsMissing, LeafFaultsAreOne}
-use Rattle.prolly_root_diff.specs.FirstFault.{ReadsAt, Spot, IsAtSpot, StopsWith, TreeStep}
+use Rattle.prolly_root_diff.specs.FirstFault.{DueAt, IsFaultAt, IsMissing, LeafFaultsAreOne}
+use Rattle.prolly_root_diff.specs.FirstFault.{ReadsAt, ReadsEach, Spot, IsAtSpot, StopsWith}
 use Rattle.prolly_root_diff.specs.FirstFault.{due_under, level_over}
 
 module _ (version : Version) (file : ChunkFile) where
@@ -82,11 +82,9 @@ module _ (version : Version) (file : ChunkFile) where
 
   -- ---- a walk over the leaves
 
-  abbrev ReadsBy : List (List ℕ) → List DueAt → List DueAt → Type 0
-  ReadsBy read old new = ComesBy version file (map (λ c. TreeStep.Reads c) read) old new
-
   one_leaf_fault : (read other : List (List ℕ)) (old due due' : List DueAt)
-      (fault fault' : RootFault) → ReadsBy read old due → ReadsBy other old due' →
+      (fault fault' : RootFault) → ReadsEach version file read old due →
+      ReadsEach version file other old due' →
       StopsWith version file due fault → StopsWith version file due' fault' → fault ≡ fault'
   one_leaf_fault [] [] old due due' fault fault' c d s t = one_stop due' fault fault'
       (subst (λ x. StopsWith version file x fault) (sym c ∙ d) s) t
@@ -98,18 +96,20 @@ module _ (version : Version) (file : ChunkFile) where
   one_leaf_fault (chunk ∷ read) (chunk' ∷ other) old due due' fault fault' c d s t =
       let same = one_read chunk chunk' old c.0 d.0 c.1 d.1 in
       one_leaf_fault read other d.0 due due' fault fault'
-      (subst (λ x. ReadsBy read x due) same.1 c.2) d.2 s t
+      (subst (λ x. ReadsEach version file read x due) same.1 c.2) d.2 s t
 
   -- where nothing is due the walk neither goes on nor stops
   no_leaf_fault : (read other : List (List ℕ)) (old due : List DueAt) (fault : RootFault) →
-      ReadsBy read old [] → ReadsBy other old due → StopsWith version file due fault → ⊥
+      ReadsEach version file read old [] → ReadsEach version file other old due →
+      StopsWith version file due fault → ⊥
   no_leaf_fault [] [] old due fault c d s = no_cons _ _ (sym s.was ∙ sym d ∙ c)
   no_leaf_fault [] (chunk ∷ other) old due fault c d s = no_cons _ _ (sym d.1.was ∙ c)
   no_leaf_fault (chunk ∷ read) [] old due fault c d s =
       no_read chunk old c.0 fault (subst (λ x. StopsWith version file x fault) (sym d) s) c.1
   no_leaf_fault (chunk ∷ read) (chunk' ∷ other) old due fault c d s =
       let same = one_read chunk chunk' old c.0 d.0 c.1 d.1 in
-      no_leaf_fault read other d.0 due fault (subst (λ x. ReadsBy read x []) same.1 c.2) d.2 s
+      no_leaf_fault read other d.0 due fault
+      (subst (λ x. ReadsEach version file read x []) same.1 c.2) d.2 s
 
 pub leaf_faults_are_one : LeafFaultsAreOne
 leaf_faults_are_one = record {

@@ -17,12 +17,13 @@ use Rattle.prolly_look_up.specs.Way.{level_of}
 use Rattle.prolly_root.specs.ChunkFile.{ChunkFile}
 use Rattle.prolly_root.specs.Path.{IsPath}
 use Rattle.prolly_root.specs.lemmas.Paths.{one_end}
-use Rattle.prolly_root_diff.specs.FileWalks.{HasAllOfWalk, IsWalkFault, StopsIn, WalkFaultsAreOne, new_steps}
-use Rattle.prolly_root_diff.specs.FileWalks.{old_steps}
+use Rattle.prolly_root_diff.specs.FileWalks.{HasAllOfWalk, IsWalkFault, StopsIn, WalkFaultsAreOne}
 use Rattle.prolly_root_diff.specs.FirstFault.{ComesBy, DueAt, TreeStep, tree_at}
 use Rattle.prolly_root_diff.specs.Left.{Due, Left, Opens, opened}
 use Rattle.prolly_root_diff.specs.Walks.{BeginAlike, ComesTo, FirstPair, GoesByPairs, IsAtEnd, IsMove, IsOnward}
-use Rattle.prolly_root_diff.specs.Walks.{IsReady, Leads, Lefts, Move, Takes, at_roots}
+use Rattle.prolly_root_diff.specs.Walks.{IsReady, Leads, Lefts, Move, Takes, at_roots, new_steps}
+use Rattle.prolly_root_diff.specs.Walks.{old_steps}
+use Rattle.prolly_root_diff.specs.declared.change.RootChange.TheVariants.{Added, Changed, Removed}
 use Rattle.prolly_root_diff.specs.declared.fault.RootDiffFault.{RootDiffFault}
 use Rattle.prolly_root_diff.specs.declared.fault.RootDiffFault.TheVariants as faults
 use Rattle.prolly_root_diff.specs.declared.onward.Onward.{Onward}
@@ -58,7 +59,7 @@ rule (p ∷ ps) ds [] (e ∷ es) = ways.OpenNew
 rule (p ∷ ps) ds [] [] = ways.Removed
 rule (p ∷ ps) ds (q ∷ qs) es = by_order (key_order p.key q.key)
 
--- two pairs of one key are taken in one way
+-- two pairs of one key are taken alike, whether they are given or not
 abbrev merged : Onward → Onward
 merged ways.Pass = ways.Pass
 merged ways.OpenOld = ways.OpenOld
@@ -164,52 +165,24 @@ abbrev way_of : Move → Onward
 way_of (Move.ReadsOld chunk) = ways.OpenOld
 way_of (Move.ReadsNew chunk) = ways.OpenNew
 way_of Move.PassesBoth = ways.Pass
-way_of Move.TakesOld = ways.Removed
-way_of Move.TakesNew = ways.Added
-way_of Move.TakesBoth = ways.Skip
-
-abbrev chunk_of : Move → List ℕ
-chunk_of (Move.ReadsOld chunk) = chunk
-chunk_of (Move.ReadsNew chunk) = chunk
-chunk_of Move.PassesBoth = []
-chunk_of Move.TakesOld = []
-chunk_of Move.TakesNew = []
-chunk_of Move.TakesBoth = []
-
-abbrev move_by : Onward → List ℕ → Move
-move_by ways.Pass chunk = Move.PassesBoth
-move_by ways.OpenOld chunk = Move.ReadsOld chunk
-move_by ways.OpenNew chunk = Move.ReadsNew chunk
-move_by ways.Skip chunk = Move.TakesBoth
-move_by ways.Removed chunk = Move.TakesOld
-move_by ways.Added chunk = Move.TakesNew
-move_by ways.Changed chunk = Move.TakesBoth
-move_by ways.End chunk = Move.PassesBoth
-
-by_way : (move : Move) → move ≡ move_by (way_of move) (chunk_of move)
-by_way (Move.ReadsOld chunk) = refl
-by_way (Move.ReadsNew chunk) = refl
-by_way Move.PassesBoth = refl
-by_way Move.TakesOld = refl
-by_way Move.TakesNew = refl
-by_way Move.TakesBoth = refl
+way_of Move.SkipsBoth = ways.Skip
+way_of (Move.Gives (Removed pair)) = ways.Removed
+way_of (Move.Gives (Added pair)) = ways.Added
+way_of (Move.Gives (Changed pair other)) = ways.Changed
 
 module _ (version : Version) where
   move_is : (old : Lefts) (move : Move) (new : Lefts) → IsMove version old move new →
-      way_of move ≡ rule_at old
+      merged (way_of move) ≡ rule_at old
   move_is old (Move.ReadsOld chunk) new m =
       sym (old_next old.before.pairs old.before.due old.after.pairs old.after.due m.3)
   move_is old (Move.ReadsNew chunk) new m =
       sym (new_next old.before.pairs old.before.due old.after.pairs old.after.due m.3)
   move_is old Move.PassesBoth new m = sym (both_next old.before old.after m.0)
-  move_is old Move.TakesOld new m = pairs_next old.before old.after ways.Removed m.3
-  move_is old Move.TakesNew new m = pairs_next old.before old.after ways.Added m.3
-  move_is old Move.TakesBoth new m = by_two_ways m.4
-    where
-      by_two_ways : GoesByPairs old.before old.after ways.Skip ⊎
-          GoesByPairs old.before old.after ways.Changed → ways.Skip ≡ rule_at old
-      by_two_ways (inl g) = pairs_next old.before old.after ways.Skip g
-      by_two_ways (inr g) = pairs_next old.before old.after ways.Changed g
+  move_is old Move.SkipsBoth new m = pairs_next old.before old.after ways.Skip m.4
+  move_is old (Move.Gives (Removed pair)) new m = pairs_next old.before old.after ways.Removed m.2
+  move_is old (Move.Gives (Added pair)) new m = pairs_next old.before old.after ways.Added m.2
+  move_is old (Move.Gives (Changed pair other)) new m =
+      pairs_next old.before old.after ways.Changed m.2
 
   -- the same was taken, or read
   one_left : (l m : Left) → l.pairs ≡ m.pairs → l.due ≡ m.due → l ≡ m
@@ -269,6 +242,31 @@ module _ (version : Version) (old new : ChunkFile) where
       ComesBy version old (old_steps (move ∷ [])) s.due t.due ×
       ComesBy version new (new_steps (move ∷ [])) s.due' t.due'
 
+  -- both first pairs are taken
+  abbrev TakesPairs : At → At → Type 0
+  TakesPairs s t = (p : Pair) × (q : Pair) × Takes s.lefts.before p t.lefts.before ×
+      Takes s.lefts.after q t.lefts.after × (s.due ≡ t.due) × (s.due' ≡ t.due')
+
+  -- what is done where it goes on so
+  abbrev Does : Onward → At → At → Type 0
+  Does ways.Pass s t = Steps Move.PassesBoth s t
+  Does ways.OpenOld s t = (chunk : List ℕ) × Steps (Move.ReadsOld chunk) s t
+  Does ways.OpenNew s t = (chunk : List ℕ) × Steps (Move.ReadsNew chunk) s t
+  Does ways.Skip s t = TakesPairs s t
+  Does ways.Removed s t = (p : Pair) × Steps (Move.Gives (Removed p)) s t
+  Does ways.Added s t = (q : Pair) × Steps (Move.Gives (Added q)) s t
+  Does ways.Changed s t = TakesPairs s t
+  Does ways.End s t = ⊥
+
+  does : (move : Move) (s t : At) → Steps move s t → Does (merged (way_of move)) s t
+  does (Move.ReadsOld chunk) s t h = (chunk, h)
+  does (Move.ReadsNew chunk) s t h = (chunk, h)
+  does Move.PassesBoth s t h = h
+  does Move.SkipsBoth s t h = (h.0.0, h.0.1, h.0.2, h.0.3, h.1, h.2)
+  does (Move.Gives (Removed p)) s t h = (p, h)
+  does (Move.Gives (Added q)) s t h = (q, h)
+  does (Move.Gives (Changed p q)) s t h = (p, q, h.0.0, h.0.1, h.1, h.2)
+
   one_behind : (s t u : At) → Steps Move.PassesBoth s t → Steps Move.PassesBoth s u → t ≡ u
   one_behind s t u h k = one_at t u (one_passed version s.lefts.before s.lefts.after t.lefts.before
       u.lefts.before h.0.0 k.0.0 h.0.1 k.0.1) (one_passed_after version s.lefts.before s.lefts.after
@@ -276,64 +274,57 @@ module _ (version : Version) (old new : ChunkFile) where
       (sym h.1.3 ∙ (tail_is _ _ _ _ (sym h.1.2 ∙ k.1.2)) ∙ k.1.3)
       (sym h.2.3 ∙ (tail_is _ _ _ _ (sym h.2.2 ∙ k.2.2)) ∙ k.2.3)
 
-  one_pair : (s t u : At) → Steps Move.TakesBoth s t → Steps Move.TakesBoth s u → t ≡ u
+  one_pair : (s t u : At) → TakesPairs s t → TakesPairs s u → t ≡ u
   one_pair s t u h k = one_at t u
-      (one_taken version s.lefts.before t.lefts.before u.lefts.before h.0.0 k.0.0 h.0.2 k.0.2)
-      (one_taken version s.lefts.after t.lefts.after u.lefts.after h.0.1 k.0.1 h.0.3 k.0.3)
-      (sym h.1 ∙ k.1) (sym h.2 ∙ k.2)
+      (one_taken version s.lefts.before t.lefts.before u.lefts.before h.0 k.0 h.2 k.2)
+      (one_taken version s.lefts.after t.lefts.after u.lefts.after h.1 k.1 h.3 k.3)
+      (sym h.4 ∙ k.4) (sym h.5 ∙ k.5)
 
-  one_by : (way : Onward) (c d : List ℕ) (s t u : At) → Steps (move_by way c) s t →
-      Steps (move_by way d) s u → t ≡ u
-  one_by ways.OpenOld c d s t u h k =
+  one_by : (way : Onward) (s t u : At) → Does way s t → Does way s u → t ≡ u
+  one_by ways.OpenOld s t u (c, h) (d, k) =
       let read = one_read version old c d s.due h.1.0 k.1.0 h.1.1 k.1.1 in
       one_at t u (one_opened version s.lefts.before t.lefts.before u.lefts.before h.0.0 k.0.0
       (sym h.0.1 ∙ read.0 ∙ k.0.1)) (h.0.2 ∙ sym k.0.2) (sym h.1.2 ∙ read.1 ∙ k.1.2)
       (sym h.2 ∙ k.2)
-  one_by ways.OpenNew c d s t u h k =
+  one_by ways.OpenNew s t u (c, h) (d, k) =
       let read = one_read version new c d s.due' h.2.0 k.2.0 h.2.1 k.2.1 in
       one_at t u (h.0.2 ∙ sym k.0.2) (one_opened version s.lefts.after t.lefts.after u.lefts.after
       h.0.0 k.0.0 (sym h.0.1 ∙ read.0 ∙ k.0.1)) (sym h.1 ∙ k.1) (sym h.2.2 ∙ read.1 ∙ k.2.2)
-  one_by ways.Pass c d s t u h k = one_behind s t u h k
-  one_by ways.End c d s t u h k = one_behind s t u h k
-  one_by ways.Removed c d s t u h k = one_at t u (one_taken version s.lefts.before t.lefts.before
-      u.lefts.before h.0.0 k.0.0 h.0.1 k.0.1) (h.0.2 ∙ sym k.0.2) (sym h.1 ∙ k.1) (sym h.2 ∙ k.2)
-  one_by ways.Added c d s t u h k = one_at t u (h.0.2 ∙ sym k.0.2) (one_taken version s.lefts.after
-      t.lefts.after u.lefts.after h.0.0 k.0.0 h.0.1 k.0.1) (sym h.1 ∙ k.1) (sym h.2 ∙ k.2)
-  one_by ways.Skip c d s t u h k = one_pair s t u h k
-  one_by ways.Changed c d s t u h k = one_pair s t u h k
+  one_by ways.Pass s t u h k = one_behind s t u h k
+  one_by ways.End s t u h k = absurd h
+  one_by ways.Removed s t u (p, h) (q, k) = one_at t u (one_taken version s.lefts.before
+      t.lefts.before u.lefts.before p q h.0.0 k.0.0) (h.0.1 ∙ sym k.0.1) (sym h.1 ∙ k.1)
+      (sym h.2 ∙ k.2)
+  one_by ways.Added s t u (p, h) (q, k) = one_at t u (h.0.1 ∙ sym k.0.1) (one_taken version
+      s.lefts.after t.lefts.after u.lefts.after p q h.0.0 k.0.0) (sym h.1 ∙ k.1) (sym h.2 ∙ k.2)
+  one_by ways.Skip s t u h k = one_pair s t u h k
+  one_by ways.Changed s t u h k = one_pair s t u h k
 
   abbrev Goes : At → At → Type 0
   Goes s t = (move : Move) × Steps move s t
 
   -- a step is that of the rule
-  by_rule : (s t : At) → Goes s t → (chunk : List ℕ) × Steps (move_by (rule_at s.lefts) chunk) s t
-  by_rule s t g = (
-    chunk_of g.0,
-    subst (λ way. Steps (move_by way (chunk_of g.0)) s t) (move_is version s.lefts g.0 t.lefts g.1.0)
-        (subst (λ move. Steps move s t) (by_way g.0) g.1),
-  )
+  by_rule : (s t : At) → Goes s t → Does (rule_at s.lefts) s t
+  by_rule s t g = subst (λ way. Does way s t) (move_is version s.lefts g.0 t.lefts g.1.0)
+      (does g.0 s t g.1)
 
   one_step : (s t u : At) → Goes s t → Goes s u → t ≡ u
-  one_step s t u g h =
-      let a = by_rule s t g in
-      let b = by_rule s u h in one_by (rule_at s.lefts) a.0 b.0 s t u a.1 b.1
+  one_step s t u g h = one_by (rule_at s.lefts) s t u (by_rule s t g) (by_rule s u h)
 
   abbrev Stops : RootDiffFault → At → Type 0
   Stops fault s = StopsIn version old new s.lefts s.due s.due' fault
 
   no_step : (fault : RootDiffFault) (s t : At) → Stops fault s → Goes s t → ⊥
   no_step (faults.Old fault) s t stops g =
-      let a = by_rule s t g in
       let is = old_next s.lefts.before.pairs s.lefts.before.due s.lefts.after.pairs
       s.lefts.after.due stops.0 in
-      let reads : Steps (Move.ReadsOld a.0) s t = subst (λ way. Steps (move_by way a.0) s t) is a.1 in
-      no_read version old a.0 s.due reads.1.0 fault stops.1 reads.1.1
+      let reads : Does ways.OpenOld s t = subst (λ way. Does way s t) is (by_rule s t g) in
+      no_read version old reads.0 s.due reads.1.1.0 fault stops.1 reads.1.1.1
   no_step (faults.New fault) s t stops g =
-      let a = by_rule s t g in
       let is = new_next s.lefts.before.pairs s.lefts.before.due s.lefts.after.pairs
       s.lefts.after.due stops.0 in
-      let reads : Steps (Move.ReadsNew a.0) s t = subst (λ way. Steps (move_by way a.0) s t) is a.1 in
-      no_read version new a.0 s.due' reads.2.0 fault stops.1 reads.2.1
+      let reads : Does ways.OpenNew s t = subst (λ way. Does way s t) is (by_rule s t g) in
+      no_read version new reads.0 s.due' reads.1.2.0 fault stops.1 reads.1.2.1
   no_step faults.Memory s t stops g = stops
   no_step faults.Stopped s t stops g = stops
 
@@ -395,10 +386,9 @@ module _ (version : Version) (old new : ChunkFile) where
 
   no_more : (s t : At) → Ended s → Goes s t → ⊥
   no_more s t ended g =
-      let a = by_rule s t g in
-      let at_end : rule_at s.lefts ≡ ways.End = rw (ended.0.0, ended.0.1, ended.1.0, ended.1.1) refl in
-      let passes : Steps Move.PassesBoth s t = subst (λ way. Steps (move_by way a.0) s t) at_end a.1 in
-      no_cons _ _ (sym (ap (λ l. l.due) passes.0.0.before_is) ∙ ended.0.1)
+      let at_end : rule_at s.lefts ≡ ways.End =
+      rw (ended.0.0, ended.0.1, ended.1.0, ended.1.1) refl in
+      subst (λ way. Does way s t) at_end (by_rule s t g)
 
   not_stopped : (fault : RootDiffFault) (s : At) → Ended s → Stops fault s → ⊥
   not_stopped (faults.Old f) s ended stops = omega (arith, stops.0.0.1, ap length ended.0.1)
@@ -417,8 +407,8 @@ one_walk_fault version old new root root' fault other f g =
     let start = start_at root root' in
     let end : At = record { lefts = f.lefts; due = f.due; due' = f.due' } in
     let end' : At = record { lefts = g.lefts; due = g.due; due' = g.due' } in
-    let path = path_of version old new f.way start end f.lead f.comes f.comes' in
-    let path' = path_of version old new g.way start end' g.lead g.comes g.comes' in
+    let path = path_of version old new f.way start end f.walks.lead f.walks.comes f.walks.comes' in
+    let path' = path_of version old new g.way start end' g.walks.lead g.walks.comes g.walks.comes' in
     one_end_there version old new fault other end' (subst (Stops version old new fault)
     (one_end (Goes version old new) (one_step version old new) (Stops version old new fault)
     (Stops version old new other) (no_step version old new fault) (no_step version old new other)
@@ -431,8 +421,9 @@ no_walk_fault version old new root root' fault has f =
     let start = start_at root root' in
     let end : At = record { lefts = f.lefts; due = f.due; due' = f.due' } in
     let last : At = record { lefts = has.lefts; due = has.due; due' = has.due' } in
-    let path = path_of version old new f.way start end f.lead f.comes f.comes' in
-    let path' = path_of version old new has.way start last has.lead has.comes has.comes' in
+    let path = path_of version old new f.way start end f.walks.lead f.walks.comes f.walks.comes' in
+    let path' = path_of version old new has.way start last has.walks.lead has.walks.comes
+    has.walks.comes' in
     not_stopped version old new fault last has.at_end (subst (Stops version old new fault)
     (one_end (Goes version old new) (one_step version old new) (Stops version old new fault)
     (Ended version old new) (no_step version old new fault) (no_more version old new) start path.0

@@ -1,27 +1,25 @@
 -- Taking the pairs in hand of the least key, and what that tells of the maps.
-use Rattle.std.proofs.Common.{◌≡◌, ◌≢◌, ℕ, ◌<◌, ◌⊎◌, inl, inr, List, [], ◌∷◌, ◌++◌, map}
+use Rattle.std.proofs.Common.{◌≡◌, ℕ, ◌<◌, List, [], ◌∷◌, ◌++◌, map}
 use Rattle.std.proofs.Common.{Option, None, Some, refl, sym, ap, ◌∙◌, subst, length}
 use Rattle.std.proofs.Common.{arith}
 use Rattle.prolly_entry.specs.Pair.{Pair}
 use Rattle.prolly_entry.specs.declared.version.Version.{Version}
-use Rattle.prolly_tree.specs.Difference.{IsDifference, IsMap}
+use Rattle.prolly_entry.specs.lemmas.Lists.{head_is, no_cons}
+use Rattle.prolly_tree.specs.Difference.{IsMap}
 use Rattle.prolly_tree.specs.Tree.{LeveledTree}
 use Rattle.prolly_tree.specs.lemmas.Maps.{Above, FirstAbove, above_first}
 use Rattle.prolly_tree.specs.Walks.{AreMaps, Maps, TakesLeast}
-use Rattle.prolly_tree.specs.lemmas.Walks.{added, alike_more, alike_one, changed, no_change}
-use Rattle.prolly_tree.specs.lemmas.Walks.{removed}
 use Rattle.prolly_root_diff.specs.Left.{IsLeft, Left, pairs_of, tops_of}
-use Rattle.prolly_root_diff.specs.Walks.{AreLeft, Changes, Ends, FirstChange}
-use Rattle.prolly_root_diff.specs.Walks.{GoOn, IsOnward, IsReady, Leads, Lefts, Move, Moves, Takes}
-use Rattle.prolly_root_diff.specs.Walks.{TakesFirst, Tells}
+use Rattle.prolly_root_diff.specs.Walks.{ComesTo, FirstPair, GoesByPairs, IsReady, Lefts, Takes}
+use Rattle.prolly_root_diff.specs.Walks.{TakesChange}
+use Rattle.prolly_root_diff.specs.declared.change.RootChange.TheVariants.{Added, Removed}
+use Rattle.prolly_root_diff.specs.declared.onward.Onward.{Onward}
 use Rattle.prolly_root_diff.specs.declared.onward.Onward.TheVariants as ways
-use Rattle.prolly_root_diff.specs.lemmas.WalkParts.{leads_on}
-use Rattle.prolly_root_diff.proofs.Moving.{told}
 use Rattle.prolly_root_diff.specs.ToGo.{to_go, weights}
 
 -- ---- in the map
 
--- what is left behind the first pair in hand
+-- what is left after the first pair in hand
 record Behind (version : Version) (cs : List (List ℕ)) (pairs : List Pair) (p : Pair) (new : Left)
     : Type 0 where
   pub rest : List Pair
@@ -43,7 +41,7 @@ module _ (version : Version) (cs : List (List ℕ)) (pairs : List Pair) (old : L
   }
 
   -- where nothing is in hand nor due, nothing is left
-  nothing : old.pairs ≡ [] → IsReady old → pairs ≡ []
+  pub nothing : old.pairs ≡ [] → IsReady old → pairs ≡ []
   nothing none ready = left.are ∙ ap (λ ps. ps ++ pairs_of left.trees) none ∙
       ap pairs_of (no_trees left.trees (left.named ∙ ap (map (λ d. d.reference)) (ready none)))
     where
@@ -63,7 +61,67 @@ module _ (version : Version) (cs : List (List ℕ)) (pairs : List Pair) (old : L
           subst (Above key) (sym are) (above_first key (p ∷ (ps ++ pairs_of left.trees))
           (subst IsMap are m) f)
 
--- ---- in both maps
+-- ---- the first pairs
+
+-- of pairs of which this is the first it is told
+first_is : (pairs : List Pair) (x : Option Pair) (p : Pair) (rest : List Pair) →
+    FirstPair pairs x → pairs ≡ p ∷ rest → x ≡ Some p
+first_is pairs None p rest first is = no_cons p rest (sym is ∙ first)
+first_is pairs (Some y) p rest first is = ap Some (head_is y p first.0 rest (sym first.1 ∙ is))
+
+module _ (before after : Left) where
+  -- where both were taken, it goes on from these two
+  pub both_come : (way : Onward) → GoesByPairs before after way → (p q : Pair) (new new' : Left) →
+      Takes before p new → Takes after q new' → ComesTo (Some p) (Some q) way
+  both_come way g p q new new' t t' =
+      subst (λ x. ComesTo x (Some q) way) (first_is before.pairs g.p p new.pairs g.first t.0)
+      (subst (λ y. ComesTo g.p y way) (first_is after.pairs g.q q new'.pairs g.second t'.0) g.comes)
+
+  above_removed : GoesByPairs before after ways.Removed → (p : Pair) (new : Left) →
+      Takes before p new → FirstAbove p.key after.pairs
+  above_removed g p new t = above g.q g.second (subst (λ x. ComesTo x g.q ways.Removed)
+      (first_is before.pairs g.p p new.pairs g.first t.0) g.comes)
+    where
+      above : (y : Option Pair) → FirstPair after.pairs y → ComesTo (Some p) y ways.Removed →
+          FirstAbove p.key after.pairs
+      above None second comes = subst (FirstAbove p.key) (sym second) tt
+      above (Some y) second comes = subst (FirstAbove p.key) (sym second.1) comes
+
+  above_added : GoesByPairs before after ways.Added → (q : Pair) (new : Left) →
+      Takes after q new → FirstAbove q.key before.pairs
+  above_added g q new t = above g.p g.first (subst (λ y. ComesTo g.p y ways.Added)
+      (first_is after.pairs g.q q new.pairs g.second t.0) g.comes)
+    where
+      above : (x : Option Pair) → FirstPair before.pairs x → ComesTo x (Some q) ways.Added →
+          FirstAbove q.key before.pairs
+      above None first comes = subst (FirstAbove q.key) (sym first) tt
+      above (Some x) first comes = subst (FirstAbove q.key) (sym first.1) comes
+
+-- ---- in both trees
+
+-- the pairs in hand of the least key were taken
+abbrev pub TakesFirst : Lefts → Option Pair → Option Pair → Lefts → Type 0
+TakesFirst old None None new = (old.before.pairs ≡ []) × (old.after.pairs ≡ [])
+TakesFirst old (Some p) None new = Takes old.before p new.before × (new.after ≡ old.after) ×
+    FirstAbove p.key old.after.pairs
+TakesFirst old None (Some q) new = Takes old.after q new.after × (new.before ≡ old.before) ×
+    FirstAbove q.key old.before.pairs
+TakesFirst old (Some p) (Some q) new = Takes old.before p new.before × Takes old.after q new.after ×
+    (p.key ≡ q.key)
+
+pub removes_first : (old new : Lefts) (p : Pair) → TakesChange old (Removed p) new →
+    TakesFirst old (Some p) None new
+removes_first old new p t =
+    (t.0, t.1, above_removed old.before old.after t.2 p new.before t.0)
+
+pub adds_first : (old new : Lefts) (q : Pair) → TakesChange old (Added q) new →
+    TakesFirst old None (Some q) new
+adds_first old new q t = (t.0, t.1, above_added old.before old.after t.2 q new.after t.0)
+
+-- these maps are left of the trees with these chunks
+abbrev pub AreLeft : Version → List (List ℕ) → List (List ℕ) → Maps → Lefts → Type 0
+AreLeft version cs ds maps lefts =
+    IsLeft version cs maps.before lefts.before × IsLeft version ds maps.after lefts.after
 
 -- the pairs of the least key of both maps were taken
 pub record LeastThere (version : Version) (cs ds : List (List ℕ)) (maps : Maps) (r s : Option Pair)
@@ -75,7 +133,7 @@ pub record LeastThere (version : Version) (cs ds : List (List ℕ)) (maps : Maps
 module _ (version : Version) (old new : Lefts) (ready : IsReady old.before × IsReady old.after)
     (cs ds : List (List ℕ)) (maps : Maps) (m : AreMaps maps)
     (left : AreLeft version cs ds maps old) where
-  least_there : (r s : Option Pair) → TakesFirst old r s new →
+  pub least_there : (r s : Option Pair) → TakesFirst old r s new →
       (r ≡ None → s ≡ None → ⊥) → LeastThere version cs ds maps r s new
   least_there None None t some = absurd (some refl refl)
   least_there (Some p) None t some =
@@ -108,101 +166,6 @@ module _ (version : Version) (old new : Lefts) (ready : IsReady old.before × Is
         takes = (b.are, a.are, t.2);
         left = (b.left, a.left);
       }
-
-module _ (version : Version) (start old new : Lefts) (moves : Moves version start old)
-    (ready : IsReady old.before × IsReady old.after) where
-  takes_there : (r s : Option Pair) → TakesFirst old r s new → (r ≡ None → s ≡ None → ⊥) →
-      Tells version [] old (λ cs ds maps. LeastThere version cs ds maps r s new)
-  takes_there r s t some cs ds maps m left =
-      inl (least_there version old new ready cs ds maps m left r s t some)
-
-  pub removes : (p : Pair) → TakesFirst old (Some p) None new →
-      IsOnward old.before old.after ways.Removed →
-      Changes version start p.key (Some p.value) None new
-  removes p t on = record {
-    way = moves.way ++ Move.TakesOld ∷ [];
-    lead = leads_on version start old new moves.way (Move.TakesOld ∷ []) moves.lead
-        (new, (p, t.0, t.1, on), refl);
-    tells = told version start old moves (Move.TakesOld ∷ [])
-        (λ cs ds maps. LeastThere version cs ds maps (Some p) None new)
-        (λ cs ds maps. FirstChange version cs ds maps p.key (Some p.value) None new)
-        (λ cs ds maps mid m alike l. record {
-          rest = l.rest;
-          first = removed maps mid l.rest p m alike l.takes;
-          left = l.left;
-        }) (takes_there (Some p) None t (λ e f. cc));
-  }
-
-  pub adds : (q : Pair) → TakesFirst old None (Some q) new →
-      IsOnward old.before old.after ways.Added →
-      Changes version start q.key None (Some q.value) new
-  adds q t on = record {
-    way = moves.way ++ Move.TakesNew ∷ [];
-    lead = leads_on version start old new moves.way (Move.TakesNew ∷ []) moves.lead
-        (new, (q, t.0, t.1, on), refl);
-    tells = told version start old moves (Move.TakesNew ∷ [])
-        (λ cs ds maps. LeastThere version cs ds maps None (Some q) new)
-        (λ cs ds maps. FirstChange version cs ds maps q.key None (Some q.value) new)
-        (λ cs ds maps mid m alike l. record {
-          rest = l.rest;
-          first = added maps mid l.rest q m alike l.takes;
-          left = l.left;
-        }) (takes_there None (Some q) t (λ e f. cc));
-  }
-
-  takes_both : (p q : Pair) → TakesFirst old (Some p) (Some q) new →
-      IsOnward old.before old.after ways.Skip ⊎ IsOnward old.before old.after ways.Changed →
-      Leads version start (moves.way ++ Move.TakesBoth ∷ []) new
-  takes_both p q t on = leads_on version start old new moves.way (Move.TakesBoth ∷ []) moves.lead
-      (new, (p, q, t.0, t.1, on), refl)
-
-  pub changes : (p q : Pair) → TakesFirst old (Some p) (Some q) new → p.value ≢ q.value →
-      IsOnward old.before old.after ways.Changed →
-      Changes version start q.key (Some p.value) (Some q.value) new
-  changes p q t differ on = record {
-    way = moves.way ++ Move.TakesBoth ∷ [];
-    lead = takes_both p q t (inr on);
-    tells = told version start old moves (Move.TakesBoth ∷ [])
-        (λ cs ds maps. LeastThere version cs ds maps (Some p) (Some q) new)
-        (λ cs ds maps. FirstChange version cs ds maps q.key (Some p.value) (Some q.value) new)
-        (λ cs ds maps mid m alike l. record {
-          rest = l.rest;
-          first = rw (← t.2) (changed maps mid l.rest p q m alike l.takes differ);
-          left = l.left;
-        }) (takes_there (Some p) (Some q) t (λ e f. cc));
-  }
-
-  pub keeps : (p q : Pair) → TakesFirst old (Some p) (Some q) new → p.value ≡ q.value →
-      IsOnward old.before old.after ways.Skip → Moves version start new
-  keeps p q t same on = record {
-    way = moves.way ++ Move.TakesBoth ∷ [];
-    lead = takes_both p q t (inl on);
-    tells = told version start old moves (Move.TakesBoth ∷ [])
-        (λ cs ds maps. LeastThere version cs ds maps (Some p) (Some q) new)
-        (λ cs ds maps. GoOn version cs ds maps new)
-        (λ cs ds maps mid m alike l. record {
-          rest = l.rest;
-          alike = alike_more maps mid l.rest alike (alike_one mid l.rest p q l.takes same);
-          left = l.left;
-        }) (takes_there (Some p) (Some q) t (λ e f. cc));
-  }
-
-  pub ends : TakesFirst old None None new → Ends version start
-  ends t = record {
-    way = moves.way ++ [];
-    rest = old;
-    lead = leads_on version start old old moves.way [] moves.lead refl;
-    at_end = ((t.0, ready.0 t.0), (t.1, ready.1 t.1));
-    tells = told version start old moves []
-        (λ cs ds maps. (maps.before ≡ []) × (maps.after ≡ []))
-        (λ cs ds maps. IsDifference maps.before maps.after [])
-        (λ cs ds maps mid m alike l. (no_change maps mid (record { before = []; after = [] }) m
-        alike (l.0, l.1, refl, refl)).same)
-        (λ cs ds maps m left. inl (
-          nothing version cs maps.before old.before left.0 t.0 ready.0,
-          nothing version ds maps.after old.after left.1 t.1 ready.1,
-        ));
-  }
 
 -- a pair less is to go
 pub takes_lighter : (old : Left) (p : Pair) (new : Left) → Takes old p new → to_go new < to_go old

@@ -106,7 +106,7 @@ MayStopWith version file due fault = MayFail fault ⊎ StopsWith version file du
 -- ---- from step to step
 
 -- What a walk does of a tree: it reads a chunk in the place of the first subtree that is due, or goes
--- on behind that subtree.
+-- on after that subtree.
 pub data TreeStep : Type 0 where
   Reads : List ℕ → TreeStep
   Passes : TreeStep
@@ -119,6 +119,12 @@ ComesBy version file (TreeStep.Reads chunk ∷ steps) old new = (mid : List DueA
 ComesBy version file (TreeStep.Passes ∷ steps) old new = (first : DueAt) × (mid : List DueAt) ×
     (old ≡ first ∷ mid) × ComesBy version file steps mid new
 
+-- The chunks that it reads by them.
+abbrev pub read_by : List TreeStep → List (List ℕ)
+read_by [] = []
+read_by (TreeStep.Reads chunk ∷ steps) = chunk ∷ read_by steps
+read_by (TreeStep.Passes ∷ steps) = read_by steps
+
 -- Law: in the chunk file of a lawful content no walk over its tree, from the root on, comes to where
 -- it stops with a fault.
 abbrev pub LawfulFilesAreWalked : Type 0
@@ -130,10 +136,15 @@ LawfulFilesAreWalked = (content : Content) (steps : List TreeStep) (due : List D
 
 -- ---- a walk over the leaves
 
--- It reads one chunk after another, and comes from what was due to what is due then.
+-- It reads these chunks, one after another, and comes from what was due to what is due then.
+abbrev pub ReadsEach : Version → ChunkFile → List (List ℕ) → List DueAt → List DueAt → Type 0
+ReadsEach version file read old new =
+    ComesBy version file (map (λ c. TreeStep.Reads c) read) old new
+
+-- It comes from the one to the other by reading some.
 pub record ReadsOn (version : Version) (file : ChunkFile) (old new : List DueAt) : Type 0 where
   pub read : List (List ℕ)
-  pub comes : ComesBy version file (map (λ c. TreeStep.Reads c) read) old new
+  pub comes : ReadsEach version file read old new
 
 -- It does so until it stops with this fault.
 pub record StopsBehind (version : Version) (file : ChunkFile) (due : List DueAt) (fault : RootFault)

@@ -1,5 +1,5 @@
 -- What a walk over the leaves of a tree keeps, and what it gives.
-use Rattle.std.specs.Prelude.{◌≡◌, ℕ, ◌<◌, List, [], length, Option, Some, None, Result}
+use Rattle.std.specs.Prelude.{◌≡◌, ℕ, ◌<◌, List, [], ◌∷◌, ◌++◌, map, length, Option, Some, None}
 use Rattle.std.specs.declared.alloc.Global.{Global}
 use Rattle.std.specs.declared.collections.VecDeque.{VecDeque}
 use Rattle.prolly_look_up.specs.Entries.{IsWhole}
@@ -8,14 +8,13 @@ use Rattle.prolly_entry.specs.Reference.{reference_of}
 use Rattle.prolly_entry.specs.declared.version.Version.{Version}
 use Rattle.prolly_root.specs.declared.root_fault.RootFault.{RootFault}
 use Rattle.prolly_root_diff.specs.DueTrees.{IsWholeTree, all_due}
-use Rattle.prolly_root_diff.specs.FirstFault.{DueAt, MayStopBehind, ReadsOn}
+use Rattle.prolly_root_diff.specs.FileWalks.{ComesInFile}
+use Rattle.prolly_root_diff.specs.FirstFault.{TreeStep}
 use Rattle.prolly_root_diff.specs.Left.{Due, left_of_root}
-use Rattle.prolly_root_diff.specs.Leaves.{GivesLeaf, LeavesEnd}
+use Rattle.prolly_root_diff.specs.Leaves.{LeadDown, leaves_on}
 use Rattle.prolly_root_diff.specs.declared.root_leaves.LeafRead.{LeafRead}
 use Rattle.prolly_root_diff.specs.declared.siblings.Siblings.{Siblings}
-use Rattle.prolly_root_diff.specs.Places.{AllStand}
 use Rattle.prolly_root.specs.ChunkFile.{ChunkFile}
-use Rattle.prolly_root.specs.RootFault.{IsOrFails}
 
 -- A walk over the leaves: the version of the tree's chunks, the subtrees that are due, and the fault
 -- that stopped it.
@@ -42,16 +41,27 @@ pub record IsLeafRead (version : Version) (leaf : LeafRead) : Type 0 where
   pub some : 0 < length (pairs_held leaf.chunk.items)
   pub reference : leaf.reference.0 ≡ reference_of leaf.chunk.items
 
--- What a walk gives: the next leaf; or that none is left, and that nothing is due.
-abbrev pub GivesNext : Version → List Due → Option LeafRead → List Due → Type 0
-GivesNext version old None new = LeavesEnd version old × (new ≡ [])
-GivesNext version old (Some leaf) new = IsLeafRead version leaf ×
-    GivesLeaf version old (pairs_held leaf.chunk.items) new
+-- What a walk gives that read these chunks: the last of them, which is the only leaf among them that
+-- has pairs; or none, where there is none among them and nothing is due any more.
+abbrev pub IsGiven : Version → List (List ℕ) → Option LeafRead → List Due → Type 0
+IsGiven version read None due = (leaves_on read ≡ []) × (due ≡ [])
+IsGiven version read (Some leaf) due = IsLeafRead version leaf × (before : List (List ℕ)) ×
+    (leaves_on before ≡ []) × (read ≡ before ++ leaf.chunk.items ∷ [])
 
--- What a call of a walk over the leaves tells of a file: it read on to where the subtrees stand that
--- are due now, or it stopped.
-abbrev pub TellsLeaf : {T : Type 0} → (ChunkFile → T → ℕ → ℕ → Type 0) → Version → ChunkFile →
-    List DueAt → List (Siblings T) → Result (Option LeafRead) RootFault → Type 0
-TellsLeaf stands version file old due result = IsOrFails (λ leaf. (new : List DueAt) ×
-    ReadsOn version file old new × AllStand stands file due new) (MayStopBehind version file old)
-    result
+-- Take a file that the source goes over, in which what was due stood. A walk read these chunks
+-- there, one after another, and came to what is due now.
+abbrev pub ReadsInFile : {S T : Type 0} → (S → ChunkFile → Type 0) →
+    (ChunkFile → T → ℕ → ℕ → Type 0) → Version → S → List (List ℕ) → List (Siblings T) →
+    List (Siblings T) → Type 0
+ReadsInFile goes_over stands version source read =
+    ComesInFile goes_over stands version source (map (λ c. TreeStep.Reads c) read)
+
+-- What a call of a walk gives, and the chunks that it read for that: each in the place of the first
+-- subtree that was due, and in each file that the source goes over where that is to stand.
+pub record GivesNext {S T : Type 0} (goes_over : S → ChunkFile → Type 0)
+    (stands : ChunkFile → T → ℕ → ℕ → Type 0) (version : Version) (source : S)
+    (old : List (Siblings T)) (leaf : Option LeafRead) (new : List (Siblings T)) : Type 0 where
+  pub read : List (List ℕ)
+  pub lead : LeadDown version (all_due old) read (all_due new)
+  pub comes : ReadsInFile goes_over stands version source read old new
+  pub given : IsGiven version read leaf (all_due new)

@@ -10,13 +10,15 @@ use Rattle.prolly_entry.specs.Pair.{IsPair, Pair}
 use Rattle.prolly_entry.specs.Prefix.{IsPrefix}
 use Rattle.prolly_entry.specs.Reference.{reference_of}
 use Rattle.prolly_entry.specs.declared.version.Version.{Version}
+use Rattle.prolly_root.specs.ChunkFile.{ChunkFile}
 use Rattle.prolly_tree.specs.Difference.{IsMap}
 use Rattle.prolly_tree.specs.File.{root_reference}
 use Rattle.prolly_tree.specs.Leaves.{leaves_below}
 use Rattle.prolly_tree.specs.Tree.{LeveledTree, leaves}
 use Rattle.prolly_root_diff.specs.DueTrees.{ReadsFirst, due_behind}
 use Rattle.prolly_root_diff.specs.Left.{Due, left_of_root, tops_of}
-use Rattle.prolly_root_diff.specs.Walks.{AreReadable, Clashing}
+use Rattle.prolly_root_diff.specs.FirstFault.{DueAt, ReadsEach, tree_at}
+use Rattle.prolly_root_diff.specs.Walks.{Clashing}
 
 -- ---- the leaves of a map
 
@@ -31,12 +33,9 @@ with_pairs ((p ∷ ps) ∷ leaves) = (p ∷ ps) ∷ with_pairs leaves
 abbrev pub full_leaves : Cut → List Pair → List (List Pair)
 full_leaves cut m = with_pairs (leaves cut m)
 
--- A chunk of this tree has the reference of a different chunk, which was read or is one of them,
--- too. What was read can be read as a chunk of this version.
-pub record FoundClashIn (version : Version) (chunks : List (List ℕ)) : Type 0 where
-  pub read : List (List ℕ)
-  pub readable : AreReadable version read
-  pub clash : Clashing read chunks
+-- The leaves that have pairs among chunks that were read.
+abbrev pub leaves_on : List (List ℕ) → List (List Pair)
+leaves_on read = with_pairs (map pairs_held read)
 
 -- ---- what is left of a tree
 
@@ -68,7 +67,7 @@ pub record BeginWith (version : Version) (chunks : List (List ℕ)) (leaves : Li
   pub left : AreLeavesLeft version chunks others due
 
 -- Law: where a chunk has the reference of the first subtree and can be read, the leaves that are left
--- begin with the pairs that it holds, where it holds some, and go on with what is due behind it; or
+-- begin with the pairs that it holds, where it holds some, and go on with what is due after it. Or
 -- else the chunk and a different one of the tree have one reference.
 abbrev pub LeavesOpenFirst : Type 0
 LeavesOpenFirst = (version : Version) (chunks : List (List ℕ)) (leaves : List (List Pair))
@@ -77,21 +76,7 @@ LeavesOpenFirst = (version : Version) (chunks : List (List ℕ)) (leaves : List 
     BeginWith version chunks leaves (pairs_held chunk) (due_behind version chunk due)
     ⊎ Clash (chunk ∷ []) chunks
 
--- ---- the steps of a walk over the leaves
-
--- So it is of the leaves that are left of any tree of the version and of any bits; or else a chunk of
--- it clashes with those that were read.
-abbrev pub TellsLeaves : Version → List (List ℕ) → List Due →
-    (List (List ℕ) → List (List Pair) → Type 0) → Type 0
-TellsLeaves version read due So = (chunks : List (List ℕ)) (leaves : List (List Pair)) →
-    AreLeavesLeft version chunks leaves due → So chunks leaves ⊎ Clashing read chunks
-
--- The leaf is the first of those that are left, and these are due behind it.
-pub record IsFirstLeaf (version : Version) (chunks : List (List ℕ)) (leaves : List (List Pair))
-    (leaf : List Pair) (due : List Due) : Type 0 where
-  pub others : List (List Pair)
-  pub are : leaves ≡ leaf ∷ others
-  pub left : AreLeavesLeft version chunks others due
+-- ---- a walk over the leaves
 
 -- The chunks were read one after another, each in the place of the first subtree that was due: it has
 -- its reference, and can be read. So a walk came from the one to the other.
@@ -100,47 +85,31 @@ LeadDown version old [] new = old ≡ new
 LeadDown version old (chunk ∷ chunks) new = (mid : List Due) ×
     ReadsFirst version old (reference_of chunk) chunk mid × LeadDown version mid chunks new
 
--- By reading these chunks a walk gave the leaf, the first of those that were left.
-pub record GivesLeaf (version : Version) (old : List Due) (leaf : List Pair) (new : List Due)
-    : Type 0 where
+-- A chunk of the tree with this root has the reference of a different chunk. That was read on the way
+-- from the root down, where it was due in each file that the source goes over; or it is one of the
+-- tree, too.
+pub record FoundClashIn (goes_over : ChunkFile → Type 0) (version : Version) (root : List ℕ)
+    (chunks : List (List ℕ)) : Type 0 where
   pub read : List (List ℕ)
-  pub lead : LeadDown version old read new
-  pub tells : TellsLeaves version read old (λ chunks leaves.
-      IsFirstLeaf version chunks leaves leaf new)
-
--- By reading these chunks it found that no leaf is left, and nothing is due.
-pub record LeavesEnd (version : Version) (old : List Due) : Type 0 where
-  pub read : List (List ℕ)
-  pub lead : LeadDown version old read []
-  pub tells : TellsLeaves version read old (λ chunks leaves. leaves ≡ [])
-
--- ---- from the first leaf to the last
-
--- A walk gave these leaves, one after another, and this is due behind them.
-abbrev pub GivesLeaves : Version → List Due → List (List Pair) → List Due → Type 0
-GivesLeaves version old [] new = old ≡ new
-GivesLeaves version old (leaf ∷ leaves) new = (mid : List Due) × GivesLeaf version old leaf mid ×
-    GivesLeaves version mid leaves new
-
--- It gave these, and then found that no leaf is left.
-pub record GivesAllLeaves (version : Version) (old : List Due) (leaves : List (List Pair))
-    : Type 0 where
   pub due : List Due
-  pub gives : GivesLeaves version old leaves due
-  pub ends : LeavesEnd version due
+  pub lead : LeadDown version (left_of_root root).due read due
+  pub comes : (file : ChunkFile) → goes_over file → (now : List DueAt) ×
+      ReadsEach version file read (tree_at root) now
+  pub clash : Clashing read chunks
 
--- Law: what a walk from a root gave so far are the first leaves of any map with this root, whatever
--- the bits of its tree; or else two different chunks have one reference.
+-- Law: the leaves that a walk from a root read so far are the first leaves of any map with this
+-- root, whatever the bits of its tree. Or else a chunk of the tree has the reference of a different
+-- chunk, which the walk read or which is one of the tree.
 abbrev pub FirstLeavesAreRight : Type 0
-FirstLeavesAreRight = (version : Version) (bits : ℕ) (m : List Pair) (given : List (List Pair))
+FirstLeavesAreRight = (version : Version) (bits : ℕ) (m : List Pair) (read : List (List ℕ))
     (due : List Due) → IsMap m → AllByRecursion IsPair m →
-    GivesLeaves version (left_of_root (root_reference (sha512_cut bits) version m)).due given due →
-    IsPrefix given (full_leaves (sha512_cut bits) m)
-    ⊎ FoundClashIn version (chunk_bytes version bits m)
+    LeadDown version (left_of_root (root_reference (sha512_cut bits) version m)).due read due →
+    IsPrefix (leaves_on read) (full_leaves (sha512_cut bits) m)
+    ⊎ Clashing read (chunk_bytes version bits m)
 
--- Law: what it gave until it found that no leaf is left are all of them.
+-- Law: those that it read until nothing was due are all of them.
 abbrev pub AllLeavesAreRight : Type 0
-AllLeavesAreRight = (version : Version) (bits : ℕ) (m : List Pair) (given : List (List Pair)) →
+AllLeavesAreRight = (version : Version) (bits : ℕ) (m : List Pair) (read : List (List ℕ)) →
     IsMap m → AllByRecursion IsPair m →
-    GivesAllLeaves version (left_of_root (root_reference (sha512_cut bits) version m)).due given →
-    (given ≡ full_leaves (sha512_cut bits) m) ⊎ FoundClashIn version (chunk_bytes version bits m)
+    LeadDown version (left_of_root (root_reference (sha512_cut bits) version m)).due read [] →
+    (leaves_on read ≡ full_leaves (sha512_cut bits) m) ⊎ Clashing read (chunk_bytes version bits m)

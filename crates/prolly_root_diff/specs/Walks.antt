@@ -1,7 +1,7 @@
 -- A walk over two trees by their references.
 use Rattle.std.specs.Prelude.{◌≡◌, ℕ, ◌⊎◌, List, [], ◌∷◌, ◌++◌, Option, Some, None}
 use Rattle.std.specs.Prelude.{Bool, false}
-use Rattle.std.specs.Prelude.{◌<◌, ◌≤◌, ◌≢◌, length}
+use Rattle.std.specs.Prelude.{◌<◌, ◌≤◌, ◌≢◌, length, map}
 use Rattle.prolly_entry.specs.Keys.{KeyBelow}
 use Rattle.prolly_entry.specs.Pair.{Pair, IsPair}
 use Rattle.prolly_entry.specs.declared.version.Version.{Version}
@@ -14,9 +14,8 @@ use Rattle.prolly_entry.specs.Record.{Record}
 use Rattle.prolly_entry.specs.Reference.{reference_of}
 use Rattle.prolly_look_up.specs.Content.{chunk_bytes}
 use Rattle.prolly_look_up.specs.Way.{Clash, IsNamed}
-use Rattle.prolly_tree.specs.Walks.{AreAlike, AreMaps, IsFirstChange, Maps}
-use Rattle.prolly_tree.specs.lemmas.Maps.{FirstAbove}
-use Rattle.prolly_root_diff.specs.Left.{Due, IsLeft, Left, Opens, left_of_root}
+use Rattle.prolly_root_diff.specs.FirstFault.{TreeStep}
+use Rattle.prolly_root_diff.specs.Left.{Due, Left, Opens, left_of_root}
 use Rattle.prolly_root_diff.specs.DueTrees.{IsAtRoot}
 use Rattle.prolly_root_diff.specs.Sides.{left_of}
 use Rattle.prolly_root_diff.specs.declared.notes.Notes.{Notes}
@@ -35,11 +34,6 @@ pub record Lefts : Type 0 where
 abbrev pub at_roots : List ℕ → List ℕ → Lefts
 at_roots old new = record { before = left_of_root old; after = left_of_root new }
 
--- These maps are left of the trees with these chunks.
-abbrev pub AreLeft : Version → List (List ℕ) → List (List ℕ) → Maps → Lefts → Type 0
-AreLeft version cs ds maps lefts =
-    IsLeft version cs maps.before lefts.before × IsLeft version ds maps.after lefts.after
-
 -- Two different chunks have one reference: one of the trees, and another one of them, or one of those
 -- that were read. (That two chunks that were read have one would say nothing: there are more chunks
 -- than references.)
@@ -50,20 +44,6 @@ Clashing read trees = Clash (read ++ trees) trees
 -- whose keys rise.
 abbrev pub AreReadable : Version → List (List ℕ) → Type 0
 AreReadable version chunks = AllByRecursion (λ c. IsNamed version (reference_of c) c) chunks
-
--- So it is of what is left of any two trees of the version and of any bits; or else a chunk of them
--- clashes.
-abbrev pub Tells : Version → List (List ℕ) → Lefts → (List (List ℕ) → List (List ℕ) → Maps → Type 0)
-    → Type 0
-Tells version read lefts So = (cs ds : List (List ℕ)) (maps : Maps) → AreMaps maps →
-    AreLeft version cs ds maps lefts → So cs ds maps ⊎ Clashing read (cs ++ ds)
-
--- Both maps begin alike, and behind that these are left.
-pub record GoOn (version : Version) (cs ds : List (List ℕ)) (maps : Maps) (lefts : Lefts) : Type 0
-  where
-    pub rest : Maps
-    pub alike : AreAlike maps rest
-    pub left : AreLeft version cs ds rest lefts
 
 -- ---- how a walk goes on
 
@@ -135,18 +115,39 @@ IsOnward before after ways.OpenNew = IsDue after × (BeginAlike before after →
     (IsReady before ⊎ (first_bound before.due < first_bound after.due))
 IsOnward before after way = GoesByPairs before after way
 
+-- ---- a change
+
+-- The record that says the change.
+abbrev pub record_of : RootChange → Record
+record_of (Removed pair) = record { key = pair.key; value = None }
+record_of (Added pair) = record { key = pair.key; value = Some pair.value }
+record_of (Changed before after) = record { key = after.key; value = Some after.value }
+
+-- What the old map has at the key of the change.
+abbrev pub before_of : RootChange → Option (List ℕ)
+before_of (Removed pair) = Some pair.value
+before_of (Added pair) = None
+before_of (Changed before after) = Some before.value
+
 -- ---- the way of a walk
 
--- What a walk does: it reads a chunk of the old tree, or of the new one; it goes on in both behind
--- subtrees that have one reference; or it takes the first pair in hand of the old tree, of the new
--- one, or of both.
+-- What a walk does: it reads a chunk of the old tree, or of the new one; it goes on in both after
+-- subtrees that have one reference, or after first pairs that are the same; or it gives a change.
 pub data Move : Type 0 where
   ReadsOld : List ℕ → Move
   ReadsNew : List ℕ → Move
   PassesBoth : Move
-  TakesOld : Move
-  TakesNew : Move
-  TakesBoth : Move
+  SkipsBoth : Move
+  Gives : RootChange → Move
+
+-- The pairs that a change tells were taken: from the tree that goes on first, or from both.
+abbrev pub TakesChange : Lefts → RootChange → Lefts → Type 0
+TakesChange old (Removed pair) new = Takes old.before pair new.before ×
+    (new.after ≡ old.after) × IsOnward old.before old.after ways.Removed
+TakesChange old (Added pair) new = Takes old.after pair new.after × (new.before ≡ old.before) ×
+    IsOnward old.before old.after ways.Added
+TakesChange old (Changed pair other) new = Takes old.before pair new.before ×
+    Takes old.after other new.after × IsOnward old.before old.after ways.Changed
 
 -- So it comes from the one to the other, as its rules say. A chunk is read in the place of the first
 -- subtree: it has its reference, and can be read.
@@ -160,13 +161,10 @@ IsMove version old (Move.ReadsNew chunk) new = (opens : Opens version old.after 
 IsMove version old Move.PassesBoth new = (alike : BeginAlike old.before old.after) ×
     (new.before ≡ record { pairs = []; due = alike.due }) ×
     (new.after ≡ record { pairs = []; due = alike.due' })
-IsMove version old Move.TakesOld new = (pair : Pair) × Takes old.before pair new.before ×
-    (new.after ≡ old.after) × IsOnward old.before old.after ways.Removed
-IsMove version old Move.TakesNew new = (pair : Pair) × Takes old.after pair new.after ×
-    (new.before ≡ old.before) × IsOnward old.before old.after ways.Added
-IsMove version old Move.TakesBoth new = (pair : Pair) × (other : Pair) ×
+IsMove version old Move.SkipsBoth new = (pair : Pair) × (other : Pair) ×
     Takes old.before pair new.before × Takes old.after other new.after ×
-    (IsOnward old.before old.after ways.Skip ⊎ IsOnward old.before old.after ways.Changed)
+    IsOnward old.before old.after ways.Skip
+IsMove version old (Move.Gives change) new = TakesChange old change new
 
 -- This way leads from the one to the other.
 abbrev pub Leads : Version → Lefts → List Move → Lefts → Type 0
@@ -180,65 +178,35 @@ read_on [] = []
 read_on (Move.ReadsOld chunk ∷ way) = chunk ∷ read_on way
 read_on (Move.ReadsNew chunk ∷ way) = chunk ∷ read_on way
 read_on (Move.PassesBoth ∷ way) = read_on way
-read_on (Move.TakesOld ∷ way) = read_on way
-read_on (Move.TakesNew ∷ way) = read_on way
-read_on (Move.TakesBoth ∷ way) = read_on way
+read_on (Move.SkipsBoth ∷ way) = read_on way
+read_on (Move.Gives change ∷ way) = read_on way
 
--- ---- what a walk gives
+-- The changes that are given on it.
+abbrev pub changes_on : List Move → List RootChange
+changes_on [] = []
+changes_on (Move.ReadsOld chunk ∷ way) = changes_on way
+changes_on (Move.ReadsNew chunk ∷ way) = changes_on way
+changes_on (Move.PassesBoth ∷ way) = changes_on way
+changes_on (Move.SkipsBoth ∷ way) = changes_on way
+changes_on (Move.Gives change ∷ way) = change ∷ changes_on way
 
--- A walk went on from the one to the other, behind pairs with which both maps begin.
-pub record Moves (version : Version) (old new : Lefts) : Type 0 where
-  pub way : List Move
-  pub lead : Leads version old way new
-  pub tells : Tells version (read_on way) old (λ cs ds maps. GoOn version cs ds maps new)
+-- What is done of the old tree.
+abbrev pub old_steps : List Move → List TreeStep
+old_steps [] = []
+old_steps (Move.ReadsOld chunk ∷ way) = TreeStep.Reads chunk ∷ old_steps way
+old_steps (Move.ReadsNew chunk ∷ way) = old_steps way
+old_steps (Move.PassesBoth ∷ way) = TreeStep.Passes ∷ old_steps way
+old_steps (Move.SkipsBoth ∷ way) = old_steps way
+old_steps (Move.Gives change ∷ way) = old_steps way
 
--- The first change of the two maps, behind which these are left.
-pub record FirstChange (version : Version) (cs ds : List (List ℕ)) (maps : Maps) (key : List ℕ)
-    (before after : Option (List ℕ)) (lefts : Lefts) : Type 0 where
-  pub rest : Maps
-  pub first : IsFirstChange maps key before after rest
-  pub left : AreLeft version cs ds rest lefts
-
--- A walk went on from the one to the other, behind this change, which is the first.
-pub record Changes (version : Version) (old : Lefts) (key : List ℕ) (before after : Option (List ℕ))
-    (new : Lefts) : Type 0 where
-  pub way : List Move
-  pub lead : Leads version old way new
-  pub tells : Tells version (read_on way) old (λ cs ds maps.
-      FirstChange version cs ds maps key before after new)
-
--- It came to the end of both trees, and the two maps are the same.
-pub record Ends (version : Version) (old : Lefts) : Type 0 where
-  pub way : List Move
-  pub rest : Lefts
-  pub lead : Leads version old way rest
-  pub at_end : IsAtEnd rest.before × IsAtEnd rest.after
-  pub tells : Tells version (read_on way) old (λ cs ds maps.
-      IsDifference maps.before maps.after [])
-
--- What a walk found: a change; or that there is none, and that nothing is left of either tree.
-abbrev pub Gives : Version → Lefts → Option RootChange → Lefts → Type 0
-Gives version old None new = Ends version old × IsAtEnd new.before × IsAtEnd new.after
-Gives version old (Some (Removed pair)) new =
-    Changes version old pair.key (Some pair.value) None new
-Gives version old (Some (Added pair)) new = Changes version old pair.key None (Some pair.value) new
-Gives version old (Some (Changed before after)) new =
-    Changes version old after.key (Some before.value) (Some after.value) new
-
--- Where a change tells two pairs, they have one key.
-abbrev pub IsOfOneKey : Option RootChange → Type 0
-IsOfOneKey (Some (Changed before after)) = before.key ≡ after.key
-IsOfOneKey change = Unit {0}
-
--- These pairs were taken, of the least key that either has in hand.
-abbrev pub TakesFirst : Lefts → Option Pair → Option Pair → Lefts → Type 0
-TakesFirst old None None new = (old.before.pairs ≡ []) × (old.after.pairs ≡ [])
-TakesFirst old (Some p) None new = Takes old.before p new.before × (new.after ≡ old.after) ×
-    FirstAbove p.key old.after.pairs
-TakesFirst old None (Some q) new = Takes old.after q new.after × (new.before ≡ old.before) ×
-    FirstAbove q.key old.before.pairs
-TakesFirst old (Some p) (Some q) new = Takes old.before p new.before × Takes old.after q new.after ×
-    (p.key ≡ q.key)
+-- What is done of the new one.
+abbrev pub new_steps : List Move → List TreeStep
+new_steps [] = []
+new_steps (Move.ReadsOld chunk ∷ way) = new_steps way
+new_steps (Move.ReadsNew chunk ∷ way) = TreeStep.Reads chunk ∷ new_steps way
+new_steps (Move.PassesBoth ∷ way) = TreeStep.Passes ∷ new_steps way
+new_steps (Move.SkipsBoth ∷ way) = new_steps way
+new_steps (Move.Gives change ∷ way) = new_steps way
 
 -- ---- a walk
 
@@ -264,60 +232,30 @@ pub record IsBegun {T U : Type 0} (version : Version) (old new : List ℕ) (walk
     pub lefts : lefts_of walk ≡ at_roots old new
     pub goes : walk.stopped ≡ false
 
--- ---- from the first call to the last
-
--- A walk gave changes that these records say, one after another, and then that there is none.
-abbrev pub GivesAll : Version → Lefts → List Record → Type 0
-GivesAll version lefts [] = Ends version lefts
-GivesAll version lefts (r ∷ rs) = (before : Option (List ℕ)) × (rest : Lefts) ×
-    Changes version lefts r.key before r.value rest × GivesAll version rest rs
-
--- A walk gave changes that these records say, one after another, and this is left behind them.
-abbrev pub GivesFirst : Version → Lefts → List Record → Lefts → Type 0
-GivesFirst version lefts [] rest = lefts ≡ rest
-GivesFirst version lefts (r ∷ rs) rest = (before : Option (List ℕ)) × (mid : Lefts) ×
-    Changes version lefts r.key before r.value mid × GivesFirst version mid rs rest
+-- ---- what the changes say of the maps
 
 -- The difference of the maps begins with these records.
 pub record BeginsWithRecords (old new : List Pair) (records : List Record) : Type 0 where
   pub more : List Record
   pub is : IsDifference old new (records ++ more)
 
--- A chunk of these two trees has the reference of a different chunk, which was read or is one of
--- them, too. What was read can be read as a chunk of this version.
-pub record FoundClash (version : Version) (before after : List (List ℕ)) : Type 0 where
-  pub read : List (List ℕ)
-  pub readable : AreReadable version read
-  pub clash : Clashing read (before ++ after)
+-- So it is of two maps, where a walk gave these changes and this is left after them: their difference
+-- begins with the changes, which are all of it where nothing is left. Each tells what the old map has
+-- at its key.
+pub record AreChangesOf (old new : List Pair) (changes : List RootChange) (rest : Lefts) : Type 0
+  where
+    pub first : BeginsWithRecords old new (map record_of changes)
+    pub all : IsAtEnd rest.before → IsAtEnd rest.after →
+        IsDifference old new (map record_of changes)
+    pub before : AllByRecursion (λ change. find old (record_of change).key ≡ before_of change) changes
 
--- Law: what a walk from two roots gave is the difference of the maps of these roots, whatever the
--- bits of their trees; or else two different chunks have one reference.
+-- Law: what is given on a way from two roots is the difference of the maps of these roots, or how it
+-- begins, whatever the bits of their trees. Or else a chunk of the trees has the reference of a
+-- different chunk, which is read on the way or is one of the trees, too.
 abbrev pub WalksAreRight : Type 0
-WalksAreRight = (version : Version) (bits bits' : ℕ) (m m' : List Pair) (records : List Record) →
-    IsMap m → AllByRecursion IsPair m → IsMap m' → AllByRecursion IsPair m' →
-    GivesAll version (at_roots (root_reference (sha512_cut bits) version m)
-    (root_reference (sha512_cut bits') version m')) records →
-    IsDifference m m' records
-    ⊎ FoundClash version (chunk_bytes version bits m) (chunk_bytes version bits' m')
-
--- Law: with what a walk from two roots gave so far the difference of the maps of these roots begins;
--- or else two different chunks have one reference.
-abbrev pub FirstAreRight : Type 0
-FirstAreRight = (version : Version) (bits bits' : ℕ) (m m' : List Pair) (records : List Record)
+WalksAreRight = (version : Version) (bits bits' : ℕ) (m m' : List Pair) (way : List Move)
     (rest : Lefts) → IsMap m → AllByRecursion IsPair m → IsMap m' → AllByRecursion IsPair m' →
-    GivesFirst version (at_roots (root_reference (sha512_cut bits) version m)
-    (root_reference (sha512_cut bits') version m')) records rest →
-    BeginsWithRecords m m' records
-    ⊎ FoundClash version (chunk_bytes version bits m) (chunk_bytes version bits' m')
-
--- Law: what a walk from two roots says that the old map had at the key of its next change, it had; or
--- else two different chunks have one reference.
-abbrev pub BeforeIsRight : Type 0
-BeforeIsRight = (version : Version) (bits bits' : ℕ) (m m' : List Pair) (records : List Record)
-    (mid next : Lefts) (key : List ℕ) (before after : Option (List ℕ)) → IsMap m →
-    AllByRecursion IsPair m → IsMap m' → AllByRecursion IsPair m' →
-    GivesFirst version (at_roots (root_reference (sha512_cut bits) version m)
-    (root_reference (sha512_cut bits') version m')) records mid →
-    Changes version mid key before after next →
-    (find m key ≡ before)
-    ⊎ FoundClash version (chunk_bytes version bits m) (chunk_bytes version bits' m')
+    Leads version (at_roots (root_reference (sha512_cut bits) version m)
+    (root_reference (sha512_cut bits') version m')) way rest →
+    AreChangesOf m m' (changes_on way) rest
+    ⊎ Clashing (read_on way) (chunk_bytes version bits m ++ chunk_bytes version bits' m')

@@ -1,13 +1,13 @@
 //! The walk over two trees.
-ghost use Rattle.std.specs.Prelude.{◌≡◌, ◌≤◌, ◌^◌, true, false, Err, None, Some, IfOk, IfErr};
+ghost use Rattle.std.specs.Prelude.{◌≡◌, ◌≤◌, ◌^◌, [], true, false, Err, None, Some, IfOk, IfErr};
 ghost use Rattle.std.specs.Prelude.{OnErr, OnOk, IfSome};
 ghost use Rattle.std.specs.List.{sum_by};
 ghost use Rattle.std.specs.Option.{is_some};
 ghost use Rattle.prolly_root_diff.specs.Notes.{AreNoted, TellsMissing};
 ghost use Rattle.prolly_root_diff.specs.Sides.{left_of};
 ghost use Rattle.prolly_root_diff.specs.ToGo.{ComesNearer};
-ghost use Rattle.prolly_root_diff.specs.FileWalks.{TellsFiles, TellsNew, TellsOld};
-ghost use Rattle.prolly_root_diff.specs.Walks.{Gives, IsBegun, IsOfOneKey, Lefts, lefts_of};
+ghost use Rattle.prolly_root_diff.specs.FileWalks.{TellsNew, TellsOld, TellsWalk};
+ghost use Rattle.prolly_root_diff.specs.Walks.{IsBegun, lefts_of};
 ghost use Rattle.prolly_root_diff.specs.declared.notes.Notes.{Notes as NotesValue};
 
 use crate::change::RootChange;
@@ -25,10 +25,11 @@ use std::marker::Model;
 /// The changes that are left between the maps of two trees, in the order of their keys. The chunks
 /// of both come from a [`ChunkSource`] each, which are lent to each call.
 ///
-/// Taken together the changes are the difference of any two maps with these roots, unless two
-/// different chunks have one reference: see [`laws::walks_are_right`](crate::laws::walks_are_right).
-/// That holds whatever the sources do. Of chunk files of any bytes the first fault is told. A lawful
-/// file has none: see [`laws::walks_tell_one_fault`](crate::laws::walks_tell_one_fault).
+/// Taken together the changes are the difference of any two maps with these roots, unless a chunk of
+/// their trees has the reference of a different chunk, which was read or is one of the trees, too:
+/// see [`laws::walks_are_right`](crate::laws::walks_are_right). That holds whatever the sources do.
+/// What is read of a chunk file stands in it. Of chunk files of any bytes the first fault is told. A
+/// lawful file has none: see [`laws::walks_tell_one_fault`](crate::laws::walks_tell_one_fault).
 ///
 /// Memory is taken for a leaf of each tree, and for the references of the children of the nodes
 /// above it. A chunk is read where the other tree has not the same one in its place, and once. So
@@ -92,15 +93,14 @@ impl<T: Copy + Drop, U: Copy + Drop> RootDifferences<T, U> {
     ) -> Result<RootDifferences<T, U>, AllocError>
         ensures begun { IfOk result (IsBegun version old.now.0 new.now.0) }
         ensures notes { IfOk result (λ walk. is_some walk.notes ≡ true) }
-        ensures noted { IfOk result (λ walk. AreNoted version (lefts_of walk) (lefts_of walk)
-            walk.notes) }
+        ensures noted { IfOk result (λ walk. AreNoted [] walk.notes) }
     {
         let mut walk = RootDifferences::new(alloc, version, old, new)?;
         walk.notes = Some(Notes::none(alloc));
         Ok(walk)
     }
 
-    /// The next change, or none where the rest of both maps is the same. Behind that there is none
+    /// The next change, or none where the rest of both maps is the same. After that there is none
     /// at each further call. `old` gives chunks of the one tree, and `new` of the other.
     ///
     /// After an `Err` nothing more is told: each further call fails, and reads nothing.
@@ -111,9 +111,6 @@ impl<T: Copy + Drop, U: Copy + Drop> RootDifferences<T, U> {
         new: &mut R,
     ) -> Result<Option<RootChange>, RootDiffFault>
         ensures version { self.new.version ≡ self.old.version }
-        ensures gives { IfOk result (λ change. Gives self.old.version (lefts_of self.old) change
-            (lefts_of self.new)) }
-        ensures one_key { IfOk result IsOfOneKey }
         ensures nearer { IfOk result (λ change. ComesNearer (lefts_of self.old) change
             (lefts_of self.new)) }
         ensures stops { OnErr result (self.new.stopped ≡ true) }
@@ -123,15 +120,15 @@ impl<T: Copy + Drop, U: Copy + Drop> RootDifferences<T, U> {
         ensures only { IfErr result (λ fault. fault ≡ RootDiffFault.Stopped →
             self.old.stopped ≡ true) }
         ensures notes { OnOk result (is_some self.new.notes ≡ is_some self.old.notes) }
-        ensures noted { OnOk result ((from : Lefts) →
-            AreNoted self.old.version from (lefts_of self.old) self.old.notes →
-            AreNoted self.old.version from (lefts_of self.new) self.new.notes) }
 
-        // A failed read is told. Of files that the sources go over it is told what is wrong first.
+        // One way tells what is given and noted, and what was read of the files that the sources go
+        // over. Where it stops, it is told what is wrong first with these files. A failed read is
+        // told.
+        ensures walks { TellsWalk S.goes_over S.stands R.goes_over R.stands self.old.version
+            old.old new.old self.old.before self.new.before self.old.after self.new.after
+            self.old.notes self.new.notes result }
         ensures old { TellsOld S.goes_over S.failures old.old old.new result }
         ensures new { TellsNew R.goes_over R.failures new.old new.new result }
-        ensures files { TellsFiles S.goes_over S.stands R.goes_over R.stands self.old.version
-            old.old new.old self.old.before self.new.before self.old.after self.new.after result }
     {
         if self.stopped {
             return Err(RootDiffFault::Stopped);
@@ -151,7 +148,7 @@ impl<T: Copy + Drop, U: Copy + Drop> RootDifferences<T, U> {
     }
 
     /// What is missing: how many chunks of the new tree have a reference that no chunk of the old
-    /// one has, and how many bytes these are. It is asked for behind the last change, and not of
+    /// one has, and how many bytes these are. It is asked for after the last change, and not of
     /// what was read alone: the walk may read a chunk in the one tree before it finds it in the
     /// other.
     ///
@@ -190,26 +187,16 @@ fn next_change<
     after: &mut Side<U>,
     notes: &mut Option<Notes>,
 ) -> Result<Option<RootChange>, RootDiffFault>
-    ensures gives { IfOk result (λ change. Gives version
-        (record { before = left_of before.old; after = left_of after.old }) change
-        (record { before = left_of before.new; after = left_of after.new })) }
-    ensures one_key { IfOk result IsOfOneKey }
     ensures nearer { IfOk result (λ change. ComesNearer
         (record { before = left_of before.old; after = left_of after.old }) change
         (record { before = left_of before.new; after = left_of after.new })) }
     ensures only { IfErr result (λ fault. fault ≡ RootDiffFault.Stopped → ⊥) }
     ensures notes { OnOk result (is_some notes.new ≡ is_some notes.old) }
-    ensures noted { OnOk result ((from : Lefts) → AreNoted version from
-        (record { before = left_of before.old; after = left_of after.old }) notes.old →
-        AreNoted version from
-        (record { before = left_of before.new; after = left_of after.new }) notes.new) }
+    ensures walks { TellsWalk S.goes_over S.stands R.goes_over R.stands version old.old new.old
+        before.old before.new after.old after.new notes.old notes.new result }
     ensures old { TellsOld S.goes_over S.failures old.old old.new result }
     ensures new { TellsNew R.goes_over R.failures new.old new.new result }
-    ensures files { TellsFiles S.goes_over S.stands R.goes_over R.stands version old.old new.old
-        before.old before.new after.old after.new result }
 {
-    // By these laws what is left of a tree stays the same where a chunk of it is read.
-    walks_are_right();
     'walk: loop {
         match way_onward(before, after) {
             Onward::Pass => {

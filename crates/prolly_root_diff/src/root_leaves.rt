@@ -5,13 +5,12 @@ ghost use Rattle.prolly_root.specs.ChunkFile.{ChunkFile};
 ghost use Rattle.prolly_root.specs.ChunkSource.{HasAsked};
 ghost use Rattle.prolly_root.specs.declared.root_fault.RootFault.{RootFault as RootFaultValue};
 ghost use Rattle.prolly_root_diff.specs.DueTrees.{all_due};
-ghost use Rattle.prolly_root_diff.specs.FirstFault.{DueAt};
-ghost use Rattle.prolly_root_diff.specs.LeafWalk.{GivesNext, IsLeafWalk, TellsLeaf, due_of_walk};
+ghost use Rattle.prolly_root_diff.specs.FirstFault.{DueAt, MayStopBehind};
+ghost use Rattle.prolly_root_diff.specs.LeafWalk.{GivesNext, IsLeafWalk, due_of_walk};
 ghost use Rattle.prolly_root_diff.specs.Places.{AllStand};
 ghost use Rattle.prolly_root_diff.specs.ToGo.{weights};
 
 use crate::due_trees::{read_first, whole_tree};
-use crate::laws::leaves_are_right;
 use crate::siblings::Siblings;
 use prolly_entry::{Ref, Version};
 use prolly_look_up::pairs_of;
@@ -31,11 +30,13 @@ pub struct LeafRead {
 /// The leaves that are left of a tree, from left to right. The chunks come from a [`ChunkSource`],
 /// which is lent to each call.
 ///
-/// Taken together they are the leaves of any map with the tree's root, unless two different chunks
-/// have one reference: see [`laws::leaves_are_right`](crate::laws::leaves_are_right). That holds
-/// whatever the source does: each chunk is compared with the reference in the one above it, and the
-/// first with the root. Of a chunk file of any bytes the first fault is told. A lawful file has none:
-/// see [`laws::walks_tell_one_fault`](crate::laws::walks_tell_one_fault).
+/// Taken together they are the leaves of any map with the tree's root, unless a chunk of its tree
+/// has the reference of a different chunk, which was read or is one of the tree, too: see
+/// [`laws::leaves_are_right`](crate::laws::leaves_are_right). That holds whatever the source does:
+/// each chunk is compared with the reference in the one above it, and the first with the root.
+/// Where the source goes over a chunk file, what was read stands there. Of a file of any bytes the
+/// first fault is told. A lawful file has none: see
+/// [`laws::walks_tell_one_fault`](crate::laws::walks_tell_one_fault).
 ///
 /// Each chunk of the tree is read once. Memory is taken for the leaf that is given, and for the
 /// references of the children of the nodes above.
@@ -79,7 +80,7 @@ impl<T: Copy + Drop> RootLeaves<T> {
     }
 
     /// The next leaf that has pairs, or none where none is left. (The one leaf of the empty map has
-    /// none.) Behind the last one there is none at each further call.
+    /// none.) After the last one there is none at each further call.
     ///
     /// After an `Err` each further call answers the same, and reads nothing.
     pub fn next<S: ChunkSource<Place = T>>(
@@ -88,8 +89,11 @@ impl<T: Copy + Drop> RootLeaves<T> {
         source: &mut S,
     ) -> Result<Option<LeafRead>, RootFault>
         ensures version { self.new.version ≡ self.old.version }
-        ensures gives { IfOk result (λ leaf. GivesNext self.old.version (due_of_walk self.old) leaf
-            (due_of_walk self.new)) }
+
+        // The leaf that is given is the one among the chunks that were read. Each of these stood
+        // where it was due.
+        ensures gives { IfOk result (λ leaf. GivesNext S.goes_over S.stands self.old.version
+            source.old self.old.due.items leaf self.new.due.items) }
         ensures nearer { IfOk result (λ leaf. IfSome leaf (λ _.
             weights (due_of_walk self.new) < weights (due_of_walk self.old))) }
         ensures stops { IfErr result (λ fault. self.new.fault ≡ Some fault) }
@@ -100,7 +104,7 @@ impl<T: Copy + Drop> RootLeaves<T> {
         // Of a file that the source goes over it is told what is wrong first.
         ensures tells { (file : ChunkFile) (old : List DueAt) → self.old.fault ≡ None →
             S.goes_over source.old file → AllStand S.stands file self.old.due.items old →
-            TellsLeaf S.stands self.old.version file old self.new.due.items result }
+            IfErr result (MayStopBehind self.old.version file old) }
         ensures asked { self.old.fault ≡ None →
             HasAsked S.goes_over S.failures source.old source.new result }
     {
@@ -123,17 +127,15 @@ fn next_leaf<S: ChunkSource>(
     source: &mut S,
     version: Version,
 ) -> Result<Option<LeafRead>, RootFault>
-    ensures gives { IfOk result (λ leaf. GivesNext version (all_due due.old.items) leaf
-        (all_due due.new.items)) }
+    ensures gives { IfOk result (λ leaf. GivesNext S.goes_over S.stands version source.old
+        due.old.items leaf due.new.items) }
     ensures nearer { IfOk result (λ leaf. IfSome leaf (λ _.
         weights (all_due due.new.items) < weights (all_due due.old.items))) }
     ensures tells { (file : ChunkFile) (old : List DueAt) → S.goes_over source.old file →
         AllStand S.stands file due.old.items old →
-        TellsLeaf S.stands version file old due.new.items result }
+        IfErr result (MayStopBehind version file old) }
     ensures asked { HasAsked S.goes_over S.failures source.old source.new result }
 {
-    // By these laws the leaves that are left stay the same where a node is read.
-    leaves_are_right();
     'nodes: while !due.is_empty() {
         let (reference, chunk) = read_first(due, alloc, source, version)?;
         if !pairs_of(version, &chunk).is_empty() {

@@ -1,14 +1,12 @@
 //! The command `diff` of two files of which only the roots are believed.
-ghost use Rattle.std.specs.Prelude.{◌≡◌, ◌++◌, IfOk, IfErr, OnOk, OnErr, true};
+ghost use Rattle.std.specs.Prelude.{◌≡◌, [], ◌++◌, IfOk, IfErr, OnOk, OnErr, true};
 ghost use Rattle.prolly_root_diff.specs.Notes.{AreNoted};
-ghost use Rattle.prolly_root_diff.specs.Walks.{IsBegun, lefts_of};
+ghost use Rattle.prolly_root_diff.specs.Walks.{IsBegun, record_of};
 ghost use Rattle.prolly_text.specs.RecordForms.{spelled};
 ghost use Rattle.prolly_answer.specs.Diff.{AreStopped, AreWritten};
 ghost use Rattle.prolly_answer.specs.Outputs.{TookAll, TookSoFar, TookUntil, WroteOwn};
 ghost use Rattle.prolly_answer.specs.RootDiffs.{Counts, IsEndedDiff, IsRootDiff, IsStoppedDiff};
-ghost use Rattle.prolly_answer.specs.RootDiffs.{MayStopInNew, MayStopInOld, TellsDiffReads};
-ghost use Rattle.prolly_answer.specs.RootDiffs.{TellsNumbers, WroteIn};
-ghost use Rattle.prolly_answer.specs.RootDiffs.{fault_of, record_of};
+ghost use Rattle.prolly_answer.specs.RootDiffs.{TellsDiffReads, TellsNumbers, WroteIn, fault_of};
 ghost use Rattle.prolly_fault.specs.declared.fault.Fault.{Fault as FaultValue};
 ghost use Rattle.prolly_fault.specs.declared.fault.Fault.TheVariants.{Memory, RootNew, RootOld};
 ghost use Rattle.prolly_fault.specs.declared.output_fault.OutputFault.TheVariants.{Write};
@@ -42,8 +40,8 @@ pub struct RootDiff<'a> {
 /// What `diff` answers to who names the roots: it writes what turns the map of the old root into
 /// that of the new one to the sink, where it is given a form; its status tells whether there is a
 /// change. Where `stat` is asked for it shows the line that [`answer_diff`](crate::answer_diff)
-/// shows of two checked files. Or it shows the line of the first fault, which stopped it, and the changes
-/// that were found before were written. An `Err` is want of memory for that line.
+/// shows of two checked files. Or it shows the line of the first fault, which stopped it, and the
+/// changes that were found before were written. An `Err` is want of memory for that line.
 ///
 /// Of both trees no more is read than the walk wants: see
 /// [`RootDifferences`](prolly_root_diff::RootDifferences). What the changes are of the maps with
@@ -60,23 +58,17 @@ pub fn answer_diff_by_root<S: ChunkSource, R: ChunkSource, W: Sink>(
     sink: &mut W,
 ) -> Result<Answer, AllocError>
     ensures ok { IfOk result (IsRootDiff
-        (MayStopInOld (S.goes_over old.old) (R.goes_over new.old) diff.now.version
-        diff.now.old.now.0 diff.now.new.now.0)
-        (MayStopInNew (S.goes_over old.old) (R.goes_over new.old) diff.now.version
-        diff.now.old.now.0 diff.now.new.now.0)
-        diff.now.version diff.now.old.now.0 diff.now.new.now.0 diff.now.stat
+        (S.goes_over old.old) (R.goes_over new.old) diff.now.version diff.now.old.now.0
+        diff.now.new.now.0
         (AreWritten diff.now.form (λ bytes. TookAll W.seen bytes sink.old sink.new)
         (sink.new ≡ sink.old))
         (AreStopped diff.now.form (λ fault bytes. TookUntil W.seen fault bytes sink.old sink.new)
-        Write)
+        Write) diff.now.stat
         (λ told. TellsDiffReads RootOld (S.failures old.old) (S.failures old.new) told ×
         TellsDiffReads RootNew (R.failures new.old) (R.failures new.new) told)) }
     ensures err { OnErr result ((fault : FaultValue) × IsStoppedDiff
-        (MayStopInOld (S.goes_over old.old) (R.goes_over new.old) diff.now.version
-        diff.now.old.now.0 diff.now.new.now.0)
-        (MayStopInNew (S.goes_over old.old) (R.goes_over new.old) diff.now.version
-        diff.now.old.now.0 diff.now.new.now.0)
-        diff.now.version diff.now.old.now.0 diff.now.new.now.0
+        (S.goes_over old.old) (R.goes_over new.old) diff.now.version diff.now.old.now.0
+        diff.now.new.now.0
         (AreWritten diff.now.form (λ bytes. TookAll W.seen bytes sink.old sink.new)
         (sink.new ≡ sink.old))
         (AreStopped diff.now.form (λ fault bytes. TookUntil W.seen fault bytes sink.old sink.new)
@@ -92,7 +84,7 @@ pub fn answer_diff_by_root<S: ChunkSource, R: ChunkSource, W: Sink>(
     }
 }
 
-/// What is told of two trees behind their last change.
+/// What is told of two trees after their last change.
 #[derive(Drop)]
 struct Told {
     /// Whether there are changes.
@@ -111,15 +103,12 @@ fn write_diff<S: ChunkSource, R: ChunkSource, W: Sink>(
     sink: &mut W,
 ) -> Result<Told, Fault>
     ensures ended { IsEndedDiff
-        (MayStopInOld (S.goes_over old.old) (R.goes_over new.old) diff.now.version
-        diff.now.old.now.0 diff.now.new.now.0)
-        (MayStopInNew (S.goes_over old.old) (R.goes_over new.old) diff.now.version
-        diff.now.old.now.0 diff.now.new.now.0)
-        diff.now.version diff.now.old.now.0 diff.now.new.now.0 diff.now.stat
+        (S.goes_over old.old) (R.goes_over new.old) diff.now.version diff.now.old.now.0
+        diff.now.new.now.0
         (AreWritten diff.now.form (λ bytes. TookAll W.seen bytes sink.old sink.new)
         (sink.new ≡ sink.old))
         (AreStopped diff.now.form (λ fault bytes. TookUntil W.seen fault bytes sink.old sink.new)
-        Write) result }
+        Write) diff.now.stat result }
     ensures reads_old { TellsDiffReads RootOld (S.failures old.old) (S.failures old.new) result }
     ensures reads_new { TellsDiffReads RootNew (R.failures new.old) (R.failures new.new) result }
 {
@@ -139,15 +128,12 @@ fn write_changes<S: ChunkSource, R: ChunkSource, W: Sink>(
     sink: &mut W,
 ) -> Result<Told, Fault>
     ensures ended { IsEndedDiff
-        (MayStopInOld (S.goes_over old.old) (R.goes_over new.old) diff.now.version
-        diff.now.old.now.0 diff.now.new.now.0)
-        (MayStopInNew (S.goes_over old.old) (R.goes_over new.old) diff.now.version
-        diff.now.old.now.0 diff.now.new.now.0)
-        diff.now.version diff.now.old.now.0 diff.now.new.now.0 diff.now.stat
+        (S.goes_over old.old) (R.goes_over new.old) diff.now.version diff.now.old.now.0
+        diff.now.new.now.0
         (AreWritten diff.now.form (λ bytes. TookSoFar W.seen bytes sink.old sink.new)
         (sink.new ≡ sink.old))
         (AreStopped diff.now.form (λ fault bytes. TookUntil W.seen fault bytes sink.old sink.new)
-        Write) result }
+        Write) diff.now.stat result }
     ensures reads_old { TellsDiffReads RootOld (S.failures old.old) (S.failures old.new) result }
     ensures reads_new { TellsDiffReads RootNew (R.failures new.old) (R.failures new.new) result }
 {
@@ -183,8 +169,7 @@ fn begin<T: Copy + Drop, U: Copy + Drop>(
     diff: &RootDiff<'_>,
 ) -> Result<RootDifferences<T, U>, AllocError>
     ensures begun { IfOk result (IsBegun diff.now.version diff.now.old.now.0 diff.now.new.now.0) }
-    ensures noted { IfOk result (λ walk. AreNoted diff.now.version (lefts_of walk) (lefts_of walk)
-        walk.notes) }
+    ensures noted { IfOk result (λ walk. AreNoted [] walk.notes) }
 {
     if diff.stat {
         RootDifferences::noting(alloc, diff.version, diff.old, diff.new)
@@ -193,7 +178,7 @@ fn begin<T: Copy + Drop, U: Copy + Drop>(
     }
 }
 
-/// What is told behind the last change of a walk.
+/// What is told after the last change of a walk.
 fn told_of<T: Copy + Drop, U: Copy + Drop>(
     alloc: Global,
     walk: &mut RootDifferences<T, U>,

@@ -1,5 +1,5 @@
 -- Walks that begin at a root.
-use Rattle.std.proofs.Common.{◌≡◌, ◌⊎◌, ℕ, inl, inr, List, [], ◌∷◌, refl, sym, ap, subst}
+use Rattle.std.proofs.Common.{◌≡◌, ◌⊎◌, ℕ, inl, inr, List, [], ◌∷◌, Option, refl, sym, ap, subst}
 use Rattle.prolly_look_up.specs.Content.{Content}
 use Rattle.prolly_entry.specs.Cut.{sha512_cut}
 use Rattle.prolly_entry.specs.lemmas.Lists.{no_cons}
@@ -9,14 +9,16 @@ use Rattle.prolly_root.specs.ChunkFile.{ChunkFile, IsLawful, chunk_file}
 use Rattle.prolly_root.specs.RootFault.{MayFail}
 use Rattle.prolly_root.specs.declared.root_fault.RootFault.{RootFault}
 use Rattle.prolly_root_diff.specs.DueTrees.{IsAtRoot, IsWholeTree, all_due}
-use Rattle.prolly_root_diff.specs.FileWalks.{IsWalkFault, StopsInNew, StopsInOld, new_steps}
-use Rattle.prolly_root_diff.specs.FileWalks.{old_steps}
+use Rattle.prolly_root_diff.specs.FileWalks.{IsWalkFault, IsWalked, StopsInNew, StopsInOld}
+use Rattle.prolly_root_diff.specs.FileWalks.{WalksOn}
 use Rattle.prolly_root_diff.specs.FirstFault.{ComesBy, DueAt, LawfulFilesAreWalked, MayStopWith}
 use Rattle.prolly_root_diff.specs.FirstFault.{TreeStep, tree_at}
 use Rattle.prolly_root_diff.specs.Places.{AllStand, StandBelow}
 use Rattle.prolly_root_diff.specs.Sides.{left_of}
-use Rattle.prolly_root_diff.specs.Walks.{Leads, at_roots}
+use Rattle.prolly_root_diff.specs.Walks.{Leads, at_roots, new_steps, old_steps}
+use Rattle.prolly_root_diff.specs.declared.change.RootChange.{RootChange}
 use Rattle.prolly_root_diff.specs.declared.fault.RootDiffFault.TheVariants as faults
+use Rattle.prolly_root_diff.specs.declared.notes.Notes.{Notes}
 use Rattle.prolly_root_diff.specs.declared.side.Side.{Side}
 use Rattle.prolly_root_diff.specs.declared.siblings.Siblings.{Siblings}
 
@@ -55,6 +57,29 @@ none_stands stands file (s ∷ ss) there none st = no_cons _ _ none
 
 -- ---- walks over two trees
 
+-- A walk that began at the roots went its way from there, in the files that the sources go over.
+pub is_walked : {S T R U : Type 0} (goes_over : S → ChunkFile → Type 0)
+    (stands : ChunkFile → T → ℕ → ℕ → Type 0) (goes_over' : R → ChunkFile → Type 0)
+    (stands' : ChunkFile → U → ℕ → ℕ → Type 0) (version : Version) (start : S) (start' : R)
+    (root root' : List ℕ) (before end : Side T) (after end' : Side U) → IsAtRoot root before →
+    IsAtRoot root' after →
+    (record { before = left_of before; after = left_of after }) ≡ at_roots root root' →
+    (changes : List RootChange) (notes later : Option Notes) (on : WalksOn goes_over stands
+    goes_over' stands' version start start' before end after end' changes notes later) →
+    IsWalked (goes_over start) (goes_over' start') version root root' on.way
+    (record { before = left_of end; after = left_of end' })
+is_walked goes_over stands goes_over' stands' version start start' root root' before end after end'
+    at_root at_root' lefts changes notes later on = record {
+      lead = subst (λ l. Leads version l on.way
+          (record { before = left_of end; after = left_of end' })) lefts on.lead;
+      comes = λ file goes.
+          let there = on.comes file (tree_at root) goes
+          (whole_stands stands file root before.due.items at_root.at) in (there.0, there.1);
+      comes' = λ file goes.
+          let there = on.comes' file (tree_at root') goes
+          (whole_stands stands' file root' after.due.items at_root'.at) in (there.0, there.1);
+    }
+
 module _ {S T R U : Type 0} (goes_over : S → ChunkFile → Type 0)
     (stands : ChunkFile → T → ℕ → ℕ → Type 0) (goes_over' : R → ChunkFile → Type 0)
     (stands' : ChunkFile → U → ℕ → ℕ → Type 0) (version : Version) (start : S) (start' : R)
@@ -80,11 +105,13 @@ module _ {S T R U : Type 0} (goes_over : S → ChunkFile → Type 0)
       so (due, comes, inr stops) on = inr (record {
         way = s.way;
         lefts = s.lefts;
-        lead = subst (λ l. Leads version l s.way s.lefts) lefts s.lead;
         due = due;
         due' = on.0;
-        comes = comes;
-        comes' = on.1;
+        walks = record {
+          lead = subst (λ l. Leads version l s.way s.lefts) lefts s.lead;
+          comes = comes;
+          comes' = on.1;
+        };
         stops = (s.onward, stops);
       })
 
@@ -105,11 +132,13 @@ module _ {S T R U : Type 0} (goes_over : S → ChunkFile → Type 0)
       so on (due, comes, inr stops) = inr (record {
         way = s.way;
         lefts = s.lefts;
-        lead = subst (λ l. Leads version l s.way s.lefts) lefts s.lead;
         due = on.0;
         due' = due;
-        comes = on.1;
-        comes' = comes;
+        walks = record {
+          lead = subst (λ l. Leads version l s.way s.lefts) lefts s.lead;
+          comes = on.1;
+          comes' = comes;
+        };
         stops = (s.onward, stops);
       })
 

@@ -1,9 +1,6 @@
-use Rattle.std.proofs.Common.{◌≡◌, List, None}
-use Rattle.prolly_root.specs.ChunkFile.{ChunkFile}
+use Rattle.std.proofs.Common.{◌≡◌, None}
 use Rattle.prolly_root.specs.ChunkSource.{GoesOverStill}
-use Rattle.prolly_root_diff.specs.FirstFault.{DueAt, ReadsOn, tree_at}
 use Rattle.prolly_root_diff.specs.LeafWalk.{due_of_walk}
-use Rattle.prolly_root_diff.specs.Places.{AllStand}
 use Rattle.prolly_root_diff.specs.ToGo.{weights}
 use Rattle.prolly_apply.proofs.Loading.{IsLoading}
 use Rattle.prolly_apply.proofs.loader.send_leaves.Given as goal
@@ -12,14 +9,11 @@ abbrev pub invariant-loop-leaves : goal.invariant-loop-leaves
 invariant-loop-leaves g l = record {
   version : l.leaves.version ≡ l.version;
   goes : l.leaves.fault ≡ None;
-  loading : IsLoading l.version l.root.0 (g.O.Out.sent l.fn.out) (g.O.Out.sent l.out)
-      (due_of_walk l.leaves);
+  loading : IsLoading (g.S.ChunkSource.goes_over l.fn.source) g.S.ChunkSource.stands l.version
+      l.root.0 (g.O.Out.sent l.fn.out) (g.O.Out.sent l.out) l.leaves.due.items;
   link : g.O.Out.link l.out ≡ g.O.Out.link l.fn.out;
   still : GoesOverStill g.S.ChunkSource.goes_over l.fn.source l.source;
   failures : g.S.ChunkSource.failures l.source ≡ g.S.ChunkSource.failures l.fn.source;
-  reads : (file : ChunkFile) → g.S.ChunkSource.goes_over l.fn.source file → (now : List DueAt) ×
-      ReadsOn l.version file (tree_at l.root.0) now ×
-      AllStand g.S.ChunkSource.stands file l.leaves.due.items now;
 }
 
 abbrev pub decreases-loop-leaves : goal.decreases-loop-leaves

@@ -4,10 +4,9 @@ use Rattle.std.proofs.lemmas.Result.{err_from_is_err_and}
 use Rattle.prolly_look_up.specs.HeldPairs.{pairs_held}
 use Rattle.prolly_root_diff.specs.DueTrees.{all_due}
 use Rattle.prolly_root_diff.proofs.Lists.{some_due}
-use Rattle.prolly_root_diff.proofs.LeafSteps.{gives_leaf, leaves_end, no_pairs, reads_lighter}
-use Rattle.prolly_root_diff.proofs.LeafSteps.{some_pairs, stay, stay_on}
-use Rattle.prolly_root_diff.specs.lemmas.WalkParts.{none_read}
-use Rattle.prolly_root_diff.proofs.FileSteps.{reads_more, stops_behind}
+use Rattle.prolly_root_diff.proofs.LeafSteps.{gives_leaf, leaves_end, no_pairs, node_read}
+use Rattle.prolly_root_diff.proofs.LeafSteps.{none_read, reads_lighter, some_pairs}
+use Rattle.prolly_root_diff.proofs.FileSteps.{stops_behind}
 use Rattle.prolly_root_diff.proofs.root_leaves.next_leaf.Goals as goal
 
 pub read_first-requires : goal.read_first-requires
@@ -20,16 +19,15 @@ returns-then-not-is_empty-clause-gives g c =
     let held = c.pairs_of.ensures ∙ ap pairs_held c.deref.ensures.value in
     let some : 0 < length (pairs_held chunk) = some_pairs (pairs_held chunk)
     c.is_empty-in-nodes.result (c.is_empty-in-nodes.ensures ∙ ap (λ ps. length ps == 0) held)
-    c.if-not-is_empty.true in (
-      record {
-        whole = reads.named.ordered.whole;
-        some = some;
-        reference = reads.reference_is ∙ sym reads.named.is;
-      },
-      gives_leaf c.leaves_are_right.ensures.opens c.args.version (all_due c.args.due.now.items)
-          (all_due c.nodes.due.items) (all_due c.read_first.new.due.items)
-          c.in_ok-reference.reference.0 chunk reads c.nodes.invariant.stays some,
-    )
+    c.if-not-is_empty.true in
+    gives_leaf g.S.ChunkSource.goes_over g.S.ChunkSource.stands c.args.version c.args.source.now
+    c.args.due.now.items c.nodes.source c.nodes.invariant.goes c.nodes.due.items
+    c.read_first.new.due.items c.nodes.invariant.nodes c.in_ok-reference.reference.0 chunk reads
+    c.in_ok-reference.ensures.tells _ refl (record {
+      whole = reads.named.ordered.whole;
+      some = some;
+      reference = reads.reference_is ∙ sym reads.named.is;
+    })
 
 pub returns-then-not-is_empty-clause-nearer : goal.returns-then-not-is_empty-clause-nearer
 returns-then-not-is_empty-clause-nearer g c = omega (
@@ -39,27 +37,21 @@ returns-then-not-is_empty-clause-nearer g c = omega (
       c.in_ok-reference.reference.0 c.in_ok-reference.chunk.items c.in_ok-reference.ensures.reads,
 )
 
-pub returns-then-not-is_empty-clause-tells : goal.returns-then-not-is_empty-clause-tells
-returns-then-not-is_empty-clause-tells g c file old goes st =
-    let on = c.nodes.invariant.reads file old goes st in
-    reads_more g.S.ChunkSource.stands c.read_first.new.due.items on.1
-    (c.in_ok-reference.ensures.tells file on.0
-    (c.nodes.invariant.goes file goes) on.2)
-
 pub returns-in_err-reference-clause-tells : goal.returns-in_err-reference-clause-tells
 returns-in_err-reference-clause-tells g c file old goes st =
-    let on = c.nodes.invariant.reads file old goes st in
+    let nodes = c.nodes.invariant.nodes in
+    let on = nodes.comes file old goes st in
     let p = err_from_is_err_and c.from_residual.result c.from_residual.ensures.1 in
-    rw (p.1, p.2) (stops_behind on.1 (c.in_err-reference.ensures.tells file on.0
-    (c.nodes.invariant.goes file goes) on.2))
+    rw (p.1, p.2) (stops_behind (record { read = nodes.read; comes = on.1 })
+    (c.in_err-reference.ensures.tells file on.0 (c.nodes.invariant.goes file goes) on.2))
 
 pub nodes-init : goal.nodes-init
 nodes-init g c = record {
-  stays = stay c.args.version (all_due c.args.due.now.items);
+  nodes = none_read g.S.ChunkSource.goes_over g.S.ChunkSource.stands c.args.version
+      c.args.source.now c.args.due.now.items;
   nearer = omega arith;
   goes = λ file goes. goes;
   failures = refl;
-  reads = λ file old goes st. (old, none_read old, st);
 }
 
 pub nodes-smaller : goal.nodes-smaller
@@ -77,10 +69,10 @@ nodes-preserved g c =
     c.is_empty-in-nodes.result (c.is_empty-in-nodes.ensures ∙ ap (λ ps. length ps == 0) held)
     c.if-not-is_empty.false in
     record {
-      stays = stay_on c.leaves_are_right.ensures.opens c.args.version
-          (all_due c.args.due.now.items) (all_due c.nodes.due.items)
-          (all_due c.read_first.new.due.items) c.in_ok-reference.reference.0 chunk reads
-          before.stays none;
+      nodes = node_read g.S.ChunkSource.goes_over g.S.ChunkSource.stands c.args.version
+          c.args.source.now c.args.due.now.items c.nodes.source before.goes c.nodes.due.items
+          c.read_first.new.due.items before.nodes c.in_ok-reference.reference.0 chunk reads
+          c.in_ok-reference.ensures.tells none;
       nearer = omega (
         arith,
         before.nearer,
@@ -89,16 +81,10 @@ nodes-preserved g c =
       );
       goes = λ file goes. c.in_ok-reference.ensures.asked.0 file (before.goes file goes);
       failures = c.in_ok-reference.ensures.asked.1 ∙ before.failures;
-      reads = λ file old goes st. let on = before.reads file old goes st in
-          reads_more g.S.ChunkSource.stands c.read_first.new.due.items on.1
-          (c.in_ok-reference.ensures.tells file on.0 (before.goes file goes) on.2);
     }
 
 pub returns-clause-gives : goal.returns-clause-gives
 returns-clause-gives g c =
     let none : c.nodes.due.items ≡ [] = nil_from_length c.nodes.due.items (search rules) in
-    let nothing = ap all_due none in (
-      leaves_end c.args.version (all_due c.args.due.now.items) (all_due c.nodes.due.items)
-          c.nodes.invariant.stays nothing,
-      nothing,
-    )
+    leaves_end g.S.ChunkSource.goes_over g.S.ChunkSource.stands c.args.version c.args.source.now
+    c.args.due.now.items c.nodes.due.items c.nodes.invariant.nodes (ap all_due none)
