@@ -6,6 +6,7 @@ use Rattle.std.proofs.Math.Seq.{drop-cons}
 use Rattle.std.proofs.lemmas.List.{drop_all, map-append, take-append-drop, take_more}
 use Rattle.std.proofs.lemmas.List.Concat.{flat_map-append}
 use Rattle.prolly_entry.specs.Pair.{Pair}
+use Rattle.prolly_entry.specs.lemmas.Lists.{all_append}
 use Rattle.prolly_look_up.specs.Content.{chunk_bytes}
 use Rattle.prolly_look_up.specs.ScanWay.{joined}
 use Rattle.prolly_look_up.specs.Way.{IsWay, WaysAreRight}
@@ -13,7 +14,7 @@ use Rattle.prolly_look_up.specs.lemmas.Clashes.{wider}
 use Rattle.prolly_entry.specs.Record.{Record, keys_of}
 use Rattle.prolly_entry.specs.declared.version.Version.{Version}
 use Rattle.prolly_root.specs.declared.root_fault.RootFault.{RootFault}
-use Rattle.std.specs.List.{AllZip}
+use Rattle.std.specs.List.{AllByRecursion, AllZip}
 use Rattle.prolly_io.specs.Sink.{SinkView, TakesPrefix}
 use Rattle.prolly_text.specs.declared.notation.Notation.{Notation}
 use Rattle.prolly_tree.specs.LookUp.{find}
@@ -27,7 +28,8 @@ use Rattle.prolly_fault.specs.declared.output_fault.OutputFault.TheVariants as o
 use Rattle.prolly_fault.specs.declared.root_output_fault.RootOutputFault.TheVariants.{Output}
 use Rattle.prolly_fault.specs.declared.root_output_fault.RootOutputFault.TheVariants.{Root}
 use Rattle.prolly_answer.proofs.RootSteps.{taken_told}
-use Rattle.prolly_answer.proofs.ScanSteps.{so_told, took_also, until_also}
+use Rattle.prolly_answer.proofs.ScanSteps.{joined_more, so_told, took_also, until_also}
+use Rattle.prolly_answer.proofs.WaysStand.{all_also}
 use Rattle.prolly_answer.proofs.Writing.{took_none}
 
 -- ---- lines
@@ -148,13 +150,14 @@ zip_snoc R [] (b ∷ ys) x y h k = absurd h
 zip_snoc R (a ∷ xs) [] x y h k = absurd h
 zip_snoc R (a ∷ xs) (b ∷ ys) x y h k = (h.0, zip_snoc R xs ys x y h.1 k)
 
-module _ {W : Type 0} (seen : W → SinkView) (version : Version) (root : List ℕ) (notation : Notation)
-    {X : Type 0} (f : X → List ℕ) (xs : List X) where
+module _ {W : Type 0} (seen : W → SinkView) (there : List ℕ → Type 0) (version : Version)
+    (root : List ℕ) (notation : Notation) {X : Type 0} (f : X → List ℕ) (xs : List X) where
   -- what is at the first keys was found, and their lines were written
   pub record IsAsking (i : ℕ) (old new : W) : Type 0 where
     pub records : List Record
     pub ways : List (List (List ℕ))
     pub found : AreWays version root records ways
+    pub stand : AllByRecursion there (joined ways)
     pub keys_are : keys_of records ≡ map f (take i xs)
     pub took : HasWritten seen notation records old new
 
@@ -163,6 +166,7 @@ module _ {W : Type 0} (seen : W → SinkView) (version : Version) (root : List �
     records = [];
     ways = [];
     found = tt;
+    stand = tt;
     keys_are = refl;
     took = took_none seen old;
   }
@@ -171,7 +175,7 @@ module _ {W : Type 0} (seen : W → SinkView) (version : Version) (root : List �
       (a : IsAsking i old mid) where
     abbrev Told : W → Outcome → Type 0
     Told new outcome =
-        AreFoundByRoot may version root notation (map f xs) (TakesFor seen old new) outcome
+        AreFoundByRoot there may version root notation (map f xs) (TakesFor seen old new) outcome
 
     behind_first : map f xs ≡ keys_of a.records ++ map f (drop i xs)
     behind_first = keys_split f xs i ∙ ap (λ ks. ks ++ map f (drop i xs)) (sym a.keys_are)
@@ -184,6 +188,7 @@ module _ {W : Type 0} (seen : W → SinkView) (version : Version) (root : List �
       records = a.records;
       ways = a.ways;
       found = a.found;
+      stand = a.stand;
       left = map f (drop i xs);
       keys_are = behind_first;
       fits = subst (λ keys. may keys fault) (ap (λ k. k ∷ map f (drop (suc i) xs))
@@ -197,6 +202,7 @@ module _ {W : Type 0} (seen : W → SinkView) (version : Version) (root : List �
       records = a.records;
       ways = a.ways;
       found = a.found;
+      stand = a.stand;
       left = map f (drop i xs);
       keys_are = behind_first;
       fits = ap (map f) (drop_all i xs all);
@@ -205,7 +211,7 @@ module _ {W : Type 0} (seen : W → SinkView) (version : Version) (root : List �
 
     module _ (x : X) (within : i < length xs) (is : x ≡ get_or xs i x) (key : List ℕ)
         (key_is : key ≡ f x) (value : Option (List ℕ)) (way : List (List ℕ))
-        (one : IsWay version root key way value) (new : W) where
+        (one : IsWay version root key way value) (stand : AllByRecursion there way) (new : W) where
       abbrev one_found : Record
       one_found = record { key = key; value = value }
 
@@ -218,6 +224,10 @@ module _ {W : Type 0} (seen : W → SinkView) (version : Version) (root : List �
       ways_more = zip_snoc (λ found way. IsWay version root found.key way found.value) a.records
           a.ways one_found way a.found one
 
+      stand_more : AllByRecursion there (joined (a.ways ++ way ∷ []))
+      stand_more = subst (AllByRecursion there) (sym (joined_more a.ways way))
+          (all_append there (joined a.ways) way a.stand stand)
+
       pub asks_on : TookBytes seen (found_line notation one_found) mid new →
           ((seen mid).is_keeping ≡ true → (seen new).is_keeping ≡ true) →
           IsAsking (i + 1) old new
@@ -225,6 +235,7 @@ module _ {W : Type 0} (seen : W → SinkView) (version : Version) (root : List �
         records = a.records ++ one_found ∷ [];
         ways = a.ways ++ way ∷ [];
         found = ways_more;
+        stand = stand_more;
         keys_are = one_more;
         took = one_written seen notation a.records one_found old mid new a.took t keeping;
       }
@@ -236,6 +247,7 @@ module _ {W : Type 0} (seen : W → SinkView) (version : Version) (root : List �
         records = a.records ++ one_found ∷ [];
         ways = a.ways ++ way ∷ [];
         found = ways_more;
+        stand = stand_more;
         left = map f (drop (i + 1) xs);
         keys_are = keys_split f xs (i + 1) ∙ ap (λ ks. ks ++ map f (drop (i + 1) xs)) (sym one_more);
         fits = tt;
@@ -259,15 +271,18 @@ fits_may may also left (Ok done) so fits = fits
 fits_may may also left (Err (Root fault)) so fits = so fault fits
 fits_may may also left (Err (Output fault)) so fits = tt
 
-module _ {W : Type 0} (seen : W → SinkView) (version : Version) (root : List ℕ) (notation : Notation)
-    (keys : List (List ℕ)) (may : List (List ℕ) → RootFault → Type 0) where
+module _ {W : Type 0} (seen : W → SinkView) (there : List ℕ → Type 0) (version : Version)
+    (root : List ℕ) (notation : Notation) (keys : List (List ℕ))
+    (may : List (List ℕ) → RootFault → Type 0) where
   -- the root is not found
   pub keys_refused : (fault : RootFault) (old : W) → may keys fault →
-      AreFoundByRoot may version root notation keys (TakesAllFor seen old old) (Err (Root fault))
+      AreFoundByRoot there may version root notation keys (TakesAllFor seen old old)
+      (Err (Root fault))
   keys_refused fault old lawful = record {
     records = [];
     ways = [];
     found = tt;
+    stand = tt;
     left = keys;
     keys_are = refl;
     fits = lawful;
@@ -280,21 +295,24 @@ module _ {W : Type 0} (seen : W → SinkView) (version : Version) (root : List �
   }
 
   -- what was written is flushed, and told of the version and the root of the reader
-  pub keys_told : (by : List (List ℕ) → RootFault → Type 0) (v : Version) (r : List ℕ) (old mid new : W)
-      (outcome told : Outcome) →
-      AreFoundByRoot by v r notation keys (TakesFor seen old mid) outcome →
+  pub keys_told : (near : List ℕ → Type 0) (by : List (List ℕ) → RootFault → Type 0) (v : Version)
+      (r : List ℕ) (old mid new : W) (outcome told : Outcome) →
+      AreFoundByRoot near by v r notation keys (TakesFor seen old mid) outcome →
       (v ≡ version) × (r ≡ root) →
       ((seen old).is_keeping ≡ true → (seen mid).is_keeping ≡ true) →
       IsSettledAs seen (Output outputs.Write) mid new outcome told →
+      ((chunk : List ℕ) → near chunk → there chunk) →
       ((left : List (List ℕ)) (fault : RootFault) → by left fault → may left fault) →
-      AreFoundByRoot may version root notation keys (TakesAllFor seen old new) told
-  keys_told by v r old mid new outcome told d is keeping settled so =
-      subst (λ v. AreFoundByRoot may v root notation keys (TakesAllFor seen old new) told) is.0
-      (subst (λ r. AreFoundByRoot may v r notation keys (TakesAllFor seen old new) told) is.1
+      AreFoundByRoot there may version root notation keys (TakesAllFor seen old new) told
+  keys_told near by v r old mid new outcome told d is keeping settled stands so =
+      subst (λ v. AreFoundByRoot there may v root notation keys (TakesAllFor seen old new) told)
+      is.0
+      (subst (λ r. AreFoundByRoot there may v r notation keys (TakesAllFor seen old new) told) is.1
       (record {
         records = d.records;
         ways = d.ways;
         found = d.found;
+        stand = all_also near there stands (joined d.ways) d.stand;
         left = d.left;
         keys_are = d.keys_are;
         fits = so_told seen (Output outputs.Write) mid new outcome told settled

@@ -14,6 +14,8 @@ pub mod DiffSteps
 pub mod Verifying
 -- Lines that are made of the first pairs of leaves.
 pub mod FirstLines
+-- That the chunks of ways stand in the chunk file.
+mod WaysStand
 -- What is shown of a look-up by the root.
 mod FoundByRoot
 -- The status of several files, of which one more was answered.

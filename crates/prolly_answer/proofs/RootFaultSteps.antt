@@ -4,16 +4,14 @@ use Rattle.std.proofs.Common.{subst}
 use Rattle.std.specs.Prelude.{IfErr}
 use Rattle.prolly_look_up.specs.Sought.{Sought}
 use Rattle.prolly_look_up.specs.Sought.Sought.{Key}
-use Rattle.prolly_entry.specs.Cut.{sha512_cut}
 use Rattle.prolly_entry.specs.declared.version.Version.{Version}
 use Rattle.prolly_root.specs.ChunkFile.{ChunkFile, file_fault}
 use Rattle.prolly_root.specs.ChunkFile.{chunk_file}
-use Rattle.prolly_root.specs.LookUpFault.{IsFirstFault, LawfulFilesAreRead, MayTell, TellsWay}
+use Rattle.prolly_root.specs.LookUpFault.{LawfulFilesAreRead, MayTell, TellsWay}
 use Rattle.prolly_root.specs.Reader.{IsReaderIn, ReaderView}
 use Rattle.prolly_root.specs.RootFault.{MayFail, OnlyRead}
 use Rattle.prolly_root.specs.lemmas.FirstFaults.{not_opened, only_may, opened_told}
 use Rattle.prolly_root.specs.declared.root_fault.RootFault.{RootFault}
-use Rattle.prolly_tree.specs.File.{root_reference}
 use Rattle.prolly_answer.specs.RootFaults.{MayRefuse, MayRefuseFirst, RefusesNone, TellsFirst}
 use Rattle.prolly_answer.specs.RootFaults.{TellsFirstKeyOf}
 

@@ -13,6 +13,7 @@ use Rattle.prolly_look_up.specs.Sought.Sought.{Key}
 use Rattle.prolly_look_up.specs.Way.{IsWayTo}
 use Rattle.prolly_entry.specs.Keys.{key_order}
 use Rattle.prolly_entry.specs.Pair.{Pair}
+use Rattle.prolly_entry.specs.lemmas.Lists.{all_append}
 use Rattle.prolly_entry.specs.declared.version.Version.{Version}
 use Rattle.prolly_io.specs.Failures.{after_failure}
 use Rattle.prolly_io.specs.Sink.{IsSettled, SinkView}
@@ -39,6 +40,7 @@ use Rattle.prolly_answer.proofs.ScanSteps.{all_flushed, all_unflushed, behind_mo
 use Rattle.prolly_answer.proofs.ScanSteps.{ends_empty, ends_full, joined_more, prefix_flushed}
 use Rattle.prolly_answer.proofs.ScanSteps.{prefix_unflushed, scanned_more, so_told, took_also}
 use Rattle.prolly_answer.proofs.ScanSteps.{until_also}
+use Rattle.prolly_answer.proofs.WaysStand.{all_also}
 use Rattle.prolly_answer.proofs.Writing.{TookSoFar, took_front, took_none, wrote_part}
 
 -- ---- the pairs of a leaf from a key on
@@ -154,121 +156,127 @@ pub some_behind : (lists : List (List Pair)) (found : List Pair) → 0 < length 
 some_behind lists [] some = absurd (omega arith)
 some_behind lists (p ∷ ps) some = ends_full lists (p ∷ ps) (λ e. cc)
 
-module _ {W : Type 0} (seen : W → SinkView) (version : Version) (root from : List ℕ)
-    (enough : List (List Pair) → Type 0) (bytes : List (List Pair) → List ℕ)
-  where
-    -- What was found is not enough, and the next look-up is that of this key.
-    pub record IsUnderWay (next : List ℕ) (old new : W) : Type 0 where
-      pub lists : List (List Pair)
-      pub ways : List (List (List ℕ))
-      pub are : AreScanned version root from lists ways
-      pub few : ¬ (enough lists)
-      pub next_is : next ≡ behind from lists
-      pub took : TookSoFar seen (bytes lists) old new
+module _ {W : Type 0} (seen : W → SinkView) (there : List ℕ → Type 0) (version : Version)
+    (root from : List ℕ) (enough : List (List Pair) → Type 0)
+    (bytes : List (List Pair) → List ℕ) where
+  -- What was found is not enough, and the next look-up is that of this key.
+  pub record IsUnderWay (next : List ℕ) (old new : W) : Type 0 where
+    pub lists : List (List Pair)
+    pub ways : List (List (List ℕ))
+    pub are : AreScanned version root from lists ways
+    pub stand : AllByRecursion there (joined ways)
+    pub few : ¬ (enough lists)
+    pub next_is : next ≡ behind from lists
+    pub took : TookSoFar seen (bytes lists) old new
 
-    abbrev pub begins : (next : List ℕ) (old : W) → next ≡ from → ¬ (enough []) → bytes [] ≡ [] →
-        IsUnderWay next old old
-    begins next old is few none = record {
-      lists = [];
-      ways = [];
-      are = tt;
-      few = few;
-      next_is = is;
-      took = subst (λ b. TookSoFar seen b old old) (sym none) (took_none seen old);
+  abbrev pub begins : (next : List ℕ) (old : W) → next ≡ from → ¬ (enough []) → bytes [] ≡ [] →
+      IsUnderWay next old old
+  begins next old is few none = record {
+    lists = [];
+    ways = [];
+    are = tt;
+    stand = tt;
+    few = few;
+    next_is = is;
+    took = subst (λ b. TookSoFar seen b old old) (sym none) (took_none seen old);
+  }
+
+  -- Memory is wanted before anything is sought.
+  pub wants_first : (may : List ℕ → RootFault → Type 0) (old : W) → bytes [] ≡ [] →
+      IsWrittenByRoot there may version root from enough bytes (TakesFor seen old old)
+      (Err (Output Memory))
+  wants_first may old none = record {
+    found = record { lists = []; ways = []; are = tt; stand = tt };
+    fits = tt;
+    took = took_front seen (bytes []) old old
+        (subst (λ b. TookSoFar seen b old old) (sym none) (took_none seen old)) (bytes []) []
+        (sym (append-nil (bytes [])));
+  }
+
+  module _ (next : List ℕ) (old mid : W) (d : IsUnderWay next old mid) where
+    -- A look-up has a fault.
+    pub seek_fails : (may : List ℕ → RootFault → Type 0) (fault : RootFault) → may next fault →
+        IsWrittenByRoot there may version root from enough bytes (TakesFor seen old mid)
+        (Err (Root fault))
+    seek_fails may fault lawful = record {
+      found = record { lists = d.lists; ways = d.ways; are = d.are; stand = d.stand };
+      fits = (d.few, subst (λ key. may key fault) d.next_is lawful);
+      took = d.took.all;
     }
 
-    -- Memory is wanted before anything is sought.
-    pub wants_first : (may : List ℕ → RootFault → Type 0) (old : W) → bytes [] ≡ [] →
-        IsWrittenByRoot may version root from enough bytes (TakesFor seen old old)
-        (Err (Output Memory))
-    wants_first may old none = record {
-      found = record { lists = []; ways = []; are = tt };
-      fits = tt;
-      took = took_front seen (bytes []) old old
-          (subst (λ b. TookSoFar seen b old old) (sym none) (took_none seen old)) (bytes []) []
-          (sym (append-nil (bytes [])));
-    }
-
-    module _ (next : List ℕ) (old mid : W) (d : IsUnderWay next old mid) where
-      -- A look-up has a fault.
-      pub seek_fails : (may : List ℕ → RootFault → Type 0) (fault : RootFault) → may next fault →
-          IsWrittenByRoot may version root from enough bytes (TakesFor seen old mid)
-          (Err (Root fault))
-      seek_fails may fault lawful = record {
-        found = record { lists = d.lists; ways = d.ways; are = d.are };
-        fits = (d.few, subst (λ key. may key fault) d.next_is lawful);
-        took = d.took.all;
+    module _ (may : List ℕ → RootFault → Type 0) (way : List (List ℕ)) (found : List Pair)
+        (more : IsScanWay version root next way found) (stand : AllByRecursion there way)
+        (own : List ℕ) (text : bytes (d.lists ++ found ∷ []) ≡ bytes d.lists ++ own) where
+      abbrev with_more : Scanned there version root from
+      with_more = record {
+        lists = d.lists ++ found ∷ [];
+        ways = d.ways ++ way ∷ [];
+        are = scanned_more version root from d.lists d.ways found way d.are
+            (subst (λ key. IsScanWay version root key way found) d.next_is more);
+        stand = subst (AllByRecursion there) (sym (joined_more d.ways way))
+            (all_append there (joined d.ways) way d.stand stand);
       }
 
-      module _ (may : List ℕ → RootFault → Type 0) (way : List (List ℕ)) (found : List Pair)
-          (more : IsScanWay version root next way found) (own : List ℕ)
-          (text : bytes (d.lists ++ found ∷ []) ≡ bytes d.lists ++ own) where
-        abbrev with_more : Scanned version root from
-        with_more = record {
-          lists = d.lists ++ found ∷ [];
-          ways = d.ways ++ way ∷ [];
-          are = scanned_more version root from d.lists d.ways found way d.are
-              (subst (λ key. IsScanWay version root key way found) d.next_is more);
-        }
+      -- It finds that there are no more.
+      pub seek_ends : enough (d.lists ++ found ∷ []) → own ≡ [] →
+          IsWrittenByRoot there may version root from enough bytes (TakesFor seen old mid) (Ok tt)
+      seek_ends all none = record {
+        found = with_more;
+        fits = all;
+        took = subst (λ b. TookBytes seen b old mid) (sym (text ∙
+            ap (λ b. bytes d.lists ++ b) none ∙ append-nil (bytes d.lists))) d.took.all;
+      }
 
-        -- It finds that there are no more.
-        pub seek_ends : enough (d.lists ++ found ∷ []) → own ≡ [] →
-            IsWrittenByRoot may version root from enough bytes (TakesFor seen old mid) (Ok tt)
-        seek_ends all none = record {
+      module _ (new : W) where
+        -- What is to be written of its leaf is not written whole.
+        pub leaf_unwritten : (fault : OutputFault) → TookUntil seen fault own mid new →
+            IsWrittenByRoot there may version root from enough bytes (TakesFor seen old new)
+            (Err (Output fault))
+        leaf_unwritten fault t = record {
           found = with_more;
-          fits = all;
-          took = subst (λ b. TookBytes seen b old mid) (sym (text ∙
-              ap (λ b. bytes d.lists ++ b) none ∙ append-nil (bytes d.lists))) d.took.all;
+          fits = tt;
+          took = subst (λ b. TookUntil seen fault b old new) (sym text)
+              (until_also seen (bytes d.lists) own old mid new d.took fault t);
         }
 
-        module _ (new : W) where
-          -- What is to be written of its leaf is not written whole.
-          pub leaf_unwritten : (fault : OutputFault) → TookUntil seen fault own mid new →
-              IsWrittenByRoot may version root from enough bytes (TakesFor seen old new)
-              (Err (Output fault))
-          leaf_unwritten fault t = record {
+        module _ (t : TookBytes seen own mid new)
+            (keeping : (seen mid).is_keeping ≡ true → (seen new).is_keeping ≡ true) where
+          abbrev took_leaf : TookSoFar seen (bytes (d.lists ++ found ∷ [])) old new
+          took_leaf = subst (λ b. TookSoFar seen b old new) (sym text)
+              (took_also seen (bytes d.lists) own old mid new d.took t keeping)
+
+          -- It is written, and that is enough.
+          pub leaf_fills : enough (d.lists ++ found ∷ []) →
+              IsWrittenByRoot there may version root from enough bytes (TakesFor seen old new)
+              (Ok tt)
+          leaf_fills all = record { found = with_more; fits = all; took = took_leaf.all }
+
+          -- It is written, and memory is wanted before more is sought.
+          pub leaf_wants : IsWrittenByRoot there may version root from enough bytes
+              (TakesFor seen old new) (Err (Output Memory))
+          leaf_wants = record {
             found = with_more;
             fits = tt;
-            took = subst (λ b. TookUntil seen fault b old new) (sym text)
-                (until_also seen (bytes d.lists) own old mid new d.took fault t);
+            took = took_front seen (bytes with_more.lists) old new took_leaf
+                (bytes with_more.lists) [] (sym (append-nil (bytes with_more.lists)));
           }
 
-          module _ (t : TookBytes seen own mid new)
-              (keeping : (seen mid).is_keeping ≡ true → (seen new).is_keeping ≡ true) where
-            abbrev took_leaf : TookSoFar seen (bytes (d.lists ++ found ∷ [])) old new
-            took_leaf = subst (λ b. TookSoFar seen b old new) (sym text)
-                (took_also seen (bytes d.lists) own old mid new d.took t keeping)
-
-            -- It is written, and that is enough.
-            pub leaf_fills : enough (d.lists ++ found ∷ []) →
-                IsWrittenByRoot may version root from enough bytes (TakesFor seen old new) (Ok tt)
-            leaf_fills all = record { found = with_more; fits = all; took = took_leaf.all }
-
-            -- It is written, and memory is wanted before more is sought.
-            pub leaf_wants : IsWrittenByRoot may version root from enough bytes
-                (TakesFor seen old new) (Err (Output Memory))
-            leaf_wants = record {
-              found = with_more;
-              fits = tt;
-              took = took_front seen (bytes with_more.lists) old new took_leaf
-                  (bytes with_more.lists) [] (sym (append-nil (bytes with_more.lists)));
-            }
-
-            abbrev pub goes_on : (key : List ℕ) → ¬ (enough (d.lists ++ found ∷ [])) →
-                0 < length found → key ≡ next_key (last_key found) → IsUnderWay key old new
-            goes_on key few some is = record {
-              lists = with_more.lists;
-              ways = with_more.ways;
-              are = with_more.are;
-              few = few;
-              next_is = is ∙ sym (behind_more from d.lists found ∙ behind_some found some);
-              took = took_leaf;
-            }
-              where
-                behind_some : (ps : List Pair) → 0 < length ps →
-                    from_behind (behind from d.lists) ps ≡ next_key (last_key ps)
-                behind_some [] some = absurd (omega arith)
-                behind_some (p ∷ ps) some = refl
+          abbrev pub goes_on : (key : List ℕ) → ¬ (enough (d.lists ++ found ∷ [])) →
+              0 < length found → key ≡ next_key (last_key found) → IsUnderWay key old new
+          goes_on key few some is = record {
+            lists = with_more.lists;
+            ways = with_more.ways;
+            are = with_more.are;
+            stand = with_more.stand;
+            few = few;
+            next_is = is ∙ sym (behind_more from d.lists found ∙ behind_some found some);
+            took = took_leaf;
+          }
+            where
+              behind_some : (ps : List Pair) → 0 < length ps →
+                  from_behind (behind from d.lists) ps ≡ next_key (last_key ps)
+              behind_some [] some = absurd (omega arith)
+              behind_some (p ∷ ps) some = refl
 
 -- ---- the end
 
@@ -321,9 +329,9 @@ module _ {W : Type 0} (seen : W → SinkView) (old mid new : W)
         (part_taken outcome is.0 is.1.same s.1 t)
   ]
 
-module _ {W : Type 0} (seen : W → SinkView) (version : Version) (root from : List ℕ)
-    (enough : List (List Pair) → Type 0) (bytes : List (List Pair) → List ℕ)
-    (may : List ℕ → RootFault → Type 0) where
+module _ {W : Type 0} (seen : W → SinkView) (there : List ℕ → Type 0) (version : Version)
+    (root from : List ℕ) (enough : List (List Pair) → Type 0)
+    (bytes : List (List Pair) → List ℕ) (may : List ℕ → RootFault → Type 0) where
   module _ (old : W) (none : bytes [] ≡ []) where
     nothing_taken : TookAll seen (bytes []) old old
     nothing_taken = subst (λ b. TookAll seen b old old) (sym none) (record {
@@ -335,37 +343,45 @@ module _ {W : Type 0} (seen : W → SinkView) (version : Version) (root from : L
 
     -- Nothing is sought.
     pub nothing_sought : enough [] →
-        IsWrittenByRoot may version root from enough bytes (TakesAllFor seen old old) (Ok tt)
+        IsWrittenByRoot there may version root from enough bytes (TakesAllFor seen old old) (Ok tt)
     nothing_sought all = record {
-      found = record { lists = []; ways = []; are = tt };
+      found = record { lists = []; ways = []; are = tt; stand = tt };
       fits = all;
       took = nothing_taken;
     }
 
     -- The root is not found.
     pub root_refused : (fault : RootFault) → ¬ (enough []) → may from fault →
-        IsWrittenByRoot may version root from enough bytes (TakesAllFor seen old old)
+        IsWrittenByRoot there may version root from enough bytes (TakesAllFor seen old old)
         (Err (Root fault))
     root_refused fault few lawful = record {
-      found = record { lists = []; ways = []; are = tt };
+      found = record { lists = []; ways = []; are = tt; stand = tt };
       fits = (few, lawful);
       took = nothing_taken;
     }
 
   -- What was written is flushed, and told of the version and the root of the reader.
-  pub flushed_told : (by : List ℕ → RootFault → Type 0) (v : Version) (r : List ℕ) (old mid new : W)
-      (outcome told : Outcome) →
-      IsWrittenByRoot by v r from enough bytes (TakesFor seen old mid) outcome →
+  pub flushed_told : (near : List ℕ → Type 0) (by : List ℕ → RootFault → Type 0) (v : Version)
+      (r : List ℕ) (old mid new : W) (outcome told : Outcome) →
+      IsWrittenByRoot near by v r from enough bytes (TakesFor seen old mid) outcome →
       (v ≡ version) × (r ≡ root) →
       ((seen old).is_keeping ≡ true → (seen mid).is_keeping ≡ true) →
       IsSettledAs seen (Output Write) mid new outcome told →
+      ((chunk : List ℕ) → near chunk → there chunk) →
       ((key : List ℕ) (fault : RootFault) → by key fault → may key fault) →
-      IsWrittenByRoot may version root from enough bytes (TakesAllFor seen old new) told
-  flushed_told by v r old mid new outcome told d is keeping settled so =
-      subst (λ v. IsWrittenByRoot may v root from enough bytes (TakesAllFor seen old new) told) is.0
-      (subst (λ r. IsWrittenByRoot may v r from enough bytes (TakesAllFor seen old new) told) is.1
+      IsWrittenByRoot there may version root from enough bytes (TakesAllFor seen old new) told
+  flushed_told near by v r old mid new outcome told d is keeping settled stands so =
+      subst (λ v. IsWrittenByRoot there may v root from enough bytes (TakesAllFor seen old new)
+      told) is.0
+      (subst (λ r. IsWrittenByRoot there may v r from enough bytes (TakesAllFor seen old new)
+      told) is.1
       (record {
-        found = d.found;
+        found = record {
+          lists = d.found.lists;
+          ways = d.found.ways;
+          are = d.found.are;
+          stand = all_also near there stands (joined d.found.ways) d.found.stand;
+        };
         fits = so_told seen (Output Write) mid new outcome told settled
             (FitsOutcome enough (may (behind from d.found.lists)) d.found.lists)
             (fits_may enough (by (behind from d.found.lists)) (may (behind from d.found.lists))

@@ -39,10 +39,10 @@ scanned_more version root from (one ∷ lists) [] found way are more = absurd ar
 scanned_more version root from (one ∷ lists) (other ∷ ways) found way are more =
     (are.0, scanned_more version root (from_behind from one) lists ways found way are.1 more)
 
-pub joined_more : (lists : List (List Pair)) (found : List Pair) →
+pub joined_more : {A : Type 0} (lists : List (List A)) (found : List A) →
     joined (lists ++ found ∷ []) ≡ joined lists ++ found
 joined_more lists found = flat_map-append (λ list. list) lists (found ∷ []) ∙
-    ap (λ ps. joined lists ++ ps) (append-nil found)
+    ap (λ xs. joined lists ++ xs) (append-nil found)
 
 pub ends_empty : (lists : List (List Pair)) → EndsEmpty (lists ++ [] ∷ [])
 ends_empty [] = refl

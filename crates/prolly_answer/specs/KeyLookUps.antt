@@ -74,13 +74,14 @@ FitsKeys may left (Err (Root fault)) = may left fault
 FitsKeys may left (Err (Output fault)) = Unit {0}
 
 -- Look-ups by the root found what is at the first of the keys, with which this outcome fits; and of
--- their lines, `takes` says what the sink took.
-pub record AreFoundByRoot (may : List (List ℕ) → RootFault → Type 0) (version : Version) (root : List ℕ)
-    (notation : Notation) (keys : List (List ℕ)) (takes : List ℕ → Outcome → Type 0)
-    (outcome : Outcome) : Type 0 where
+-- their lines, `takes` says what the sink took. `there` says where each chunk of the ways stands.
+pub record AreFoundByRoot (there : List ℕ → Type 0) (may : List (List ℕ) → RootFault → Type 0)
+    (version : Version) (root : List ℕ) (notation : Notation) (keys : List (List ℕ))
+    (takes : List ℕ → Outcome → Type 0) (outcome : Outcome) : Type 0 where
   pub records : List Record
   pub ways : List (List (List ℕ))
   pub found : AreWays version root records ways
+  pub stand : AllByRecursion there (joined ways)
   pub left : List (List ℕ)
   pub keys_are : keys ≡ keys_of records ++ left
   pub fits : FitsKeys may left outcome

@@ -21,10 +21,10 @@ written_pairs form lists = written_records form (puts (joined lists))
 -- Look-ups by the root, one after another from the least key on, found lists of pairs, with which
 -- this outcome fits; and of their bytes in this form, `takes` says what the sink took. They are
 -- enough where the tree has no more pairs.
-abbrev pub IsDumpedByRoot : (List ℕ → RootFault → Type 0) → Version → List ℕ → RecordForm →
-    (List ℕ → Outcome → Type 0) → Outcome → Type 0
-IsDumpedByRoot may version root form takes outcome =
-    IsWrittenByRoot may version root [] EndsEmpty (written_pairs form) takes outcome
+abbrev pub IsDumpedByRoot : (List ℕ → Type 0) → (List ℕ → RootFault → Type 0) → Version → List ℕ →
+    RecordForm → (List ℕ → Outcome → Type 0) → Outcome → Type 0
+IsDumpedByRoot there may version root form takes outcome =
+    IsWrittenByRoot there may version root [] EndsEmpty (written_pairs form) takes outcome
 
 -- ---- what it proves
 

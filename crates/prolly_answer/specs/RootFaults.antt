@@ -1,5 +1,6 @@
 -- Which fault a command tells that looks up in a chunk file by the root: where the file is that of
--- the root there is none, and of a file of any bytes it is the first.
+-- the root there is none, and of a file of any bytes it is the first. And where the chunks stand by
+-- which it finds something.
 use Rattle.std.specs.Prelude.{◌≡◌, ◌⊎◌, ℕ, List, [], ◌∷◌, Some}
 use Rattle.prolly_look_up.specs.Content.{Content}
 use Rattle.prolly_look_up.specs.Sought.{Sought}
@@ -7,6 +8,7 @@ use Rattle.prolly_look_up.specs.Sought.Sought.{Key}
 use Rattle.prolly_entry.specs.Cut.{sha512_cut}
 use Rattle.prolly_entry.specs.declared.version.Version.{Version}
 use Rattle.prolly_root.specs.ChunkFile.{ChunkFile, IsLawful, chunk_file, file_fault}
+use Rattle.prolly_root.specs.ChunkSource.{StandsInFile}
 use Rattle.prolly_root.specs.LookUpFault.{IsFirstFault, MayTell}
 use Rattle.prolly_root.specs.Reader.{IsReaderIn, ReaderView}
 use Rattle.prolly_root.specs.RootFault.{MayFail}
@@ -59,3 +61,11 @@ MayRefuseFirst goes_over version root [] fault = RefusesNone goes_over version r
     MayFail fault ⊎ (file_fault version file ≡ Some fault))
 MayRefuseFirst goes_over version root (key ∷ keys) fault =
     MayRefuse goes_over version root (Key key) fault
+
+-- ---- the chunks of a way
+
+-- The chunk stands in each file that the source goes over and that the reader was opened for.
+abbrev pub StandsInFileOf : {T : Type 0} → (ChunkFile → T → ℕ → ℕ → Type 0) →
+    (ChunkFile → Type 0) → ReaderView T → List ℕ → Type 0
+StandsInFileOf stands goes_over reader chunk =
+    StandsInFile (λ file. goes_over file × IsReaderIn stands file reader) chunk

@@ -1,7 +1,8 @@
 -- What comes of a command that goes over the pairs of a tree of which only the root is known: how it
 -- ends, what it wrote until then, and what is told of its source.
 use Rattle.std.specs.Prelude.{◌≡◌, ◌⊎◌, ℕ, List, Result, Ok, Err, [], ◌∷◌}
-use Rattle.prolly_look_up.specs.ScanWay.{AreScanned, from_behind}
+use Rattle.std.specs.List.{AllByRecursion}
+use Rattle.prolly_look_up.specs.ScanWay.{AreScanned, from_behind, joined}
 use Rattle.prolly_entry.specs.Pair.{Pair}
 use Rattle.prolly_entry.specs.declared.version.Version.{Version}
 use Rattle.prolly_io.specs.Failures.{after_failure}
@@ -20,13 +21,14 @@ use Rattle.prolly_fault.specs.declared.root_output_fault.RootOutputFault.TheVari
 -- ---- what was found
 
 -- Look-ups by the root, one after another from the key on, found these lists of pairs, by these
--- ways.
-pub record Scanned (version : Version) (root from : List ℕ) : Type 0 where
+-- ways. `there` says where each chunk of these stands.
+pub record Scanned (there : List ℕ → Type 0) (version : Version) (root from : List ℕ) : Type 0 where
   pub lists : List (List Pair)
   pub ways : List (List (List ℕ))
   pub are : AreScanned version root from lists ways
+  pub stand : AllByRecursion there (joined ways)
 
--- Where the next look-up begins, behind what these lists have.
+-- Where the next look-up begins, after what these lists have.
 abbrev pub behind : List ℕ → List (List Pair) → List ℕ
 behind from [] = from
 behind from (found ∷ lists) = behind (from_behind from found) lists
@@ -60,16 +62,18 @@ TakesAllFor seen old new bytes (Err (Output fault)) = TookUntil seen fault bytes
 
 -- Look-ups by the root, one after another from the key on, found lists of pairs, with which this
 -- outcome fits, where `enough` says when no more is sought; and of the bytes that are to be written
--- for these lists `takes` says what the sink took. `may` says why a look-up of a key is refused.
-pub record IsWrittenByRoot (may : List ℕ → RootFault → Type 0) (version : Version) (root from : List ℕ)
-    (enough : List (List Pair) → Type 0) (bytes : List (List Pair) → List ℕ)
-    (takes : List ℕ → Outcome → Type 0) (outcome : Outcome) : Type 0 where
-  pub found : Scanned version root from
+-- for these lists `takes` says what the sink took. `there` says where each chunk of the ways
+-- stands, and `may` why a look-up of a key is refused.
+pub record IsWrittenByRoot (there : List ℕ → Type 0) (may : List ℕ → RootFault → Type 0)
+    (version : Version) (root from : List ℕ) (enough : List (List Pair) → Type 0)
+    (bytes : List (List Pair) → List ℕ) (takes : List ℕ → Outcome → Type 0) (outcome : Outcome)
+    : Type 0 where
+  pub found : Scanned there version root from
   pub fits : FitsOutcome enough (may (behind from found.lists)) found.lists outcome
   pub took : takes (bytes found.lists) outcome
 
 -- What is told of the calls of the source, whose failures were so many before and after: where one
--- failed, that is told, or that writing failed behind it.
+-- failed, that is told, or that writing failed after it.
 abbrev pub TellsReadsOf : ℕ → ℕ → Outcome → Type 0
 TellsReadsOf old new (Ok done) = new ≡ old
 TellsReadsOf old new (Err (Root fault)) = TellsFailure old new fault

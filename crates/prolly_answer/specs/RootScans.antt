@@ -18,8 +18,8 @@ limited_lines notation limit lists = pair_lines notation (take limit (joined lis
 
 -- Look-ups by the root, one after another from the key on, found lists of pairs, with which this
 -- outcome fits; and of the lines of these, up to the limit, `takes` says what the sink took.
-abbrev pub IsScannedByRoot : (List ℕ → RootFault → Type 0) → Version → List ℕ → List ℕ → ℕ → Notation →
-    (List ℕ → Outcome → Type 0) → Outcome → Type 0
-IsScannedByRoot may version root from limit notation takes outcome =
-    IsWrittenByRoot may version root from (AreEnough limit) (limited_lines notation limit) takes
-    outcome
+abbrev pub IsScannedByRoot : (List ℕ → Type 0) → (List ℕ → RootFault → Type 0) → Version → List ℕ →
+    List ℕ → ℕ → Notation → (List ℕ → Outcome → Type 0) → Outcome → Type 0
+IsScannedByRoot there may version root from limit notation takes outcome =
+    IsWrittenByRoot there may version root from (AreEnough limit) (limited_lines notation limit)
+    takes outcome

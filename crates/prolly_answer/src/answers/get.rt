@@ -3,6 +3,7 @@ ghost use Rattle.std.specs.Option.{option_copied};
 ghost use Rattle.std.specs.Prelude.{option_map, IfErr, IfOk};
 ghost use Rattle.prolly_look_up.specs.Sought.Sought.{Key};
 ghost use Rattle.prolly_look_up.specs.Way.{IsWay};
+ghost use Rattle.prolly_root.specs.ChunkSource.{StandsInFile};
 ghost use Rattle.prolly_root.specs.RootFault.{TellsReads};
 ghost use Rattle.prolly_text.specs.declared.notation.Notation.TheVariants.{Hex};
 ghost use Rattle.prolly_answer.specs.LookUps.{AnswersFailedRead, AnswersLookUp, ShowsFound};
@@ -60,7 +61,8 @@ pub fn answer_get<S: Source>(
 ///
 /// Of the source only the chunks on the way to the key are read, each compared with the reference
 /// above it, and memory is taken for these and for the value. What a value or none says of a map
-/// with the root is said by [`ways_are_right`](prolly_look_up::laws::ways_are_right).
+/// with the root is said by [`ways_are_right`](prolly_look_up::laws::ways_are_right). Each chunk of
+/// that way stands in the file that the source goes over.
 pub fn answer_get_by_root<S: ChunkSource>(
     alloc: Global,
     source: &mut S,
@@ -69,7 +71,8 @@ pub fn answer_get_by_root<S: ChunkSource>(
     key: &[u8],
     notation: Notation,
 ) -> Result<Answer, AllocError>
-    ensures { IfOk result (IsLookUpByRoot (IsWay version root.now.0 key.now) (ShowsValue notation)
+    ensures { IfOk result (IsLookUpByRoot (StandsInFile (S.goes_over source.old))
+        (IsWay version root.now.0 key.now) (ShowsValue notation)
         (MayRefuse (S.goes_over source.old) version root.now.0 (Key key.now))
         (TellsReads (S.failures source.old) (S.failures source.new))) }
 {
@@ -85,8 +88,8 @@ pub(crate) fn value_in<S: ChunkSource>(
     root: &Ref,
     key: &[u8],
 ) -> Result<Option<Vec<u8>>, RootFault>
-    ensures found { IfOk result (λ value. IsFoundByRoot (IsWay version root.now.0 key.now)
-        (option_map (λ v. v.items) value)) }
+    ensures found { IfOk result (λ value. IsFoundByRoot (StandsInFile (S.goes_over source.old))
+        (IsWay version root.now.0 key.now) (option_map (λ v. v.items) value)) }
     ensures refuses { IfErr result
         (MayRefuse (S.goes_over source.old) version root.now.0 (Key key.now)) }
     ensures reads { TellsReads (S.failures source.old) (S.failures source.new) result }

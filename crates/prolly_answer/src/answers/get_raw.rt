@@ -3,6 +3,7 @@ ghost use Rattle.std.specs.Option.{option_copied};
 ghost use Rattle.std.specs.Prelude.{IfOk};
 ghost use Rattle.prolly_look_up.specs.Sought.Sought.{Key};
 ghost use Rattle.prolly_look_up.specs.Way.{IsWay};
+ghost use Rattle.prolly_root.specs.ChunkSource.{StandsInFile};
 ghost use Rattle.prolly_root.specs.RootFault.{TellsReads};
 ghost use Rattle.prolly_answer.specs.LookUps.{AnswersFailedRead, AnswersLookUp, ShowsFoundRaw};
 ghost use Rattle.prolly_answer.specs.LookUps.{ShowsGetRaw, ShowsRaw};
@@ -44,7 +45,8 @@ pub fn answer_get_raw_by_root<S: ChunkSource>(
     root: &Ref,
     key: &[u8],
 ) -> Result<Answer, AllocError>
-    ensures { IfOk result (IsLookUpByRoot (IsWay version root.now.0 key.now) ShowsRaw
+    ensures { IfOk result (IsLookUpByRoot (StandsInFile (S.goes_over source.old))
+        (IsWay version root.now.0 key.now) ShowsRaw
         (MayRefuse (S.goes_over source.old) version root.now.0 (Key key.now))
         (TellsReads (S.failures source.old) (S.failures source.new))) }
 {

@@ -5,6 +5,7 @@ ghost use Rattle.prolly_look_up.specs.FoundPairs.{pair_found};
 ghost use Rattle.prolly_look_up.specs.Sought.Sought.{Number};
 ghost use Rattle.prolly_look_up.specs.Way.{IsCountWay};
 ghost use Rattle.prolly_entry.specs.declared.version.Version.TheVariants.{One, Two};
+ghost use Rattle.prolly_root.specs.ChunkSource.{StandsInFile};
 ghost use Rattle.prolly_root.specs.RootFault.{TellsReads};
 ghost use Rattle.prolly_text.specs.declared.notation.Notation.TheVariants.{Hex};
 ghost use Rattle.prolly_tree.specs.LookUp.{nth};
@@ -86,7 +87,8 @@ pub fn answer_nth<S: Source>(alloc: Global, source: &mut S, n: u64) -> Result<An
 ///
 /// Of the source only the chunks on the way to the pair are read, each compared with the reference
 /// above it, and memory is taken for these and for the pair. What a pair or none says of a map with
-/// the root is said by [`ways_are_right`](prolly_look_up::laws::ways_are_right).
+/// the root is said by [`ways_are_right`](prolly_look_up::laws::ways_are_right). Each chunk of that
+/// way stands in the file that the source goes over.
 pub fn answer_nth_by_root<S: ChunkSource>(
     alloc: Global,
     source: &mut S,
@@ -95,7 +97,8 @@ pub fn answer_nth_by_root<S: ChunkSource>(
     n: u64,
     notation: Notation,
 ) -> Result<Answer, AllocError>
-    ensures shown { IfOk result (IsNthByRoot version root.now.0 n notation
+    ensures shown { IfOk result (IsNthByRoot (StandsInFile (S.goes_over source.old))
+        version root.now.0 n notation
         (MayRefuse (S.goes_over source.old) version root.now.0 (Number n))
         (TellsReads (S.failures source.old) (S.failures source.new))) }
     ensures unread { version ≡ One → source.new ≡ source.old }
@@ -117,7 +120,8 @@ fn pair_in<S: ChunkSource>(
     root: &Ref,
     n: u64,
 ) -> Result<Option<Pair>, RootFault>
-    ensures found { IfOk result (IsFoundByRoot (IsCountWay root.now.0 n)) }
+    ensures found { IfOk result (IsFoundByRoot (StandsInFile (S.goes_over source.old))
+        (IsCountWay root.now.0 n)) }
     ensures refuses { IfErr result
         (MayRefuse (S.goes_over source.old) Two root.now.0 (Number n)) }
     ensures reads { TellsReads (S.failures source.old) (S.failures source.new) result }

@@ -1,11 +1,12 @@
 //! The command `dump` of a file of which only the root is believed.
 ghost use Rattle.std.specs.Prelude.{◌≡◌, true, Err, IfErr, IfOk, OnErr, OnOk};
 ghost use Rattle.prolly_look_up.specs.Sought.Sought.{Key};
+ghost use Rattle.prolly_root.specs.ChunkSource.{StandsInFile};
 ghost use Rattle.prolly_text.specs.RecordForms.{written_records};
 ghost use Rattle.prolly_tree.specs.Difference.{puts};
 ghost use Rattle.prolly_answer.specs.Outputs.{TookBytes, TookUntil};
 ghost use Rattle.prolly_answer.specs.RootDumps.{IsDumpedByRoot};
-ghost use Rattle.prolly_answer.specs.RootFaults.{MayRefuse, TellsFirstOf};
+ghost use Rattle.prolly_answer.specs.RootFaults.{MayRefuse, StandsInFileOf, TellsFirstOf};
 ghost use Rattle.prolly_answer.specs.RootOutcomes.{AnswersOutcome, TakesAllFor, TakesFor, TellsReadsOf};
 ghost use Rattle.prolly_fault.specs.declared.root_output_fault.RootOutputFault.{RootOutputFault as StopValue};
 
@@ -28,10 +29,11 @@ use std::thread::Threads;
 /// line; the sink then has what was found before.
 ///
 /// It goes on leaf by leaf, as a scan by the root does, and what is written of the map with the root
-/// is said by [`dumps_by_root_are_right`](crate::laws::dumps_by_root_are_right). It takes memory for
-/// one look-up and for what the source reads ahead, and for lines those of one leaf; a record file
-/// is written from where the pairs lie. The sink is called once for each leaf, or more often where it
-/// takes only a part, and flushed at the end.
+/// is said by [`dumps_by_root_are_right`](crate::laws::dumps_by_root_are_right). Each chunk of its
+/// ways stands in the file that the source goes over. It takes memory for one look-up and for what
+/// the source reads ahead, and for lines those of one leaf; a record file is written from where the
+/// pairs lie. The sink is called once for each leaf, or more often where it takes only a part, and
+/// flushed at the end.
 pub fn answer_dump_by_root<R: Threads + Sync, S: ReadAhead, W: Sink>(
     hasher: &ManyThreads<'_, R>,
     alloc: Global,
@@ -42,11 +44,13 @@ pub fn answer_dump_by_root<R: Threads + Sync, S: ReadAhead, W: Sink>(
     sink: &mut W,
 ) -> Result<Answer, AllocError>
     ensures ok { IfOk result (AnswersOutcome (λ outcome. IsDumpedByRoot
+        (StandsInFile (S.goes_over source.old))
         (λ key. MayRefuse (S.goes_over source.old) version root.now.0 (Key key))
         version root.now.0 form
         (TakesAllFor W.seen sink.old sink.new) outcome ×
         TellsReadsOf (S.failures source.old) (S.failures source.new) outcome)) }
     ensures err { OnErr result ((stop : StopValue) × IsDumpedByRoot
+        (StandsInFile (S.goes_over source.old))
         (λ key. MayRefuse (S.goes_over source.old) version root.now.0 (Key key))
         version root.now.0 form
         (TakesAllFor W.seen sink.old sink.new) (Err stop) ×
@@ -68,7 +72,7 @@ fn write_dump<R: Threads + Sync, S: ReadAhead, W: Sink>(
     form: RecordForm,
     sink: &mut W,
 ) -> Result<(), RootOutputFault>
-    ensures dumped { IsDumpedByRoot
+    ensures dumped { IsDumpedByRoot (StandsInFile (S.goes_over source.old))
         (λ key. MayRefuse (S.goes_over source.old) version root.now.0 (Key key))
         version root.now.0 form (TakesAllFor W.seen sink.old sink.new) result }
     ensures reads { TellsReadsOf (S.failures source.old) (S.failures source.new) result }
@@ -89,8 +93,9 @@ fn write_leaves<R: Threads + Sync, S: ReadAhead, W: Sink>(
     form: RecordForm,
     sink: &mut W,
 ) -> Result<(), RootOutputFault>
-    ensures dumped { IsDumpedByRoot (λ key. TellsFirstOf S.stands (S.goes_over source.old) reader
-        (Key key)) reader.version reader.root form (TakesFor W.seen sink.old sink.new) result }
+    ensures dumped { IsDumpedByRoot (StandsInFileOf S.stands (S.goes_over source.old) reader)
+        (λ key. TellsFirstOf S.stands (S.goes_over source.old) reader (Key key))
+        reader.version reader.root form (TakesFor W.seen sink.old sink.new) result }
     ensures keeping { (W.seen sink.old).is_keeping ≡ true → (W.seen sink.new).is_keeping ≡ true }
     ensures reads { TellsReadsOf (S.failures source.old) (S.failures source.new) result }
 {

@@ -1,7 +1,8 @@
 //! The command `get` of many keys, of a file of which only the root is believed.
 ghost use Rattle.std.specs.Prelude.{◌≡◌, true, map, Err, IfOk, OnErr};
+ghost use Rattle.prolly_root.specs.ChunkSource.{StandsInFile};
 ghost use Rattle.prolly_answer.specs.KeyLookUps.{AreFoundByRoot};
-ghost use Rattle.prolly_answer.specs.RootFaults.{MayRefuseFirst, TellsFirstKeyOf};
+ghost use Rattle.prolly_answer.specs.RootFaults.{MayRefuseFirst, StandsInFileOf, TellsFirstKeyOf};
 ghost use Rattle.prolly_answer.specs.RootOutcomes.{AnswersOutcome, TakesAllFor, TakesFor, TellsReadsOf};
 ghost use Rattle.prolly_fault.specs.declared.root_output_fault.RootOutputFault.{RootOutputFault as StopValue};
 
@@ -22,9 +23,10 @@ use std::alloc::{AllocError, Global};
 ///
 /// The keys are looked up one after another, by one [`Reader`]. So where they rise, the frames of a
 /// file are gone over once, and each chunk is read once. What is written of the map with the root is
-/// said by [`keys_by_root_are_right`](crate::laws::keys_by_root_are_right). It takes memory for one
-/// look-up and one line. The sink is called once for each key, or more often where it takes only a
-/// part, and flushed at the end.
+/// said by [`keys_by_root_are_right`](crate::laws::keys_by_root_are_right). Each chunk of its ways
+/// stands in the file that the source goes over. It takes memory for one look-up and one line. The
+/// sink is called once for each key, or more often where it takes only a part, and flushed at the
+/// end.
 pub fn answer_get_keys_by_root<S: ChunkSource, W: Sink>(
     alloc: Global,
     source: &mut S,
@@ -35,11 +37,13 @@ pub fn answer_get_keys_by_root<S: ChunkSource, W: Sink>(
     sink: &mut W,
 ) -> Result<Answer, AllocError>
     ensures ok { IfOk result (AnswersOutcome (λ outcome. AreFoundByRoot
+        (StandsInFile (S.goes_over source.old))
         (MayRefuseFirst (S.goes_over source.old) version root.now.0) version
         root.now.0 notation
         (map (λ k. k.items) keys.now) (TakesAllFor W.seen sink.old sink.new) outcome ×
         TellsReadsOf (S.failures source.old) (S.failures source.new) outcome)) }
     ensures err { OnErr result ((stop : StopValue) × AreFoundByRoot
+        (StandsInFile (S.goes_over source.old))
         (MayRefuseFirst (S.goes_over source.old) version root.now.0) version
         root.now.0 notation
         (map (λ k. k.items) keys.now) (TakesAllFor W.seen sink.old sink.new) (Err stop) ×
@@ -61,7 +65,7 @@ fn write_keys<S: ChunkSource, W: Sink>(
     notation: Notation,
     sink: &mut W,
 ) -> Result<(), RootOutputFault>
-    ensures found { AreFoundByRoot
+    ensures found { AreFoundByRoot (StandsInFile (S.goes_over source.old))
         (MayRefuseFirst (S.goes_over source.old) version root.now.0) version
         root.now.0 notation (map (λ k. k.items) keys.now) (TakesAllFor W.seen sink.old sink.new)
         result }
@@ -83,7 +87,8 @@ fn write_each<S: ChunkSource, W: Sink>(
     notation: Notation,
     sink: &mut W,
 ) -> Result<(), RootOutputFault>
-    ensures found { AreFoundByRoot (TellsFirstKeyOf S.stands (S.goes_over source.old) reader)
+    ensures found { AreFoundByRoot (StandsInFileOf S.stands (S.goes_over source.old) reader)
+        (TellsFirstKeyOf S.stands (S.goes_over source.old) reader)
         reader.version reader.root notation (map (λ k. k.items) keys.now)
         (TakesFor W.seen sink.old sink.new) result }
     ensures keeping { (W.seen sink.old).is_keeping ≡ true → (W.seen sink.new).is_keeping ≡ true }

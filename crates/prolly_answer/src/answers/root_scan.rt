@@ -4,9 +4,10 @@ ghost use Rattle.std.specs.Prelude.{OnErr, OnOk};
 ghost use Rattle.prolly_look_up.specs.ScanWay.{next_key};
 ghost use Rattle.prolly_look_up.specs.Sought.Sought.{Key};
 ghost use Rattle.prolly_entry.specs.Byte.{IsByte};
+ghost use Rattle.prolly_root.specs.ChunkSource.{StandsInFile};
 ghost use Rattle.prolly_answer.specs.LookUps.{pair_lines};
 ghost use Rattle.prolly_answer.specs.Outputs.{TookBytes, TookUntil};
-ghost use Rattle.prolly_answer.specs.RootFaults.{MayRefuse, TellsFirstOf};
+ghost use Rattle.prolly_answer.specs.RootFaults.{MayRefuse, StandsInFileOf, TellsFirstOf};
 ghost use Rattle.prolly_answer.specs.RootOutcomes.{AnswersOutcome, TakesAllFor, TakesFor, TellsReadsOf};
 ghost use Rattle.prolly_answer.specs.RootScans.{IsScannedByRoot};
 ghost use Rattle.prolly_fault.specs.declared.root_output_fault.RootOutputFault.{RootOutputFault as StopValue};
@@ -47,9 +48,10 @@ pub struct RootScan<'a> {
 /// the frames below a chunk once and reads no chunk twice. It takes memory for one look-up, for what
 /// the source reads ahead, and for the lines of one leaf, or of as many of its pairs as are still
 /// wanted: they are made from where the pairs lie. What the pairs of such look-ups are of the map
-/// with the root is said by [`ways_are_right`](prolly_look_up::laws::ways_are_right). The sink is
-/// called once for each leaf, or more often where it takes only a part, and flushed at the end. Where
-/// the limit is 0, nothing is read.
+/// with the root is said by [`ways_are_right`](prolly_look_up::laws::ways_are_right). Each chunk of
+/// their ways stands in the file that the source goes over. The sink is called once for each leaf,
+/// or more often where it takes only a part, and flushed at the end. Where the limit is 0, nothing
+/// is read.
 pub fn answer_scan_by_root<R: Threads + Sync, S: ReadAhead, W: Sink>(
     hasher: &ManyThreads<'_, R>,
     alloc: Global,
@@ -58,11 +60,13 @@ pub fn answer_scan_by_root<R: Threads + Sync, S: ReadAhead, W: Sink>(
     sink: &mut W,
 ) -> Result<Answer, AllocError>
     ensures ok { IfOk result (AnswersOutcome (λ outcome. IsScannedByRoot
+        (StandsInFile (S.goes_over source.old))
         (λ key. MayRefuse (S.goes_over source.old) scan.now.version scan.now.root.now.0 (Key key))
         scan.now.version scan.now.root.now.0 scan.now.from.now scan.now.limit scan.now.notation
         (TakesAllFor W.seen sink.old sink.new) outcome ×
         TellsReadsOf (S.failures source.old) (S.failures source.new) outcome)) }
     ensures err { OnErr result ((stop : StopValue) × IsScannedByRoot
+        (StandsInFile (S.goes_over source.old))
         (λ key. MayRefuse (S.goes_over source.old) scan.now.version scan.now.root.now.0 (Key key))
         scan.now.version scan.now.root.now.0 scan.now.from.now scan.now.limit scan.now.notation
         (TakesAllFor W.seen sink.old sink.new) (Err stop) ×
@@ -82,7 +86,7 @@ fn write_scan<R: Threads + Sync, S: ReadAhead, W: Sink>(
     scan: &RootScan<'_>,
     sink: &mut W,
 ) -> Result<(), RootOutputFault>
-    ensures scanned { IsScannedByRoot
+    ensures scanned { IsScannedByRoot (StandsInFile (S.goes_over source.old))
         (λ key. MayRefuse (S.goes_over source.old) scan.now.version scan.now.root.now.0 (Key key))
         scan.now.version scan.now.root.now.0 scan.now.from.now scan.now.limit scan.now.notation
         (TakesAllFor W.seen sink.old sink.new) result }
@@ -108,8 +112,9 @@ fn write_leaves<R: Threads + Sync, S: ReadAhead, W: Sink>(
     sink: &mut W,
 ) -> Result<(), RootOutputFault>
     requires { 0 < scan.now.limit }
-    ensures scanned { IsScannedByRoot (λ key. TellsFirstOf S.stands (S.goes_over source.old) reader
-        (Key key)) reader.version reader.root scan.now.from.now scan.now.limit scan.now.notation
+    ensures scanned { IsScannedByRoot (StandsInFileOf S.stands (S.goes_over source.old) reader)
+        (λ key. TellsFirstOf S.stands (S.goes_over source.old) reader (Key key))
+        reader.version reader.root scan.now.from.now scan.now.limit scan.now.notation
         (TakesFor W.seen sink.old sink.new) result }
     ensures keeping { (W.seen sink.old).is_keeping ≡ true → (W.seen sink.new).is_keeping ≡ true }
     ensures reads { TellsReadsOf (S.failures source.old) (S.failures source.new) result }

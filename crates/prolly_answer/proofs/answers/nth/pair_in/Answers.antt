@@ -5,13 +5,22 @@ use Rattle.prolly_look_up.specs.Sought.Sought.{Number}
 use Rattle.prolly_root.specs.lemmas.FirstFaults.{not_opened}
 use Rattle.prolly_answer.proofs.RootFaultSteps.{none_refused, refuses_so}
 use Rattle.prolly_entry.specs.declared.version.Version.TheVariants.{Two}
+use Rattle.prolly_root.specs.ChunkSource.{StandsInFile}
 use Rattle.prolly_root.specs.Reader.{way_of}
 use Rattle.prolly_answer.proofs.FoundByRoot.{pair_found}
+use Rattle.prolly_answer.proofs.WaysStand.{way_stands_in}
 use Rattle.prolly_answer.proofs.answers.nth.pair_in.Goals as goal
 
 pub returns-clause-found : goal.returns-clause-found
-returns-clause-found g c = pair_found c.in_ok-reader.reader Two c.args.root.now.0
-    c.in_ok-reader.ensures.of (way_of c.nth.new.self) c.args.n c.nth.result c.nth.ensures.found
+returns-clause-found g c =
+    let opened = c.in_ok-reader.ensures in
+    let goes_over = g.S.ChunkSource.goes_over c.args.source.now in
+    pair_found c.in_ok-reader.reader Two c.args.root.now.0 opened.of
+    (StandsInFile goes_over) (way_of c.nth.new.self)
+    (way_stands_in g.S.ChunkSource.stands goes_over c.nth.new.self
+    (λ file goes. c.nth.ensures.looked.kept file (opened.asked.0 file goes)
+    (opened.tells file goes).1))
+    c.args.n c.nth.result c.nth.ensures.found
 
 pub returns-clause-refuses : goal.returns-clause-refuses
 returns-clause-refuses g c =

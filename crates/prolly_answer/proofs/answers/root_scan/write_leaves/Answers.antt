@@ -4,7 +4,7 @@ use Rattle.prolly_look_up.specs.ScanWay.{next_key}
 use Rattle.prolly_root.specs.Reader.{way_of}
 use Rattle.prolly_answer.specs.LookUps.{pair_lines}
 use Rattle.prolly_look_up.specs.Sought.Sought.{Key}
-use Rattle.prolly_answer.specs.RootFaults.{TellsFirstOf}
+use Rattle.prolly_answer.specs.RootFaults.{StandsInFileOf, TellsFirstOf}
 use Rattle.prolly_answer.specs.RootScans.{AreEnough, limited_lines}
 use Rattle.prolly_answer.proofs.RootFaultSteps.{told_of}
 use Rattle.prolly_answer.proofs.RootSteps.{begins, goes_on, leaf_fills, leaf_found, leaf_unwritten}
@@ -12,13 +12,16 @@ use Rattle.prolly_answer.proofs.RootSteps.{leaf_wants, none_behind, seek_ends, s
 use Rattle.prolly_answer.proofs.RootSteps.{some_behind, wants_first}
 use Rattle.prolly_answer.proofs.ScanSteps.{all_left, are_enough, are_left, are_wanted, lines_more}
 use Rattle.prolly_answer.proofs.ScanSteps.{none_yet, take_none}
+use Rattle.prolly_answer.proofs.WaysStand.{way_stands_of}
 use Rattle.prolly_answer.proofs.answers.root_scan.write_leaves.Goals as goal
 
 pub returns-in_err-next-clause-scanned : goal.returns-in_err-next-clause-scanned
 returns-in_err-next-clause-scanned g c =
     let p = err_from_is_err_and c.from_residual.result c.from_residual.ensures.1 in
-    rw (p.1, p.2) (wants_first g.W.Sink.seen c.args.reader.version c.args.reader.root
-    c.args.scan.now.from.now (AreEnough c.args.scan.now.limit)
+    rw (p.1, p.2) (wants_first g.W.Sink.seen
+    (StandsInFileOf g.S.ChunkSource.stands (g.S.ChunkSource.goes_over c.args.source.now)
+    c.args.reader) c.args.reader.version c.args.reader.root c.args.scan.now.from.now
+    (AreEnough c.args.scan.now.limit)
     (limited_lines c.args.scan.now.notation c.args.scan.now.limit)
     (λ key. TellsFirstOf g.S.ChunkSource.stands (g.S.ChunkSource.goes_over c.args.source.now)
     c.args.reader (Key key))
@@ -29,7 +32,7 @@ loop-next-init g c = record {
   version = refl;
   root = refl;
   scan = (
-    begins g.W.Sink.seen c.args.reader.version c.args.reader.root c.args.scan.now.from.now
+    begins g.W.Sink.seen _ c.args.reader.version c.args.reader.root c.args.scan.now.from.now
         (AreEnough c.args.scan.now.limit)
         (limited_lines c.args.scan.now.notation c.args.scan.now.limit) c.in_ok-next.next.items
         c.args.sink.now c.in_ok-next.ensures.items (none_yet c.args.scan.now.limit c.requires)
@@ -47,7 +50,7 @@ returns-in_err-seek_on-clause-scanned g c =
     let inv = c.loop-next.invariant in
     let p = err_from_is_err_and c.from_residual-in_err-seek_on.result
     c.from_residual-in_err-seek_on.ensures.1 in
-    rw (p.1, p.2) (seek_fails g.W.Sink.seen c.args.reader.version c.args.reader.root
+    rw (p.1, p.2) (seek_fails g.W.Sink.seen _ c.args.reader.version c.args.reader.root
     c.args.scan.now.from.now (AreEnough c.args.scan.now.limit)
     (limited_lines c.args.scan.now.notation c.args.scan.now.limit) c.loop-next.next.items
     c.args.sink.now c.loop-next.sink inv.scan.0
@@ -71,12 +74,18 @@ returns-in_default-clause-scanned g c =
     let is = leaf_found c.args.reader c.loop-next.reader next c.deref.result.now
     c.deref-in-loop-next.result.now way leaf inv.version inv.root c.deref.ensures.value
     c.deref-in-loop-next.ensures.value c.in_ok-seek_on.ensures.found c.leaf_from-leaf.ensures in
-    seek_ends g.W.Sink.seen c.args.reader.version c.args.reader.root c.args.scan.now.from.now
+    let stand = way_stands_of g.S.ChunkSource.stands
+    (g.S.ChunkSource.goes_over c.args.source.now) c.args.reader c.seek_on.new.self
+    (λ file goes opened. c.in_ok-seek_on.ensures.looked.kept file (inv.goes file goes)
+    (inv.stands file goes opened))
+    c.loop-next.reader.version c.loop-next.reader.root (Key c.deref.result.now)
+    c.in_ok-seek_on.ensures.found in
+    seek_ends g.W.Sink.seen _ c.args.reader.version c.args.reader.root c.args.scan.now.from.now
     (AreEnough limit) (limited_lines notation limit) next c.args.sink.now c.loop-next.sink
     inv.scan.0
     (λ key. TellsFirstOf g.S.ChunkSource.stands (g.S.ChunkSource.goes_over c.args.source.now)
     c.args.reader (Key key))
-    way leaf is (pair_lines notation (take left leaf))
+    way leaf is stand (pair_lines notation (take left leaf))
     (lines_more notation limit left inv.scan.0.lists leaf inv.scan.1 inv.scan.2)
     (inr (none_behind inv.scan.0.lists leaf c.in_default.ensures.key))
     (ap (λ ps. pair_lines notation (take left ps)) c.in_default.ensures.key ∙
@@ -94,14 +103,21 @@ returns-in_err-left-clause-scanned g c =
     let is = leaf_found c.args.reader c.loop-next.reader next c.deref.result.now
     c.deref-in-loop-next.result.now way leaf inv.version inv.root c.deref.ensures.value
     c.deref-in-loop-next.ensures.value c.in_ok-seek_on.ensures.found c.leaf_from-leaf.ensures in
+    let stand = way_stands_of g.S.ChunkSource.stands
+    (g.S.ChunkSource.goes_over c.args.source.now) c.args.reader c.seek_on.new.self
+    (λ file goes opened. c.in_ok-seek_on.ensures.looked.kept file (inv.goes file goes)
+    (inv.stands file goes opened))
+    c.loop-next.reader.version c.loop-next.reader.root (Key c.deref.result.now)
+    c.in_ok-seek_on.ensures.found in
     let p = err_from_is_err_and c.from_residual-in_err-left.result
     c.from_residual-in_err-left.ensures.1 in
-    rw (p.1, p.2) (leaf_unwritten g.W.Sink.seen c.args.reader.version c.args.reader.root c.args.scan.now.from.now
+    rw (p.1, p.2) (leaf_unwritten g.W.Sink.seen _ c.args.reader.version c.args.reader.root
+    c.args.scan.now.from.now
     (AreEnough limit) (limited_lines notation limit) next c.args.sink.now c.loop-next.sink
     inv.scan.0
     (λ key. TellsFirstOf g.S.ChunkSource.stands (g.S.ChunkSource.goes_over c.args.source.now)
     c.args.reader (Key key))
-    way leaf is (pair_lines notation (take left leaf))
+    way leaf is stand (pair_lines notation (take left leaf))
     (lines_more notation limit left inv.scan.0.lists leaf inv.scan.1 inv.scan.2)
     c.write_leaf.new.sink c.in_err-left.field-0.0 c.in_err-left.ensures.err)
 
@@ -117,12 +133,18 @@ returns-then-left-eq0-clause-scanned g c =
     let is = leaf_found c.args.reader c.loop-next.reader next c.deref.result.now
     c.deref-in-loop-next.result.now way leaf inv.version inv.root c.deref.ensures.value
     c.deref-in-loop-next.ensures.value c.in_ok-seek_on.ensures.found c.leaf_from-leaf.ensures in
-    leaf_fills g.W.Sink.seen c.args.reader.version c.args.reader.root c.args.scan.now.from.now
+    let stand = way_stands_of g.S.ChunkSource.stands
+    (g.S.ChunkSource.goes_over c.args.source.now) c.args.reader c.seek_on.new.self
+    (λ file goes opened. c.in_ok-seek_on.ensures.looked.kept file (inv.goes file goes)
+    (inv.stands file goes opened))
+    c.loop-next.reader.version c.loop-next.reader.root (Key c.deref.result.now)
+    c.in_ok-seek_on.ensures.found in
+    leaf_fills g.W.Sink.seen _ c.args.reader.version c.args.reader.root c.args.scan.now.from.now
     (AreEnough limit) (limited_lines notation limit) next c.args.sink.now c.loop-next.sink
     inv.scan.0
     (λ key. TellsFirstOf g.S.ChunkSource.stands (g.S.ChunkSource.goes_over c.args.source.now)
     c.args.reader (Key key))
-    way leaf is (pair_lines notation (take left leaf))
+    way leaf is stand (pair_lines notation (take left leaf))
     (lines_more notation limit left inv.scan.0.lists leaf inv.scan.1 inv.scan.2)
     c.write_leaf.new.sink c.in_ok-left.ensures.ok c.write_leaf.ensures.keeping
     (are_enough limit left inv.scan.0.lists leaf inv.scan.1
@@ -140,14 +162,21 @@ returns-in_err-next-2-clause-scanned g c =
     let is = leaf_found c.args.reader c.loop-next.reader next c.deref.result.now
     c.deref-in-loop-next.result.now way leaf inv.version inv.root c.deref.ensures.value
     c.deref-in-loop-next.ensures.value c.in_ok-seek_on.ensures.found c.leaf_from-leaf.ensures in
+    let stand = way_stands_of g.S.ChunkSource.stands
+    (g.S.ChunkSource.goes_over c.args.source.now) c.args.reader c.seek_on.new.self
+    (λ file goes opened. c.in_ok-seek_on.ensures.looked.kept file (inv.goes file goes)
+    (inv.stands file goes opened))
+    c.loop-next.reader.version c.loop-next.reader.root (Key c.deref.result.now)
+    c.in_ok-seek_on.ensures.found in
     let p = err_from_is_err_and c.from_residual-in_err-next-2.result
     c.from_residual-in_err-next-2.ensures.1 in
-    rw (p.1, p.2) (leaf_wants g.W.Sink.seen c.args.reader.version c.args.reader.root c.args.scan.now.from.now
+    rw (p.1, p.2) (leaf_wants g.W.Sink.seen _ c.args.reader.version c.args.reader.root
+    c.args.scan.now.from.now
     (AreEnough limit) (limited_lines notation limit) next c.args.sink.now c.loop-next.sink
     inv.scan.0
     (λ key. TellsFirstOf g.S.ChunkSource.stands (g.S.ChunkSource.goes_over c.args.source.now)
     c.args.reader (Key key))
-    way leaf is (pair_lines notation (take left leaf))
+    way leaf is stand (pair_lines notation (take left leaf))
     (lines_more notation limit left inv.scan.0.lists leaf inv.scan.1 inv.scan.2)
     c.write_leaf.new.sink c.in_ok-left.ensures.ok c.write_leaf.ensures.keeping)
 
@@ -171,17 +200,23 @@ loop-next-preserved g c =
     let is = leaf_found c.args.reader c.loop-next.reader next c.deref.result.now
     c.deref-in-loop-next.result.now way leaf inv.version inv.root c.deref.ensures.value
     c.deref-in-loop-next.ensures.value c.in_ok-seek_on.ensures.found c.leaf_from-leaf.ensures in
+    let stand = way_stands_of g.S.ChunkSource.stands
+    (g.S.ChunkSource.goes_over c.args.source.now) c.args.reader c.seek_on.new.self
+    (λ file goes opened. c.in_ok-seek_on.ensures.looked.kept file (inv.goes file goes)
+    (inv.stands file goes opened))
+    c.loop-next.reader.version c.loop-next.reader.root (Key c.deref.result.now)
+    c.in_ok-seek_on.ensures.found in
     let lists = inv.scan.0.lists in
     record {
       version = c.in_ok-seek_on.ensures.looked.of.0 ∙ inv.version;
       root = c.in_ok-seek_on.ensures.looked.of.1 ∙ inv.root;
       scan = (
-        goes_on g.W.Sink.seen c.args.reader.version c.args.reader.root c.args.scan.now.from.now
+        goes_on g.W.Sink.seen _ c.args.reader.version c.args.reader.root c.args.scan.now.from.now
             (AreEnough limit) (limited_lines notation limit) next c.args.sink.now c.loop-next.sink
             inv.scan.0
             (λ key. TellsFirstOf g.S.ChunkSource.stands
             (g.S.ChunkSource.goes_over c.args.source.now) c.args.reader (Key key))
-            way leaf is (pair_lines notation (take left leaf))
+            way leaf is stand (pair_lines notation (take left leaf))
             (lines_more notation limit left inv.scan.0.lists leaf inv.scan.1 inv.scan.2)
             c.write_leaf.new.sink c.in_ok-left.ensures.ok c.write_leaf.ensures.keeping
             c.in_ok-next-2.next.items
