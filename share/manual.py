@@ -6,18 +6,8 @@ import textwrap
 from datetime import datetime, timezone
 from itertools import groupby
 
-STATUSES = {
-    0: "The command is done.",
-    1: "A look-up found nothing, `diff` found a change, or `explain` a flaw.",
-    2: "The words are not understood.",
-    3: "A record file, a line or a list of keys is at fault, or there are too many files. Of `apply` also: OLD has other --bits or another "
-    "--format than were given, or the header of OLD has other bits than the tree of ROOT.",
-    4: "A chunk file or a proof is refused.",
-    5: "A file cannot be opened, read, written, replaced or written over, or an input that is no chunk file is too long.",
-    6: "Memory or a thread was refused, or a thread was lost.",
-    7: "The tree has more levels than it may have.",
-}
-"""What each exit status says."""
+STATUS = "The exit status is\n"
+"""What the paragraph of the help begins with that lists the exit statuses."""
 
 BESIDE = """Stands beside OUT while a command writes what is to take its place, or `pack --sort` lines that do not fit into memory.
 Where such a file is there already, it has the next number that is free. It is left behind only by a run that was killed."""
@@ -40,14 +30,14 @@ def manual(version, top, commands):
     lines = [f'.TH PROLLY 1 {day()} "{version.split(",")[0]}" "User Commands"']
     lines += [".SH NAME", f"prolly \\- {escaped(top.about[0]).rstrip('.').lower()}"]
     lines += [".SH SYNOPSIS", *(line for help_ in commands.values() for line in synopsis(help_.usages))]
-    lines += [".SH DESCRIPTION", *paragraphs(top.about, names_of(top))]
+    lines += [".SH DESCRIPTION", *paragraphs([text for text in top.about if not text.startswith(STATUS)], names_of(top))]
     lines += [".SH OPTIONS", *tagged(top.options, top)]
     lines += [".SH COMMANDS", *tagged(top.terms["Commands:"], top)]
     for name, help_ in commands.items():
         lines += [f".SS prolly {name}", *synopsis(help_.usages), *paragraphs(help_.about, names_of(help_))]
         lines += [*tagged(help_.arguments, help_), *tagged(help_.options, help_), *examples(help_.rest, help_)]
-    lines += [".SH EXIT STATUS"]
-    lines += [line for number, text in STATUSES.items() for line in entry(bold(str(number)), running(text, set()))]
+    statuses = [text.removeprefix(STATUS) for text in top.about if text.startswith(STATUS)]
+    lines += [".SH EXIT STATUS", *paragraphs(statuses, names_of(top))]
     lines += [".SH FILES", *entry(italic("OUT") + bold(".0.tmp"), running(BESIDE, {"OUT"}))]
     lines += [".SH EXAMPLES", *examples(top.rest, top)]
     lines += [".SH SEE ALSO", ".BR sort (1),", ".BR cmp (1)", ".PP", *filled(running(SEE_ALSO, set()))]

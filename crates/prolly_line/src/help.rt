@@ -44,7 +44,19 @@ something to write, and after a later fault the output holds a first part.
 Only a run that is killed may leave a file beside the output.
 
 With --sync the answer is printed once the file and its name are on the disk;
-without it, once the system has taken them, which a loss of power may undo.",
+without it, once the system has taken them, which a loss of power may undo.
+
+The exit status is
+  0  where the command is done
+  1  where a look-up found nothing, `diff` found a change, or `explain` a flaw
+  2  where the words are not understood
+  3  where a record file, a line or a list of keys is at fault, there are too
+     many files, or the bits or the format of an `apply` are wrong
+  4  where a chunk file or a proof is refused
+  5  where a file cannot be opened, read, written or replaced, or an input that
+     is no chunk file is too long
+  6  where memory or a thread was refused, or a thread was lost
+  7  where the tree has too many levels",
     example: "Example, from two lines of text to a look-up:
   printf 'apple\\t3\\npear\\t5\\n' | prolly pack --text fruit.rec
   prolly build fruit.prl fruit.rec
