@@ -50,12 +50,12 @@ pub fn frame_start(len: u64) -> [u8; FRAME_START]
     start
 }
 
-/// What these bytes tell, of which there are [`FRAME_FRONT`] where the file has them. The length of
-/// a chunk may be any number.
+/// What the bytes tell that stand where a frame is due. The first [`FRAME_FRONT`] of them tell all.
+/// The length of a chunk may be any number.
 pub fn read_start(bytes: &[u8]) -> Result<FrameStart, FrameFault>
     ensures end { (more : List ℕ) → bytes.now ≡ END_LETTER ∷ more → result ≡ Ok FrameStart.End }
-    ensures chunk { (len level : ℕ) → len < 2 ^ 64 → bytes.now ≡ frame_start len ++ level ∷ [] →
-        result ≡ Ok (FrameStart.Chunk len level) }
+    ensures chunk { (len level : ℕ) (more : List ℕ) → len < 2 ^ 64 →
+        bytes.now ≡ frame_start len ++ level ∷ more → result ≡ Ok (FrameStart.Chunk len level) }
     ensures empty { bytes.now ≡ [] → result ≡ Err FrameFault.Truncated }
     ensures cut { (more : List ℕ) → bytes.now ≡ FRAME_LETTER ∷ more → length more < FRAME_START →
         result ≡ Err FrameFault.Truncated }
@@ -65,8 +65,8 @@ pub fn read_start(bytes: &[u8]) -> Result<FrameStart, FrameFault>
 {
     match bytes {
         [END_LETTER, ..] => Ok(FrameStart::End),
-        [FRAME_LETTER, len @ .., level] if len.len() == 8 => {
-            Ok(FrameStart::Chunk(BigEndian::read_u64(len), *level))
+        [FRAME_LETTER, front @ ..] if front.len() >= FRAME_START => {
+            Ok(FrameStart::Chunk(BigEndian::read_u64(front), front[8]))
         }
         [] | [FRAME_LETTER, ..] => Err(FrameFault::Truncated),
         _ => Err(FrameFault::BadLetter),

@@ -164,15 +164,8 @@ impl FileWriter {
 
 /// Writes all of these bytes, and flushes the sink.
 pub fn write_whole<W: Sink>(sink: &mut W, bytes: &[u8]) -> Result<(), WriteFault>
-    ensures written { (W.seen sink.old).is_keeping ≡ true →
-        OnOk result ((W.seen sink.new).taken ≡ (W.seen sink.old).taken ++ bytes.now) }
+    ensures writes { Writes bytes.now (W.seen sink.old) (W.seen sink.new) result }
     ensures settled { OnOk result (IsSettled (W.seen sink.new)) }
-    ensures part { (W.seen sink.old).is_keeping ≡ true →
-        OnErr result (TakesPrefix ((W.seen sink.old).taken) ((W.seen sink.new).taken) bytes.now) }
-    ensures fault { IsErr result ↔ ((W.seen sink.new).failures ≢ (W.seen sink.old).failures) }
-    ensures failures { CountsFailure ((W.seen sink.old).failures)
-        ((W.seen sink.new).failures) result }
-    ensures keeping { (W.seen sink.old).is_keeping ≡ true → (W.seen sink.new).is_keeping ≡ true }
 {
     write_all(sink, bytes)?;
     sink.flush()?;

@@ -200,8 +200,8 @@ impl Walk {
 /// What these bytes tell, in the place of the chunk of this number.
 fn start_in(bytes: &[u8], number: u64) -> Result<FrameStart, RootFault>
     ensures end { (more : List ℕ) → bytes.now ≡ END_LETTER ∷ more → result ≡ Ok FrameStart.End }
-    ensures chunk { (len level : ℕ) → len < 2 ^ 64 → bytes.now ≡ frame_start len ++ level ∷ [] →
-        result ≡ Ok (FrameStart.Chunk len level) }
+    ensures chunk { (len level : ℕ) (more : List ℕ) → len < 2 ^ 64 →
+        bytes.now ≡ frame_start len ++ level ∷ more → result ≡ Ok (FrameStart.Chunk len level) }
     ensures empty { bytes.now ≡ [] → result ≡ Err RootFault.Truncated }
     ensures cut { (more : List ℕ) → bytes.now ≡ FRAME_LETTER ∷ more → length more < FRAME_START →
         result ≡ Err RootFault.Truncated }
