@@ -2,7 +2,7 @@
 use Rattle.std.specs.Prelude.{ℕ, List, Option, is_some}
 use Rattle.prolly_io.specs.Known.{known_bytes}
 use Rattle.prolly_io.specs.Sink.{SinkView}
-use Rattle.prolly_io.specs.declared.device.sink.ToWrite.{ToWrite}
+use Rattle.prolly_io.specs.declared.device.to_write.ToWrite.{ToWrite}
 
 -- A writer as a sink, where `contents` says what it tells of its bytes: it keeps them where it
 -- tells them, and the sink holds none back.

@@ -1,6 +1,7 @@
 //! The devices that bytes come from and go to.
 mod block_device;
 mod buffered;
+mod copy;
 mod from_file;
 mod from_read;
 mod in_memory;
@@ -9,9 +10,11 @@ mod placed_read;
 mod read_at;
 mod read_buffer;
 mod rejoined;
+mod retry;
 mod script;
 mod sink;
 mod source;
+mod to_write;
 mod whole;
 
 pub use block_device::Blocks;
@@ -25,6 +28,7 @@ pub use read_at::Device;
 pub use read_buffer::ReadBuffer;
 pub use rejoined::Rejoined;
 pub use script::{ScriptDevice, ScriptSink, ScriptSource};
-pub use sink::{Sink, SinkFault, ToWrite};
+pub use sink::{Sink, SinkFault};
 pub use source::{Source, SourceFault, take_front};
+pub use to_write::ToWrite;
 pub use whole::{WholeFault, read_whole};

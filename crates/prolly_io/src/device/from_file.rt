@@ -1,12 +1,11 @@
 //! A file as a device.
 ghost use Rattle.std.specs.Prelude.{◌≡◌, ◌≤◌, length, IfOk, IfSome};
-ghost use Rattle.std.specs.Io.{ReadsAtMost};
-ghost use Rattle.prolly_io.specs.Device.{GivesFrom, GivesSome};
+ghost use Rattle.prolly_io.specs.Device.{GivesFrom};
 ghost use Rattle.prolly_io.specs.Failures.{CountsFailure};
 
-use crate::device::from_read::MOST_TRIES;
 use crate::device::placed_read::PlacedRead;
 use crate::device::read_at::Device;
+use crate::device::retry::read_again_at;
 use crate::device::source::SourceFault;
 use std::io;
 use std::io::ErrorKind;
@@ -84,18 +83,4 @@ fn fill_from<F: PlacedRead>(file: &F, offset: u64, buf: &mut [u8]) -> io::Result
         filled += count;
     }
     Ok(filled)
-}
-
-/// Reads into the buffer from this offset on, as often as the read is interrupted.
-fn read_again_at<F: PlacedRead>(file: &F, offset: u64, buf: &mut [u8]) -> io::Result<usize>
-    ensures bound { ReadsAtMost result buf.new }
-    ensures bytes { IfSome (F.known file.now) (λ bytes. GivesSome bytes offset result buf.new) }
-{
-    for _ in 1..MOST_TRIES {
-        match file.read_some_at(buf, offset) {
-            Err(error) if error.kind() == ErrorKind::Interrupted => {}
-            result => return result,
-        }
-    }
-    file.read_some_at(buf, offset)
 }

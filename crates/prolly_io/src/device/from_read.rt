@@ -1,14 +1,12 @@
 //! A source over a reader of the standard library.
 ghost use Rattle.std.specs.Prelude.{◌≡◌, ◌≤◌, ◌<◌, ◌↔◌, true, false, length, IsTrue, IfOk, OnErr};
-ghost use Rattle.std.specs.Io.{ReadsAtMost, WritesAtMost};
-ghost use Rattle.std.specs.Io.KnownBytes.{ReadConsumes, WriteAppends};
 ghost use Rattle.prolly_io.specs.Failures.{CountsFailure};
 ghost use Rattle.prolly_io.specs.Known.{known_bytes, are_known_bytes};
 ghost use Rattle.prolly_io.specs.Source.{HandsOut};
 
+use crate::device::retry::read_again;
 use crate::device::source::{Source, SourceFault};
-use std::io;
-use std::io::{ErrorKind, Read, Write};
+use std::io::Read;
 
 /// A reader of std as a source. It is honest where the reader tells its bytes, and what it tells
 /// are bytes: of that std promises nothing.
@@ -82,35 +80,4 @@ impl<R: Read> Source for FromRead<R> {
             }
         }
     }
-}
-
-/// How often a call is made. No one interrupts as many in a row.
-pub(crate) const MOST_TRIES: u32 = 1_000_000;
-
-/// Reads into the buffer, as often as the read is interrupted.
-pub(crate) fn read_again<R: Read>(reader: &mut R, buf: &mut [u8]) -> io::Result<usize>
-    ensures bound { ReadsAtMost result buf.new }
-    ensures bytes { ReadConsumes (R.remaining reader.old) (R.remaining reader.new) result buf.new }
-{
-    for _ in 1..MOST_TRIES {
-        match reader.read(buf) {
-            Err(error) if error.kind() == ErrorKind::Interrupted => {}
-            result => return result,
-        }
-    }
-    reader.read(buf)
-}
-
-/// Writes from the buffer, as often as the write is interrupted.
-pub(crate) fn write_again<W: Write>(writer: &mut W, buf: &[u8]) -> io::Result<usize>
-    ensures bound { WritesAtMost result buf.now }
-    ensures bytes { WriteAppends (W.contents writer.old) (W.contents writer.new) result buf.now }
-{
-    for _ in 1..MOST_TRIES {
-        match writer.write(buf) {
-            Err(error) if error.kind() == ErrorKind::Interrupted => {}
-            result => return result,
-        }
-    }
-    writer.write(buf)
 }

@@ -1,8 +1,8 @@
 //! Bytes in memory as a device.
-ghost use Rattle.std.specs.Prelude.{◌≡◌, ◌≤◌, true, length, take, drop};
+ghost use Rattle.std.specs.Prelude.{◌≡◌, true};
 
+use crate::device::copy::copy_from;
 use crate::device::read_at::Device;
-use crate::device::script::copy_some;
 use crate::device::source::SourceFault;
 
 /// Bytes in memory as a device. It is honest, and no call of it fails.
@@ -35,17 +35,4 @@ impl<'a> Device for InMemory<'a> {
     fn read_at(&mut self, offset: u64, buf: &mut [u8]) -> Result<usize, SourceFault> {
         Ok(copy_from(self.bytes, offset, buf))
     }
-}
-
-/// Copies the bytes from this offset on, and answers how many: as many as there are or have room.
-pub(crate) fn copy_from(bytes: &[u8], offset: u64, buf: &mut [u8]) -> usize
-    ensures bound { result ≤ length buf.new }
-    ensures size { length buf.new ≡ length buf.old }
-    ensures bytes { take result buf.new ≡ take (length buf.new) (drop offset bytes.now) }
-{
-    let start = usize::try_from(offset)
-        .unwrap_or(usize::MAX)
-        .min(bytes.len());
-    let room = buf.len();
-    copy_some(&bytes[start..], room, buf)
 }

@@ -1,7 +1,7 @@
 //! A source of which the first bytes were taken off.
 ghost use Rattle.std.specs.Prelude.{◌≡◌, ◌++◌, ◌≤◌, true, vec_len};
 
-use crate::device::script::copy_some;
+use crate::device::copy::copy_some;
 use crate::device::source::{Source, SourceFault};
 
 /// A source of which some bytes were taken off already: they come first, and then what it has left.

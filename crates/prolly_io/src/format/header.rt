@@ -75,7 +75,7 @@ fn may_stand(offset: usize, byte: u8) -> bool
         1 => byte == b'R',
         2 => byte == b'L',
         3 => byte == b'Y',
-        4 => byte == 1 || byte == 2,
+        VERSION_PLACE => Version::of(byte).is_some(),
         _ => byte <= BITS_LIMIT,
     }
 }

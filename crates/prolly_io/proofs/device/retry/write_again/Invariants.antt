@@ -1,5 +1,5 @@
 use Rattle.std.specs.Io.KnownBytes.{Keeps}
-use Rattle.prolly_io.proofs.device.from_read.write_again.Given as goal
+use Rattle.prolly_io.proofs.device.retry.write_again.Given as goal
 
 -- a write that was interrupted wrote nothing
 abbrev pub invariant-loop : goal.invariant-loop

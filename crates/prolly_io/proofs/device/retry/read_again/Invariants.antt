@@ -1,5 +1,5 @@
 use Rattle.std.specs.Io.KnownBytes.{Keeps}
-use Rattle.prolly_io.proofs.device.from_read.read_again.Given as goal
+use Rattle.prolly_io.proofs.device.retry.read_again.Given as goal
 
 -- a read that was interrupted read nothing
 abbrev pub invariant-loop : goal.invariant-loop

@@ -3,7 +3,7 @@ use Rattle.std.proofs.Common.{◌≡◌, ◌∙◌, true, arith, length, sym, ap
 use Rattle.prolly_io.specs.Bytes.{are_bytes}
 use Rattle.prolly_io.specs.Script.{SourceScript}
 use Rattle.prolly_io.proofs.ScriptReads.{all_given, handed_out, rest_are_bytes}
-use Rattle.prolly_io.proofs.device.script.ScriptSourceSource.read.Goals as goal
+use Rattle.prolly_io.proofs.device.script.source.ScriptSourceSource.read.Goals as goal
 
 pub returns-clause-bytes : goal.returns-clause-bytes
 returns-clause-bytes c =
