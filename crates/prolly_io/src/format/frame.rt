@@ -81,22 +81,12 @@ pub fn frame_at(bytes: &[u8]) -> Option<usize>
     if bytes.len() < FRAME_START || bytes[0] != FRAME_LETTER {
         return None;
     }
-    let len = length_field(bytes);
+    let len = BigEndian::read_u64(&bytes[1..FRAME_START]);
     // The length is compared, and never added to: it may be any number.
     if len > (bytes.len() - FRAME_START) as u64 {
         return None;
     }
     Some(len as usize)
-}
-
-/// The number behind the first byte.
-fn length_field(bytes: &[u8]) -> u64
-    requires { FRAME_START ≤ length bytes.now }
-    ensures { result ≡ from_be_bytes w64 (take 8 (drop 1 bytes.now)) }
-{
-    let mut len = [0; 8];
-    len.copy_from_slice(&bytes[1..FRAME_START]);
-    u64::from_be_bytes(len)
 }
 
 /// The chunk whose whole frame begins the bytes, and what stands behind the frame; none where no
@@ -117,16 +107,19 @@ pub fn front_frame(bytes: &[u8]) -> Option<(&[u8], &[u8])>
 /// What an end record begins with.
 pub const END_LETTER: u8 = b'E';
 
+/// Where the number of chunks begins in an end record, behind the letter and the reference.
+const COUNT_START: usize = 21;
+
 /// The size of an end record, in bytes: the letter, the reference, and the number of chunks.
-pub const END_SIZE: usize = 29;
+pub const END_SIZE: usize = COUNT_START + 8;
 
 /// What a file with this root and so many chunks ends with.
 pub fn end_record(root: &Ref, chunks: u64) -> [u8; END_SIZE]
     ensures { result ≡ end_record root.now.0 chunks }
 {
     let mut record = [END_LETTER; END_SIZE];
-    BigEndian::write_u64(&mut record[21..], chunks);
-    record[1..21].copy_from_slice(&root.0);
+    BigEndian::write_u64(&mut record[COUNT_START..], chunks);
+    record[1..COUNT_START].copy_from_slice(&root.0);
     record
 }
 
@@ -140,6 +133,6 @@ pub fn read_end(bytes: &[u8]) -> Option<Ref>
         return None;
     }
     let mut root = [0; 20];
-    root.copy_from_slice(&bytes[1..21]);
+    root.copy_from_slice(&bytes[1..COUNT_START]);
     Some(Ref(root))
 }
