@@ -1,7 +1,7 @@
 //! The checker of bytes that are in memory, of which nothing is kept.
 ghost use Rattle.std.specs.Prelude.{◌≡◌, Err, IfErr, IfOk, OnOk};
-ghost use Rattle.prolly_check.specs.Chunks.{IsFile};
-ghost use Rattle.prolly_look_up.specs.Content.{Content, IsFileOf};
+ghost use Rattle.prolly_check.specs.Chunks.{AreReferences, IsFile};
+ghost use Rattle.prolly_look_up.specs.Content.{Content, IsFileOf, chunks_of};
 ghost use Rattle.prolly_check.specs.Report.{IsReportOf};
 ghost use Rattle.prolly_check.specs.Verdict.{IsVerdict, UnlessMemory};
 
@@ -47,23 +47,24 @@ pub fn check_bytes<H: ChunkHasher>(
     ensures refused { IfErr result (UnlessMemory (λ fault. IsVerdict bytes.now (Err fault))) }
 {
     match inspect(hasher, alloc, bytes) {
-        Ok((layout, _, index)) => Ok(report_of(CheckedFile::new(
-            layout.header,
-            Chunks::new(bytes, &layout),
-            &index,
-        ))),
+        Ok((layout, references, index)) => {
+            let chunks = Chunks::new(bytes, &layout);
+            let file = CheckedFile::new(layout.header, chunks, &index);
+            Ok(report_of(file, &references))
+        }
         Err(fault) => Err(fault),
     }
 }
 
-/// What a file that was checked says. Hashes the root's chunk, and goes over all pairs.
-fn report_of(file: CheckedFile<'_>) -> FileReport
+/// What a file that was checked says, whose chunks have these references. Goes over all pairs.
+fn report_of(file: CheckedFile<'_>, references: &[Ref]) -> FileReport
+    requires { AreReferences (chunks_of file) references.now }
     ensures { IsReportOf file.entry result }
 {
     FileReport {
         version: file.version(),
         bits: file.bits(),
-        root: Ref::of(file.chunk(file.root())),
+        root: references[file.root()],
         chunks: file.len() as u64,
         pairs: count_pairs(Leaves::new(file)),
     }

@@ -86,13 +86,12 @@ impl Tree {
         &self.bytes
     }
 
-    /// The reference of the root. Hashes the root's chunk.
+    /// The reference of the root.
     pub fn root(&self) -> Ref
         ensures { (content : Content) → IsFileOf self.now content →
             result.0 ≡ root_reference (sha512_cut content.bits) content.version content.pairs }
     {
-        let file = self.file();
-        Ref::of(file.chunk(file.root()))
+        self.references()[self.file().root()]
     }
 
     /// The number of bits by which the entries were cut, from 0 to 24.
@@ -240,7 +239,7 @@ impl Tree {
             IsFileOf other.now others →
             AreSo (lacking (chunks_of others) (chunks_of content)) result }
     {
-        missing_in(&other.index, self.file().chunks(), &self.references)
+        missing_in(&other.index, self.file().chunks(), self.references())
     }
 
     /// The version of the file.
@@ -250,9 +249,18 @@ impl Tree {
         self.file().version()
     }
 
+    /// The references of the chunks, in their order.
+    fn references(&self) -> &[Ref]
+        ensures { (content : Content) → IsFileOf self.now content →
+            AreReferences (chunks_of content) result.now }
+    {
+        &self.references
+    }
+
     /// The file, as look-ups see it.
     fn file(&self) -> CheckedFile<'_>
         ensures is { (content : Content) → IsFileOf self.now content → result ≡ content }
+        ensures of { IsFileOf self.now result }
         ensures file { HasFile result }
     {
         let chunks = Chunks::new(&self.bytes, &self.layout);
