@@ -172,9 +172,9 @@ typedef struct prolly_cursors {
  * of memory. PROLLY_MEMORY: memory was refused, and `*report` stays. Else the status is the first fault
  * of the bytes, and `report->faulty` is the chunk that it names, or 0; the rest of `*report` stays.
  *
- * Cost: hashes each chunk and each pair once, and the pairs of the last leaf twice where that is not
- * whole, some 0.6 s for a million pairs. Takes memory for the places and references of the chunks, and
- * for an open node of each level, and copies none of the bytes. */
+ * Cost: hashes each chunk and each entry once, some 0.6 s for a million pairs. Takes memory for the
+ * places and references of the chunks, and for an open node of each level, and copies none of the
+ * bytes. */
 uint32_t prolly_check(const uint8_t *bytes, size_t len, prolly_report *report);
 
 /* ---- Looking up */

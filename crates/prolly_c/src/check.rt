@@ -31,9 +31,8 @@ pub struct Report {
 /// Where memory is refused, nothing is told. Else a fault is told by the status and by `faulty`, and
 /// the rest of the report stays.
 ///
-/// Takes time linear in the bytes: each chunk and each pair is hashed once, and the pairs of the last
-/// leaf twice where that is not whole. Takes memory for the places and the references of the chunks,
-/// and for an open node of each level.
+/// Takes time linear in the bytes: each chunk and each entry is hashed once. Takes memory for the
+/// places and the references of the chunks, and for an open node of each level.
 #[unsafe(no_mangle)]
 pub extern "C" fn prolly_check(alloc: Global, bytes: &[u8], report: &mut Report) -> u32
     ensures accepted { result ≡ 0 → IsFile bytes.now }

@@ -17,7 +17,8 @@ const LONGEST_FRAME: usize = FRAME_START + CHUNK_LIMIT;
 /// end, or no frame begins the bytes. Answers whether the source is at its end.
 ///
 /// Takes memory as bytes come, up to twice the size of the frame: what a frame says of its length
-/// is not believed. Once more than [`CHUNK_LIMIT`] bytes of a chunk came, memory is refused.
+/// is not believed. Once more than [`LONGEST_FRAME`] bytes came and the frame is not whole, memory
+/// is refused. Until then the bytes are doubled, so a chunk of nearly 2 GiB is still taken.
 pub(crate) fn fill<S: Source>(
     source: &mut S,
     reader: &mut PartReader,

@@ -34,8 +34,8 @@ pub struct RootReport {
 ///
 /// Takes time linear in the bytes, and hashes what [`check`](crate::check) hashes. Holds a window
 /// of 16 MiB, or twice a chunk that is larger, some 80 bytes for each chunk in it, and one open chunk
-/// of each level, whatever the file's size. For a chunk longer than
-/// [`CHUNK_LIMIT`](prolly_io::CHUNK_LIMIT) no memory is taken.
+/// of each level, whatever the file's size. A chunk of more than some 2 GiB is told as want of
+/// memory.
 pub fn check_by_root<H: ChunkHasher, S: Source>(
     hasher: &H,
     alloc: Global,
