@@ -683,6 +683,9 @@ static PyObject *own_bytes(PyObject *object) {
   return copy;
 }
 
+/* A key that nobody changes, or None. */
+static PyObject *own_key(PyObject *key) { return key == Py_None ? Py_NewRef(key) : own_bytes(key); }
+
 /* verify_range(root, start, stop, proof, version) -> Pairs */
 static PyObject *verify_range(PyObject *module, PyObject *args) {
   (void)module;
@@ -691,13 +694,15 @@ static PyObject *verify_range(PyObject *module, PyObject *args) {
   unsigned char version;
   Range range;
   if (!PyArg_ParseTuple(args, "y*OOOb", &root, &start, &stop, &given, &version)) return NULL;
-  /* The pairs are gone over as those of a tree, whose bytes are the proof. */
-  PyObject *proof = is_root(&root) ? own_bytes(given) : NULL;
+  /* The pairs are gone over as those of a tree, whose bytes are the proof. The range is read twice: when the proof is
+   * verified, and when its pairs are indexed. */
+  PyObject *first = own_key(start), *end = first != NULL ? own_key(stop) : NULL;
+  PyObject *proof = end != NULL && is_root(&root) ? own_bytes(given) : NULL;
   Tree *shown = proof != NULL ? (Tree *)TreeType.tp_alloc(&TreeType, 0) : NULL;
   if (shown != NULL && PyObject_GetBuffer(proof, &shown->view, PyBUF_SIMPLE) == 0) {
     shown->is_open = 1;
     shown->bytes = lent(&shown->view);
-    if (take_range(&range, start, stop)) {
+    if (take_range(&range, first, end)) {
       uint32_t status;
       uint64_t chunk = 0;
       Py_BEGIN_ALLOW_THREADS
@@ -709,6 +714,8 @@ static PyObject *verify_range(PyObject *module, PyObject *args) {
   }
   Py_XDECREF(shown);
   Py_XDECREF(proof);
+  Py_XDECREF(first);
+  Py_XDECREF(end);
   PyBuffer_Release(&root);
   return answer;
 }

@@ -207,6 +207,10 @@ def mutable_proofs():
     proof.append(0)
     assert list(shown) == [(b"key", b"value")]
     raised(prolly.ProllyError, prolly.verify_range, root, None, None, proof)
+    start = bytearray(b"key")
+    shown = prolly.verify_range(root, start, None, prolly.check(content).prove_range(start))
+    start[:] = b"zoo"
+    assert list(shown) == [(b"key", b"value")]
 
 
 def places():
