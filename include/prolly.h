@@ -123,6 +123,29 @@ static inline const char *prolly_error_text(uint32_t status) {
   }
 }
 
+/* Whether a status is that of a fault which names a chunk or a record. */
+static inline bool prolly_names_place(uint32_t status) {
+  switch (status) {
+    case PROLLY_BAD_FRAME:
+    case PROLLY_BAD_CHUNK:
+    case PROLLY_KEYS_OUT_OF_ORDER:
+    case PROLLY_NOT_CANONICAL:
+    case PROLLY_COLLISION:
+    case PROLLY_RECORD_CUT:
+    case PROLLY_KEY_TOO_LONG:
+    case PROLLY_VALUE_TOO_LONG:
+    case PROLLY_RECORD_OUT_OF_ORDER:
+    case PROLLY_PROOF_FRAME:
+    case PROLLY_PROOF_REFERENCE:
+    case PROLLY_PROOF_CHUNK:
+    case PROLLY_PROOF_OUT_OF_ORDER:
+    case PROLLY_PROOF_LEVEL:
+    case PROLLY_OTHER_REFERENCE:
+    case PROLLY_WRONG_LEVEL: return true;
+    default: return false;
+  }
+}
+
 /* Some bytes. */
 typedef struct prolly_slice {
   const uint8_t *ptr;

@@ -9,29 +9,6 @@ static PyObject *ProllyError;
 /* A slice in which a call answers. */
 #define NO_BYTES {(const uint8_t *)"", 0}
 
-/* Whether a fault names a chunk or a record, as prolly.h says. */
-static int names_place(uint32_t status) {
-  switch (status) {
-    case PROLLY_BAD_FRAME:
-    case PROLLY_BAD_CHUNK:
-    case PROLLY_KEYS_OUT_OF_ORDER:
-    case PROLLY_NOT_CANONICAL:
-    case PROLLY_COLLISION:
-    case PROLLY_RECORD_CUT:
-    case PROLLY_KEY_TOO_LONG:
-    case PROLLY_VALUE_TOO_LONG:
-    case PROLLY_RECORD_OUT_OF_ORDER:
-    case PROLLY_PROOF_FRAME:
-    case PROLLY_PROOF_REFERENCE:
-    case PROLLY_PROOF_CHUNK:
-    case PROLLY_PROOF_OUT_OF_ORDER:
-    case PROLLY_PROOF_LEVEL:
-    case PROLLY_OTHER_REFERENCE:
-    case PROLLY_WRONG_LEVEL: return 1;
-    default: return 0;
-  }
-}
-
 /* Raises what a status says. `place` is the chunk or the record that it names, if it names one. */
 static PyObject *refused(uint32_t status, uint64_t place) {
   if (status == PROLLY_MEMORY) return PyErr_NoMemory();
@@ -39,7 +16,7 @@ static PyObject *refused(uint32_t status, uint64_t place) {
     PyErr_SetString(PyExc_ValueError, prolly_error_text(status));
     return NULL;
   }
-  PyObject *named = names_place(status) ? PyLong_FromUnsignedLongLong(place) : Py_NewRef(Py_None);
+  PyObject *named = prolly_names_place(status) ? PyLong_FromUnsignedLongLong(place) : Py_NewRef(Py_None);
   if (named == NULL) return NULL;
   PyObject *error = PyObject_CallFunction(ProllyError, "sIN", prolly_error_text(status), (unsigned)status, named);
   if (error != NULL) {

@@ -31,6 +31,7 @@ static void refused(const uint8_t *bytes, size_t len, indexed right) {
   memcpy(copy, bytes, len);
   uint32_t status = prolly_check(copy, len, &report);
   WANT(status >= PROLLY_TRUNCATED && status <= PROLLY_COLLISION);
+  WANT(report.faulty == 0 || prolly_names_place(status));
   WANT(report.version == 7 && report.pairs == 0x0707070707070707);
   prolly_cursor start = {0, 0, 0};
   indexed other = {copy, len, right.index, right.runs};
