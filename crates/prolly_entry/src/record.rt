@@ -31,7 +31,7 @@ impl Model for Record {
 
 impl Record {
     ghost use Rattle.std.specs.Prelude.{◌≤◌, ◌<◌, ◌+◌, ◌↔◌, [], length, vec_len, None, Some, Err};
-    ghost use Rattle.std.specs.Prelude.{IfOk};
+    ghost use Rattle.std.specs.Prelude.{IfOk, IfSome, IfNone};
     ghost use Rattle.std.specs.Option.{option_copied, option_map, unwrap_or};
     ghost use Rattle.prolly_entry.specs.Record.{IsChange};
 
@@ -110,6 +110,18 @@ impl Record {
     {
         match &self.change {
             Change::Put(pair) => Some(pair.value()),
+            Change::Remove(_) => None,
+        }
+    }
+
+    /// The pair that is put; none where the key is removed.
+    pub(crate) fn pair(&self) -> Option<&Pair>
+        ensures some { IfSome result (λ pair. self.now ≡
+            record { key = pair.now.key; value = Some pair.now.value }) }
+        ensures none { IfNone result (self.now.value ≡ None) }
+    {
+        match &self.change {
+            Change::Put(pair) => Some(pair),
             Change::Remove(_) => None,
         }
     }

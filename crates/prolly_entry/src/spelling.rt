@@ -41,14 +41,13 @@ pub fn append_record(out: &mut Vec<u8>, record: &Record) -> Result<(), AllocErro
     ensures ok { OnOk result (out.new.items ≡ out.old.items ++ record_spelling «record».now) }
     ensures err { OnErr result (out.new.items ≡ out.old.items) }
 {
-    let key = record.key();
-    let key_length = two_bytes(key.len() as u16);
-    match record.value() {
-        Some(value) => {
-            let value_length = four_bytes(value.len() as u32);
-            append_parts(out, &key_length, key, &value_length, value)
+    match record.pair() {
+        Some(pair) => append_pair(out, pair),
+        None => {
+            let key = record.key();
+            let key_length = two_bytes(key.len() as u16);
+            append_parts(out, &key_length, key, &four_bytes(REMOVAL), &[])
         }
-        None => append_parts(out, &key_length, key, &four_bytes(REMOVAL), &[]),
     }
 }
 
