@@ -36,7 +36,9 @@ pub struct Child<'a> {
 /// bytes before `len` are the count.
 #[derive(Clone, Copy)]
 pub struct ChildAt {
+    /// Where the key ends and the reference begins.
     pub key_end: usize,
+    /// How many bytes the whole entry has.
     pub len: usize,
 }
 

@@ -13,18 +13,29 @@ use std::fmt::{Display, Formatter};
 /// it.
 #[derive(Clone, Copy, PartialEq, Eq, Debug)]
 pub enum RunFault {
+    /// Memory was refused.
     Memory,
+    /// A read of the file failed.
     Read { file: u32 },
+    /// The file's bytes end inside the record.
     Truncated { file: u32, place: u32 },
+    /// The key's length is over 1,024.
     KeyTooLong { file: u32, place: u32 },
+    /// The value's length is over 65,536, and marks no removal.
     ValueTooLong { file: u32, place: u32 },
+    /// The key is not greater than the key of the record before.
     OutOfOrder { file: u32, place: u32 },
+    /// As many records of the file as are allowed are good, and a further byte follows.
     TooManyRecords { file: u32 },
+    /// A write of the output failed, or its flush.
     Write,
+    /// The tree needs more levels than are allowed.
     TooTall,
+    /// A worker was not allowed to start, or no thread could be had for it.
     NoThread,
     /// An end of a link was dropped before its time.
     Lost,
+    /// There are more than 16 record files, or more than 15 beside an old tree.
     TooManyFiles,
 }
 

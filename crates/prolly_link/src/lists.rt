@@ -31,6 +31,7 @@ impl<T> Model for ListIn<T> {
 }
 
 impl<T> ListIn<T> {
+    /// An end that gives these items, the first one first, and then this end.
     pub fn new(items: Vec<T>, last: End) -> ListIn<T>
         ensures { result ≡ Unread items.items last }
     {
@@ -100,11 +101,14 @@ impl<T> Model for ListOut<T> {
 /// What was sent, and the end.
 #[derive(Drop)]
 pub struct ClosedList<T> {
+    /// The items that were sent, oldest first.
     pub items: Vec<T>,
+    /// The end that was sent behind them.
     pub last: End,
 }
 
 impl<T> ListOut<T> {
+    /// An end into which nothing was sent. Takes memory with the first item.
     pub fn new(alloc: Global) -> ListOut<T>
         ensures { result ≡ [] }
     {
