@@ -98,7 +98,8 @@ const ASLEEP: u32 = 1;
 /// The owner says that it is about to sleep (`lie_down`), looks once more for what it waits for,
 /// and sleeps. The other thread first does what the owner waits for, and then looks at the bell. So
 /// the owner finds it, or the other thread finds that the owner sleeps: each step on the word is
-/// sequentially consistent. And a sleep has a limit of time.
+/// sequentially consistent, and so is each step on the ring's positions, on which this rests. And a
+/// sleep has a limit of time.
 #[derive(Drop)]
 pub(crate) struct Bell {
     word: AtomicU64,
