@@ -100,8 +100,8 @@ impl Chunk {
         Ok(cut.is_boundary_pair(pair, &self.bytes[start..]))
     }
 
-    /// Adds the child that an event stands for, whose chunk has this reference, and says whether its
-    /// entry is a boundary. An `Err` leaves the chunk as it was.
+    /// Adds the child that an event stands for, whose chunk has this reference, and says whether
+    /// its entry is a boundary. An `Err` leaves the chunk as it was.
     pub(crate) fn add_child<C: Cut>(
         &mut self,
         cut: &C,

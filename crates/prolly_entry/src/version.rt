@@ -36,7 +36,8 @@ impl Version {
         }
     }
 
-    /// The version that this one is not: so bytes that are of it are told from those that are of none.
+    /// The other version. A reader that was asked for one looks for the other, too, to tell a wrong
+    /// version from bytes that are of none.
     pub fn other(self) -> Version
         ensures { result ≢ self }
     {

@@ -90,8 +90,8 @@ pub trait Out<T> {
     }
 
     /// Whether the receiver is far behind: of the room that this end last saw, at most half of the
-    /// link's is left, in messages or in bytes. Then the sender has time to do what the receiver would do else, before it
-    /// has to wait. It is a hint: no contract speaks of it.
+    /// link's is left, in messages or in bytes. Then the sender has time to do what the receiver
+    /// would do else, before it has to wait. It is a hint: no contract speaks of it.
     fn is_ahead(&self) -> bool {
         false
     }

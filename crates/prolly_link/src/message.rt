@@ -37,6 +37,6 @@ pub enum Progress {
     Open,
     /// It has given this end.
     Ended(End),
-    /// It has given [`Next::Lost`].
+    /// It has lost its sender, and has given [`Next::Lost`].
     Lost,
 }

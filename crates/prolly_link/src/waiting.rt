@@ -194,7 +194,8 @@ pub(crate) fn pop_waiting<M, R: Wait>(
     ring: &mut Consumer<M>,
 ) -> Option<M>
     ensures link { consumer_link ring.new ≡ consumer_link ring.old }
-    ensures none { IfNone result ((popped ring.new ≡ popped ring.old) × (known_items ring.new ≡ [])) }
+    ensures none { IfNone result ((popped ring.new ≡ popped ring.old) ×
+        (known_items ring.new ≡ [])) }
     ensures some { IfSome result (λ m. popped ring.new ≡ popped ring.old ++ m ∷ []) }
 {
     let mut rounds = 0u32;

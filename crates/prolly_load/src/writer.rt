@@ -20,8 +20,8 @@ use std::sync::Wait;
 /// handed back. So who sends stops there, as at want of memory; [`WrittenRecords::has_failed`]
 /// tells which it was.
 ///
-/// Makes one call of the sink for each record, or more where the sink takes only a part, and a flush
-/// at the end. Holds the spelling of one record, in memory that it keeps.
+/// Makes one call of the sink for each record, or more where the sink takes only a part, and a
+/// flush at the end. Holds the spelling of one record, in memory that it keeps.
 #[derive(Drop)]
 pub struct RecordWriter<W: Sink> {
     sink: W,

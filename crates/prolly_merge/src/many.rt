@@ -18,8 +18,8 @@ use prolly_link::{End, In, Out, RunFault};
 use std::alloc::Global;
 use std::sync::Wait;
 
-// Sends items until the merger stops, memory is refused, or a shared key is. Gives their number, the
-// end, and the records of that key.
+// Sends items until the merger stops, memory is refused, or a shared key is. Gives their number,
+// the end, and the records of that key.
 fn send_many<T: MergeItem, I: In<Record>, O: Out<T>, R: Wait>(
     rt: &R,
     shared: SharedKey,

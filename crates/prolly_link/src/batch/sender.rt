@@ -1,6 +1,6 @@
 //! The end of a batch link that sends.
-ghost use Rattle.std.specs.Prelude.{◌≡◌, ◌<◌, ◌≤◌, ◌+◌, [], ◌∷◌, ◌++◌, ◌⊎◌, OnOk, OnErr, IsOk, IfErr};
-ghost use Rattle.std.specs.Prelude.{vec_len, vec_capacity};
+ghost use Rattle.std.specs.Prelude.{◌≡◌, ◌<◌, ◌≤◌, ◌+◌, [], ◌∷◌, ◌++◌, ◌⊎◌};
+ghost use Rattle.std.specs.Prelude.{OnOk, OnErr, IsOk, IfErr, vec_len, vec_capacity};
 ghost use Rattle.prolly_link.specs.Batch.{items_of};
 ghost use Rattle.prolly_link.specs.BatchSender.{room_ahead, held_in};
 
