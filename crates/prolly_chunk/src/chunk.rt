@@ -133,8 +133,8 @@ impl Chunk {
     }
 
     /// Its event. A chunk without entries, of the same level, takes its place, with room for as
-    /// many bytes, since the chunks of a level are of like sizes. An `Err` leaves the chunk as it
-    /// was.
+    /// many bytes as this one had, so that most chunks grow little; a short chunk behind a long one
+    /// keeps the long one's room. An `Err` leaves the chunk as it was.
     pub(crate) fn take_event(&mut self, alloc: Global) -> Result<ChunkEvent, AllocError>
         ensures event { IfOk result (λ event. event ≡ self.old) }
         ensures begun { OnOk result (self.new ≡ empty_chunk self.old.level) }

@@ -10,7 +10,7 @@ ghost use Rattle.prolly_file.specs.Scratch.{IsScratched};
 use crate::levels::{all_chunks, first_fall};
 use prolly_chunk::ChunkEvent;
 use prolly_entry::{Cut, FaultText, Pair, Ref, Version};
-use prolly_io::{Header, end_record, frame_start};
+use prolly_io::{END_SIZE, FRAME_START, HEADER_SIZE, Header, end_record, frame_start};
 use std::alloc::{AllocError, Global};
 use std::error::Error;
 use std::fmt;
@@ -87,7 +87,8 @@ pub fn scratch<C: Cut>(
 /// Where a pair is out of order, the first one is told, before want of memory and a tree that has
 /// more than `max_levels` levels. After an `Err` the vector is as it was.
 ///
-/// Hashes each entry and each chunk once. Beside the file it holds the chunks once more.
+/// Hashes each entry and each chunk once. Beside the file it holds the chunks, in blocks that have
+/// nearly as much room again. It makes room for the whole file at once.
 pub fn scratch_as<C: Cut>(
     alloc: Global,
     cut: C,
@@ -130,6 +131,7 @@ pub(crate) fn append_file(
     ensures err { OnErr result (out.new.items ≡ out.old.items) }
 {
     let start = out.len();
+    out.try_reserve_exact(file_size(chunks))?;
     let header = Header { version, bits }.to_bytes();
     let end = end_record(root, chunks.len() as u64);
     if append_parts(out, &header, chunks, &end).is_err() {
@@ -137,6 +139,16 @@ pub(crate) fn append_file(
         return Err(AllocError);
     }
     Ok(())
+}
+
+/// How many bytes a file of these chunks has, or the greatest number where it has more.
+fn file_size(chunks: &[ChunkEvent]) -> usize {
+    let mut size = HEADER_SIZE + END_SIZE;
+    for chunk in chunks {
+        size = size.saturating_add(FRAME_START);
+        size = size.saturating_add(chunk.bytes().len());
+    }
+    size
 }
 
 /// Appends a header, frames and an end; on refusal some of them.
