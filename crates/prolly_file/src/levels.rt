@@ -143,9 +143,6 @@ fn add(events: &mut Vec<ChunkEvent>, event: Option<ChunkEvent>) -> Result<(), Al
 {
     match event {
         None => Ok(()),
-        Some(event) => match events.push(event) {
-            Ok(()) => Ok(()),
-            Err(_) => Err(AllocError),
-        },
+        Some(event) => Ok(events.push(event)?),
     }
 }
