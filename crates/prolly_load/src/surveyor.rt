@@ -1,5 +1,6 @@
 //! Surveying a record file.
-ghost use Rattle.std.specs.Prelude.{◌≡◌, ◌≢◌, true, IfErr, IfOk, IfSome, OnErr, OnOk};
+ghost use Rattle.std.specs.Prelude.{◌≡◌, ◌≢◌, ◌↔◌, true, IfOk, IfSome, IsErrOf, OnOk};
+ghost use Rattle.prolly_io.specs.declared.device.part_reader.ReadFault.TheVariants.{Read};
 ghost use Rattle.prolly_load.specs.Loaded.{ShowsNoFlaw};
 ghost use Rattle.prolly_load.specs.Survey.{IsSurvey};
 ghost use Rattle.prolly_load.specs.Tally.{HasToldKey, IsCounted, NonePassed, Tells, cut_in};
@@ -8,7 +9,7 @@ ghost use Rattle.prolly_load.specs.Skipped.{Skips};
 use crate::buffer::Buffer;
 use crate::tally::{Survey, Tally, copied, flawed_record};
 use prolly_entry::{Flaw, KEY_START, NextRecord, next_record};
-use prolly_io::{Source, SourceFault};
+use prolly_io::{ReadFault, Source};
 use std::alloc::{AllocError, Global};
 
 /// What the bytes that a source has left hold, as a record file of which at most `limit` records
@@ -16,8 +17,8 @@ use std::alloc::{AllocError, Global};
 ///
 /// It stops where the source has no more bytes, and at the first flaw. The source is not read while
 /// the bytes at hand decide a record or a flaw, so a flaw is told even where a further read would
-/// fail. Of a source that is not honest nothing is known but its failures. An `AllocError` is want
-/// of memory for the buffer or for a key.
+/// fail. Of a source that is not honest nothing is known but its failures. Memory is taken for the
+/// buffer and for keys.
 ///
 /// One pass, in time linear in the bytes. Copies three keys at most, and holds one buffer of 130
 /// KiB, however long the file is.
@@ -25,20 +26,16 @@ pub fn survey<S: Source>(
     alloc: Global,
     source: &mut S,
     limit: u32,
-) -> Result<Result<Survey, SourceFault>, AllocError>
-    ensures ok { (S.seen source.old).is_honest ≡ true → IfOk result (λ read. IfOk read
-        (λ survey. IsSurvey (S.seen source.old).left limit survey)) }
+) -> Result<Survey, ReadFault>
+    ensures ok { (S.seen source.old).is_honest ≡ true → IfOk result (λ survey.
+        IsSurvey (S.seen source.old).left limit survey) }
 
     // A failed read is told, and nothing else is told as one. Of an honest source it is told only
     // where the bytes that came before it show no flaw.
-    ensures failed { IfOk result (λ read. IfErr read (λ _.
-        (S.seen source.new).failures ≢ (S.seen source.old).failures)) }
-    ensures unfailed { IfOk result (λ read. OnOk read
-        ((S.seen source.new).failures ≡ (S.seen source.old).failures)) }
-    ensures no_flaw { (S.seen source.old).is_honest ≡ true → IfOk result (λ read. IfErr read
-        (λ _. ShowsNoFlaw limit (S.seen source.old).left (S.seen source.new).left)) }
-    ensures refused { OnErr result
-        ((S.seen source.new).failures ≡ (S.seen source.old).failures) }
+    ensures read { IsErrOf result Read ↔
+        ((S.seen source.new).failures ≢ (S.seen source.old).failures) }
+    ensures no_flaw { (S.seen source.old).is_honest ≡ true → IsErrOf result Read →
+        ShowsNoFlaw limit (S.seen source.old).left (S.seen source.new).left }
     ensures honest { (S.seen source.old).is_honest ≡ true → (S.seen source.new).is_honest ≡ true }
     ensures steady { (S.seen source.old).is_steady ≡ true → (S.seen source.new).is_steady ≡ true }
     ensures never { (S.seen source.old).is_steady ≡ true →
@@ -51,10 +48,8 @@ pub fn survey<S: Source>(
         bytes: 0,
         first_key: None,
     };
-    match skip_records(alloc, source, limit, &mut buffer, &mut tally)? {
-        Ok(flaw) => Ok(Ok(told(alloc, tally, &buffer, flaw)?)),
-        Err(fault) => Ok(Err(fault)),
-    }
+    let flaw = skip_records(alloc, source, limit, &mut buffer, &mut tally)?;
+    Ok(told(alloc, tally, &buffer, flaw)?)
 }
 
 /// Passes the good records of what a source has left, counts them, and answers the flaw of what is
@@ -65,20 +60,18 @@ fn skip_records<S: Source>(
     limit: u32,
     buffer: &mut Buffer,
     tally: &mut Tally,
-) -> Result<Result<Option<Flaw>, SourceFault>, AllocError>
+) -> Result<Option<Flaw>, ReadFault>
     requires { NonePassed tally.old buffer.old }
-    ensures ok { (S.seen source.old).is_honest ≡ true → IfOk result (λ read. IfOk read
-        (IsCounted (S.seen source.old).left limit tally.new buffer.new)) }
-    ensures keys { IfOk result (λ read. IfOk read (λ flaw. IfSome flaw (λ flaw.
-        HasToldKey flaw buffer.new.unparsed))) }
-    ensures failed { IfOk result (λ read. IfErr read (λ _.
-        (S.seen source.new).failures ≢ (S.seen source.old).failures)) }
-    ensures unfailed { IfOk result (λ read. OnOk read
-        ((S.seen source.new).failures ≡ (S.seen source.old).failures)) }
-    ensures no_flaw { (S.seen source.old).is_honest ≡ true → IfOk result (λ read. IfErr read
-        (λ _. ShowsNoFlaw limit (S.seen source.old).left (S.seen source.new).left)) }
-    ensures refused { OnErr result
+    ensures ok { (S.seen source.old).is_honest ≡ true → IfOk result
+        (IsCounted (S.seen source.old).left limit tally.new buffer.new) }
+    ensures keys { IfOk result (λ flaw. IfSome flaw (λ flaw.
+        HasToldKey flaw buffer.new.unparsed)) }
+    ensures read { IsErrOf result Read ↔
+        ((S.seen source.new).failures ≢ (S.seen source.old).failures) }
+    ensures unfailed { OnOk result
         ((S.seen source.new).failures ≡ (S.seen source.old).failures) }
+    ensures no_flaw { (S.seen source.old).is_honest ≡ true → IsErrOf result Read →
+        ShowsNoFlaw limit (S.seen source.old).left (S.seen source.new).left }
     ensures honest { (S.seen source.old).is_honest ≡ true → (S.seen source.new).is_honest ≡ true }
     ensures steady { (S.seen source.old).is_steady ≡ true → (S.seen source.new).is_steady ≡ true }
     ensures never { (S.seen source.old).is_steady ≡ true →
@@ -89,12 +82,12 @@ fn skip_records<S: Source>(
             Skipped::Record { removes, len } => {
                 tally.count(alloc, removes, len, buffer.kept())?;
             }
-            Skipped::Nothing => match buffer.fill(source) {
-                Ok(0) => return Ok(Ok(cut_in(buffer))),
-                Ok(_) => {}
-                Err(fault) => return Ok(Err(fault)),
-            },
-            Skipped::Flawed(flaw) => return Ok(Ok(Some(flaw))),
+            Skipped::Nothing => {
+                if buffer.fill(source)? == 0 {
+                    return Ok(cut_in(buffer));
+                }
+            }
+            Skipped::Flawed(flaw) => return Ok(Some(flaw)),
         }
     }
 }

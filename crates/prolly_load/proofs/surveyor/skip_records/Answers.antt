@@ -36,8 +36,8 @@ count-requires-clause-bytes g c =
     let room = has_room _ _ _ _ _ _ _ _ _ c.loop-removes.invariant.surveying c.in-Record.ensures in
     omega arith
 
-pub loop-removes-preserved-in-Continue-1 : goal.loop-removes-preserved-in-Continue-1
-loop-removes-preserved-in-Continue-1 g c =
+pub loop-removes-preserved-in_ok-count-in-Record : goal.loop-removes-preserved-in_ok-count-in-Record
+loop-removes-preserved-in_ok-count-in-Record g c =
     let l = c.loop-removes in
     let counted = c.in_ok-count-in-Record.ensures in record {
       surveying = one_passed _ _ c.in-Record.len c.in-Record.removes l.tally c.count.new.self
@@ -58,38 +58,41 @@ loop-removes-preserved-in-Continue-1 g c =
 
 pub loop-removes-preserved : goal.loop-removes-preserved
 loop-removes-preserved g c =
-    let l = c.loop-removes in record {
+    let l = c.loop-removes in
+    let fill = c.in_ok-fill-in-Nothing in record {
       surveying = more_came _ _ _ _ _ _ _ _ _ _ _ l.invariant.surveying c.in-Nothing.ensures.1
-          c.in-Ok.ensures.fills c.fill.ensures.kept l.invariant.honest;
+          fill.ensures.fills c.fill.ensures.kept l.invariant.honest;
       honest = λ o. c.fill.ensures.honest (l.invariant.honest o);
       steady = λ o. c.fill.ensures.steady (l.invariant.steady o);
-      failures = c.in-Ok.ensures.failures ∙ l.invariant.failures;
+      failures = fill.ensures.failures ∙ l.invariant.failures;
     }
 
-pub returns-in-Ok-eq0-clause-ok : goal.returns-in-Ok-eq0-clause-ok
-returns-in-Ok-eq0-clause-ok g c =
+pub returns-then-branch-eq0-clause-ok : goal.returns-then-branch-eq0-clause-ok
+returns-then-branch-eq0-clause-ok g c =
     let l = c.loop-removes in
-    let none : c.in-Ok-eq0.field-0 ≡ 0 = search rules in
-    let same = gains_none _ _ _ _ _ c.in-Ok-eq0.field-0 c.in-Ok-eq0.ensures.fills none in
+    let fill = c.in_ok-fill-in-Nothing in
+    let none : fill.field-0 ≡ 0 = search rules in
+    let same = gains_none _ _ _ _ _ fill.field-0 fill.ensures.fills none in
     λ o survey tells. end_told _ _ _ _ _ _ survey
     (more_came _ _ _ _ _ _ _ _ _ _ _ l.invariant.surveying c.in-Nothing.ensures.1
-    c.in-Ok-eq0.ensures.fills c.fill.ensures.kept l.invariant.honest)
+    fill.ensures.fills c.fill.ensures.kept l.invariant.honest)
     (still_undecided c.args.limit l.tally.records l.buffer c.skip_record.new.buffer c.fill.new.self
     (record { undecided = c.in-Nothing.ensures.0; same = c.in-Nothing.ensures.1 })
     c.fill.ensures.kept same)
-    (λ o. c.in-Ok-eq0.ensures.fills.over (l.invariant.honest o) none)
+    (λ o. fill.ensures.fills.over (l.invariant.honest o) none)
     (subst (λ flaw. Tells l.tally c.fill.new.self flaw survey) c.cut_in.ensures tells) o
 
-pub returns-in-Err-clause-no_flaw : goal.returns-in-Err-clause-no_flaw
-returns-in-Err-clause-no_flaw g c =
+pub returns-in_err-fill-in-Nothing-clause-no_flaw
+    : goal.returns-in_err-fill-in-Nothing-clause-no_flaw
+returns-in_err-fill-in-Nothing-clause-no_flaw g c =
     let l = c.loop-removes in
-    let fills = c.in-Err.ensures.fills in
-    no_flaw_shown _ _ _ _ _ _
+    let fills = c.in_err-fill-in-Nothing.ensures.fills in
+    λ o told. no_flaw_shown _ _ _ _ _ _
     (nothing_came _ _ _ _ _ _ c.fill.new.self _ _ _ l.invariant.surveying c.in-Nothing.ensures.1
     fills c.fill.ensures.kept l.invariant.honest)
     (still_undecided c.args.limit l.tally.records l.buffer c.skip_record.new.buffer c.fill.new.self
     (record { undecided = c.in-Nothing.ensures.0; same = c.in-Nothing.ensures.1 })
-    c.fill.ensures.kept fills.same)
+    c.fill.ensures.kept fills.same) o
 
 -- ---- a flaw
 
