@@ -8,13 +8,10 @@ ghost use Rattle.prolly_entry.specs.ChildAt.{tail_length, IsChildAt, NoChildAt};
 ghost use Rattle.prolly_entry.specs.Spelling.{BeginsWith, child_spelling, count_spelling};
 
 use crate::pair::KEY_LIMIT;
-use crate::reference::Ref;
-use crate::spelling::{KEY_START, append_parts, eight_bytes, number_of_two, two_bytes};
+use crate::reference::{REFERENCE_SIZE, Ref};
+use crate::spelling::{KEY_START, append_parts, eight_bytes, split_key, two_bytes};
 use crate::version::Version;
 use std::alloc::AllocError;
-
-/// The size of a child's reference.
-const REFERENCE_SIZE: usize = 20;
 
 /// The size of the count of the pairs below a child.
 const COUNT_SIZE: usize = 8;
@@ -88,20 +85,19 @@ pub fn front_child_as(version: Version, bytes: &[u8]) -> Option<ChildAt>
     ensures some { IfSome result (λ at. IsChildAt version bytes.now at) }
     ensures none { IfNone result (NoChildAt version bytes.now) }
 {
-    if bytes.len() < KEY_START {
+    let (key, tail) = split_key(bytes)?;
+    if key.len() > KEY_LIMIT {
         return None;
     }
-    // Sixteen bits give the length, so the sums below stay far from the greatest usize.
-    let key_len = usize::from(number_of_two(bytes));
-    if key_len > KEY_LIMIT {
+    let key_end = KEY_START + key.len();
+    let tail_len = tail_length(version);
+    if tail.len() < tail_len {
         return None;
     }
-    let key_end = KEY_START + key_len;
-    let len = key_end + tail_length(version);
-    if bytes.len() < len {
-        return None;
-    }
-    Some(ChildAt { key_end, len })
+    Some(ChildAt {
+        key_end,
+        len: key_end + tail_len,
+    })
 }
 
 impl<'a> Child<'a> {

@@ -4,6 +4,7 @@ ghost use Rattle.prolly_entry.specs.Cut.{Cut as CutValue, sha512_cut, key_cut, b
 ghost use Rattle.prolly_entry.specs.Spelling.{pair_spelling};
 
 use crate::pair::Pair;
+use crate::spelling::split_key;
 use byteorder::{BigEndian, ByteOrder};
 use sha2::{Digest, Sha512};
 use std::marker::Model;
@@ -107,15 +108,10 @@ impl Cut for KeyCut {
     }
 
     fn is_boundary(&self, entry: &[u8]) -> bool {
-        if entry.len() < 2 {
-            return false;
+        match split_key(entry) {
+            Some((key, _)) => !key.is_empty() && key[key.len() - 1] == b'!',
+            None => false,
         }
-        let (length, rest) = entry.split_at(2);
-        let key_length = BigEndian::read_u16(length) as usize;
-        if key_length == 0 || rest.len() < key_length {
-            return false;
-        }
-        rest[key_length - 1] == b'!'
     }
 }
 

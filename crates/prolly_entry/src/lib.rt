@@ -23,6 +23,6 @@ pub use next::{Flaw, NextRecord, RecordAt, next_record};
 pub use pair::{EntryFault, KEY_LIMIT, Pair, VALUE_LIMIT, key_order, key_rises};
 pub use record::Record;
 pub use record_file::{RecordFault, records};
-pub use reference::Ref;
-pub use spelling::{KEY_START, append_pair, append_record};
+pub use reference::{REFERENCE_SIZE, Ref};
+pub use spelling::{KEY_START, LENGTHS_SIZE, append_pair, append_record, split_key};
 pub use version::Version;

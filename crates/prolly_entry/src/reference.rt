@@ -20,9 +20,12 @@ const GROUP_BYTES: usize = 5;
 /// The characters of a group, which are as many bits.
 const GROUP_CHARACTERS: usize = 8;
 
+/// How many bytes a reference has.
+pub const REFERENCE_SIZE: usize = 20;
+
 /// The reference of a chunk.
 #[derive(Clone, Copy, PartialEq, Eq, PartialOrd, Ord, Hash, Debug)]
-pub struct Ref(pub [u8; 20]);
+pub struct Ref(pub [u8; REFERENCE_SIZE]);
 
 impl Ref {
     /// The reference of a chunk of these bytes.
@@ -31,8 +34,8 @@ impl Ref {
         ensures reference { IsReference result.0 }
     {
         let digest = Sha512::digest(bytes);
-        let mut first = [0; 20];
-        first.copy_from_slice(&digest[..20]);
+        let mut first = [0; REFERENCE_SIZE];
+        first.copy_from_slice(&digest[..REFERENCE_SIZE]);
         Ref(first)
     }
 
@@ -63,7 +66,7 @@ impl Ref {
         if text.len() != 32 {
             return None;
         }
-        let mut bytes = [0; 20];
+        let mut bytes = [0; REFERENCE_SIZE];
         for group in 0..GROUPS {
             let byte = GROUP_BYTES * group;
             let character = GROUP_CHARACTERS * group;

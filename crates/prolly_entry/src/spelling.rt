@@ -1,6 +1,8 @@
 //! Spelling numbers, pairs and records as bytes.
 ghost use Rattle.std.specs.Prelude.{◌≡◌, ◌++◌, OnOk, OnErr, ◌+◌, ◌^◌, ◌<◌, ◌≤◌, length, take, drop};
 ghost use Rattle.std.specs.Int.{w16, w32, w64, to_be_bytes, from_be_bytes};
+ghost use Rattle.std.specs.Prelude.{IfSome, IfNone};
+ghost use Rattle.prolly_entry.specs.Reading.{key_length};
 ghost use Rattle.prolly_entry.specs.Spelling.{pair_spelling, record_spelling};
 
 use crate::pair::Pair;
@@ -13,6 +15,9 @@ pub const KEY_START: usize = 2;
 
 /// How many bytes of a pair lie between the key and the value: the value's length.
 pub(crate) const VALUE_LENGTH_SIZE: usize = 4;
+
+/// How many bytes the two lengths of a pair or a record take.
+pub const LENGTHS_SIZE: usize = KEY_START + VALUE_LENGTH_SIZE;
 
 /// What stands in a removal where a value's length stands in a put.
 pub(crate) const REMOVAL: u32 = 0xFFFF_FFFF;
@@ -49,6 +54,26 @@ pub fn append_record(out: &mut Vec<u8>, record: &Record) -> Result<(), AllocErro
             append_parts(out, &key_length, key, &four_bytes(REMOVAL), &[])
         }
     }
+}
+
+/// The key of the pair, the record or the child entry that the bytes begin with, and what stands
+/// behind the key; none where the bytes end before the key does. The key may be longer than any
+/// that is lawful.
+pub fn split_key(bytes: &[u8]) -> Option<(&[u8], &[u8])>
+    ensures key { IfSome result (λ r. r.0.now ≡ take (key_length bytes.now) (drop 2 bytes.now)) }
+    ensures key_len { IfSome result (λ r. length r.0.now ≡ key_length bytes.now) }
+    ensures rest { IfSome result (λ r. r.1.now ≡ drop (2 + key_length bytes.now) bytes.now) }
+    ensures len { IfSome result (λ r. length bytes.now ≡ 2 + length r.0.now + length r.1.now) }
+    ensures none { IfNone result (length bytes.now < 2 + key_length bytes.now) }
+{
+    if bytes.len() < KEY_START {
+        return None;
+    }
+    let key_end = KEY_START + usize::from(number_of_two(bytes));
+    if bytes.len() < key_end {
+        return None;
+    }
+    Some((&bytes[KEY_START..key_end], &bytes[key_end..]))
 }
 
 /// Appends four parts, or none of them: the room for all is made first.

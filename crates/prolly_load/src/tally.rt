@@ -1,11 +1,10 @@
 //! What a survey says, and the counts that it takes on its way.
-ghost use Rattle.std.specs.Prelude.{◌≡◌, ◌+◌, ◌^◌, ◌<◌, cond, IfOk, OnOk, ◌≤◌, length, take, drop};
+ghost use Rattle.std.specs.Prelude.{◌≡◌, ◌+◌, ◌^◌, ◌<◌, cond, IfOk, OnOk};
 ghost use Rattle.std.specs.Option.{option_copied, option_or};
-ghost use Rattle.prolly_entry.specs.Reading.{key_length};
 ghost use Rattle.prolly_load.specs.Survey.{key_bytes};
 ghost use Rattle.prolly_load.specs.Tally.{HasToldKey, TellsFlawed};
 
-use prolly_entry::{Flaw, KEY_START};
+use prolly_entry::{Flaw, split_key};
 use std::alloc::{AllocError, Global};
 
 /// The numbers of the records that were passed, and the key of the first of them.
@@ -94,17 +93,11 @@ pub(crate) fn flawed_record(
     ensures { IfOk result (TellsFlawed flaw bytes.now) }
 {
     let key = match flaw {
-        Flaw::ValueTooLong | Flaw::OutOfOrder => Some(Vec::from_slice(alloc, front_key(bytes))?),
+        Flaw::ValueTooLong | Flaw::OutOfOrder => {
+            let (key, _) = split_key(bytes).unwrap();
+            Some(Vec::from_slice(alloc, key)?)
+        }
         Flaw::Truncated | Flaw::KeyTooLong | Flaw::TooManyRecords => None,
     };
     Ok(FlawedRecord { flaw, key })
-}
-
-/// The key of the record that the bytes begin with.
-fn front_key(bytes: &[u8]) -> &[u8]
-    requires { 2 + key_length bytes.now ≤ length bytes.now }
-    ensures { result.now ≡ take (key_length bytes.now) (drop 2 bytes.now) }
-{
-    let key_length = usize::from(u16::from_be_bytes([bytes[0], bytes[1]]));
-    &bytes[KEY_START..KEY_START + key_length]
 }
