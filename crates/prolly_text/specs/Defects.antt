@@ -58,16 +58,18 @@ abbrev pub IsBareKey : LineForm → List ℕ → List ℕ → Type 0
 IsBareKey form line text = (reads_bare_keys form.notation form.removals ≡ true) ×
     (text ≡ line) × AllByRecursion (λ b. b ≢ separator form.notation) line
 
--- The text is that of the line's key, or what is behind the first separator and does not mark a
--- removal; and this many bytes of the line are before it.
+-- The text is that of the line's key; or, after a key that can be read, what is behind the first
+-- separator and does not mark a removal. This many bytes of the line are before it.
 abbrev pub IsPart : LineForm → List ℕ → List ℕ → ℕ → Type 0
 IsPart form line text before =
     (IsBareKey form line text × (before ≡ 0))
     ⊎ ((change : List ℕ) × CutsAt (separator form.notation) line text change × (before ≡ 0))
     ⊎ ((key : List ℕ) × CutsAt (separator form.notation) line key text ×
-    (MarksRemoval form.notation text → ⊥) × (before ≡ length key + 1))
+    IsRead form.notation key × (MarksRemoval form.notation text → ⊥) ×
+    (before ≡ length key + 1))
 
--- That is wrong with the text of the line's key, or with the value's behind the separator.
+-- This is wrong with the text of the line's key or, where that can be read, with the value's behind
+-- the separator.
 pub record HasBadPart (form : LineForm) (start : ℕ) (line : List ℕ) (defect : Defect) : Type 0
   where
     pub text : List ℕ

@@ -65,9 +65,9 @@ returns c =
     c.separator-separator.ensures c.in-Some.ensures.some in
     let start : c.args.place.offset + length key + 1 ≡ c.args.place.offset + (length key + 1) =
     omega arith in
-    let unmarked = marks_none c.args.form c.args.line.now key change cut
-    c.in_default-part_defect.ensures.none c.requires.bad in
+    let read = c.in_default-part_defect.ensures.none in
+    let unmarked = marks_none c.args.form c.args.line.now key change cut read c.requires.bad in
     part_wrong c.args.form c.args.place c.args.line.now change (length key + 1)
-    c.in-Some-part_defect-2.defect c.requires.bad (inr (inr (key, cut, unmarked, refl)))
+    c.in-Some-part_defect-2.defect c.requires.bad (inr (inr (key, cut, read, unmarked, refl)))
     (subst (λ (n : ℕ). IsPartDefect c.args.form.notation change n c.in-Some-part_defect-2.defect)
     start c.in-Some-part_defect-2.ensures.some)
