@@ -1,8 +1,8 @@
 -- Reading the entries of a leaf, one pair after another.
-use Rattle.std.proofs.Common.{◌≡◌, ℕ, zero, suc, ◌-◌, ◌<◌, true, false, cond, not, List, [], ◌∷◌}
-use Rattle.std.proofs.Common.{◌++◌, length, take, drop, Some, None, refl, sym, ap, ◌∙◌, subst}
-use Rattle.std.proofs.Common.{arith, append_assoc}
-use Rattle.std.specs.Int.{w16, to_be_bytes}
+use Rattle.std.proofs.Common.{◌≡◌, ℕ, zero, suc, ◌+◌, ◌-◌, ◌<◌, ◌≤◌, true, false, cond, not}
+use Rattle.std.proofs.Common.{List, [], ◌∷◌, ◌++◌, length, take, drop, Some, None, refl, sym, ap}
+use Rattle.std.proofs.Common.{◌∙◌, subst, arith, append_assoc}
+use Rattle.std.specs.Int.{w16, w32, to_be_bytes}
 use Rattle.std.specs.Ordering.{is_eq, is_lt}
 use Rattle.std.proofs.lemmas.List.{length-append}
 use Rattle.std.specs.List.{flat_map}
@@ -47,13 +47,14 @@ no_bytes entries (q ∷ qs) none leaf = absurd (
 
 -- ---- reading them until something is found
 
--- What is left of the entries is shorter behind the first pair.
+-- What is left of the entries is shorter behind the first pair, by six bytes at least.
 pub shorter : (entries rest : List ℕ) (p : Pair) → BeginsWith pair_spelling IsPair entries p rest →
-    length rest < length entries
+    length rest + 6 ≤ length entries
 shorter entries rest p b = let same = ap length b.is in
     let whole = length-append (pair_spelling p) rest in
     let spelled = length-append (key_spelling p.key) (value_spelling p.value) in
     let key = length-append (to_be_bytes w16 (length p.key)) p.key in
+    let value = length-append (to_be_bytes w32 (length p.value)) p.value in
     omega arith
 
 -- A leaf's entries that are read go on with pairs, where some are left.

@@ -14,12 +14,12 @@ use prolly_entry::{KEY_LIMIT, VALUE_LIMIT};
 /// value, of which there are 65,536 at most. Where the status is not `DONE`, nothing is changed.
 #[unsafe(no_mangle)]
 pub extern "C" fn prolly_record(key: &[u8], value: &[u8], out: &mut [u8], at: &mut usize) -> u32
-    ensures pair { result ≡ 0 → IsPair (record { key = key.now; value = value.now }) }
     ensures written { result ≡ 0 → take at.new out.new ≡
         take at.old out.old ++ pair_spelling (record { key = key.now; value = value.now }) }
     ensures behind { result ≡ 0 → drop at.new out.new ≡ drop at.new out.old }
     ensures at { result ≡ 0 → at.new ≡ at.old + (6 + length key.now + length value.now) }
     ensures room { result ≡ 3 → length out.old < at.old + (6 + length key.now + length value.now) }
+    ensures fits { (result ≡ 6) ⊎ IsPair (record { key = key.now; value = value.now }) }
     ensures long { result ≡ 6 → IsPair (record { key = key.now; value = value.now }) → ⊥ }
     ensures stays { result ≢ 0 → (out.new ≡ out.old) × (at.new ≡ at.old) }
     ensures status { (result ≡ 0) ⊎ ((result ≡ 3) ⊎ (result ≡ 6)) }

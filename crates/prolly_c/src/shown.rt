@@ -1,6 +1,6 @@
 //! The index of the pairs that the proof of a range shows, over the bytes of the proof.
-ghost use Rattle.std.specs.Prelude.{◌≡◌, ◌≤◌, ◌-◌, ◌++◌, List, ℕ, length, take, drop, IfErr, IfOk};
-ghost use Rattle.std.specs.Prelude.{IfSome, MatchOption, OnErr};
+ghost use Rattle.std.specs.Prelude.{◌≡◌, ◌≤◌, ◌-◌, ◌*◌, ◌++◌, List, ℕ, length, take, drop};
+ghost use Rattle.std.specs.Prelude.{IfErr, IfOk, IfSome, MatchOption, OnErr};
 ghost use Rattle.std.specs.Option.{option_copied};
 ghost use Rattle.prolly_entry.specs.Pair.{Pair};
 ghost use Rattle.prolly_entry.specs.declared.version.Version.{Version as VersionValue};
@@ -41,6 +41,7 @@ pub(crate) fn shown_index(
         proof.now out.new) }
     ensures err { IfErr result (IsNoRangeProof version root.now.0
         (Range from.now (option_copied to.entry)) proof.now) }
+    ensures few { IfOk result (λ runs. 6 * runs ≤ length proof.now) }
     ensures behind { IfOk result (λ runs. drop runs out.new ≡ drop runs out.old) }
     ensures stays { OnErr result (out.new ≡ out.old) }
     ensures room { length out.new ≡ length out.old }
@@ -64,6 +65,7 @@ fn write_shown(proof: &[u8], from: &[u8], to: Option<&[u8]>, out: &mut [Run]) ->
         (p : IsSetProof version root (Range from.now (option_copied to.entry)) proof.now pairs) →
         IfSome result (λ runs. runs ≡
         runs_shown version (Range from.now (option_copied to.entry)) p.chunks) }
+    ensures few { IfSome result (λ runs. 6 * runs ≤ length proof.now) }
     ensures behind { IfSome result (λ runs. drop runs out.new ≡ drop runs out.old) }
     ensures room { length out.new ≡ length out.old }
 {
@@ -93,9 +95,9 @@ fn add_shown(
 ) -> Option<Written>
     requires within { length rest.now ≤ length proof.now }
     requires frame { rest.now ≡ framed chunk.now ++ behind.now }
-    requires few { written.pairs ≤ length proof.now - length rest.now }
+    requires few { 6 * written.pairs ≤ length proof.now - length rest.now }
     requires fewer { written.runs ≤ written.pairs }
-    ensures few { IfSome result (λ w. w.pairs ≤ length proof.now - length behind.now) }
+    ensures few { IfSome result (λ w. 6 * w.pairs ≤ length proof.now - length behind.now) }
     ensures fewer { IfSome result (λ w. w.runs ≤ w.pairs) }
     ensures wrote { (version : VersionValue) (done pairs : List Pair) → IsEnd proof.now rest.now →
         Shows version (Range from.now (option_copied to.entry)) chunk.now pairs →

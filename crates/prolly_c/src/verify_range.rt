@@ -1,5 +1,5 @@
 //! What the proof of a range shows, for who knows the root alone.
-ghost use Rattle.std.specs.Prelude.{◌≡◌, ◌≢◌, ◌⊎◌, ◌<◌, ◌≤◌, ℕ, List, length, take, drop};
+ghost use Rattle.std.specs.Prelude.{◌≡◌, ◌≢◌, ◌⊎◌, ◌<◌, ◌≤◌, ◌*◌, ℕ, List, length, take, drop};
 ghost use Rattle.std.specs.List.{AllByRecursion};
 ghost use Rattle.prolly_entry.specs.Cut.{sha512_cut};
 ghost use Rattle.prolly_entry.specs.Pair.{Pair, IsPair};
@@ -54,6 +54,7 @@ pub extern "C" fn prolly_verify_range(
         ProvesRange version root.now (range_of from.now to.now bounded) proof.now }
     ensures counted { (result ≡ 0) ⊎ (result ≡ 3) →
         HasRuns version root.now (range_of from.now to.now bounded) proof.now count.new }
+    ensures few { (result ≡ 0) ⊎ (result ≡ 3) → 6 * count.new ≤ length proof.now }
     ensures proofs { ProvesRange version root.now (range_of from.now to.now bounded) proof.now →
         (result ≡ 0) ⊎ ((result ≡ 2) ⊎ (result ≡ 3)) }
     ensures refused { (result ≡ 0) ⊎ ((result ≡ 2) ⊎ ((result ≡ 3) ⊎ ((result ≡ 6) ⊎

@@ -1,6 +1,6 @@
 //! Writing the index of a chunk file. Nothing is believed of the bytes.
-ghost use Rattle.std.specs.Prelude.{◌≡◌, ◌≤◌, ◌<◌, ◌+◌, ◌-◌, ◌++◌, List, ℕ, length, take, drop};
-ghost use Rattle.std.specs.Prelude.{IfSome, MatchOption};
+ghost use Rattle.std.specs.Prelude.{◌≡◌, ◌≤◌, ◌<◌, ◌+◌, ◌-◌, ◌*◌, ◌++◌, List, ℕ, length, take};
+ghost use Rattle.std.specs.Prelude.{drop, IfSome, MatchOption};
 ghost use Rattle.prolly_entry.specs.Pair.{Pair};
 ghost use Rattle.prolly_entry.specs.declared.version.Version.{Version};
 ghost use Rattle.prolly_io.specs.Frame.{framed};
@@ -61,9 +61,9 @@ fn add_chunk(
 ) -> Option<Written>
     requires within { length rest.now ≤ length bytes.now }
     requires frame { rest.now ≡ framed chunk.now ++ behind.now }
-    requires few { written.pairs ≤ length bytes.now - length rest.now }
+    requires few { 6 * written.pairs ≤ length bytes.now - length rest.now }
     requires fewer { written.runs ≤ written.pairs }
-    ensures few { IfSome result (λ w. w.pairs ≤ length bytes.now - length behind.now) }
+    ensures few { IfSome result (λ w. 6 * w.pairs ≤ length bytes.now - length behind.now) }
     ensures fewer { IfSome result (λ w. w.runs ≤ w.pairs) }
     ensures wrote { (version : Version) (done pairs : List Pair) → IsEnd bytes.now rest.now →
         Holds version chunk.now pairs → Wrote bytes.now out.old written done →
@@ -88,10 +88,10 @@ pub(crate) fn add_leaf(
     written: Written,
 ) -> Option<Written>
     requires within { length entries.now ≤ length bytes.now }
-    requires few { written.pairs ≤ length bytes.now - length entries.now }
+    requires few { 6 * written.pairs ≤ length bytes.now - length entries.now }
     requires fewer { written.runs ≤ written.pairs }
     requires behind { behind ≤ length entries.now }
-    ensures few { IfSome result (λ w. w.pairs ≤ length bytes.now - behind) }
+    ensures few { IfSome result (λ w. 6 * w.pairs ≤ length bytes.now - behind) }
     ensures fewer { IfSome result (λ w. w.runs ≤ w.pairs) }
     ensures wrote { (done pairs : List Pair) (tail : List ℕ) → IsEnd bytes.now entries.now →
         Spells entries.now pairs tail → length tail ≡ behind →
@@ -142,7 +142,7 @@ fn add_run(out: &mut [Run], written: Written, run: Run, count: u64) -> Written
 
 /// Passes over the pairs of one run: how many there are, and what stands behind them.
 fn pass_run(entries: &[u8], behind: usize) -> Option<(u64, &[u8])>
-    ensures shorter { IfSome result (λ r. length r.1.now + r.0 ≤ length entries.now) }
+    ensures shorter { IfSome result (λ r. length r.1.now + 6 * r.0 ≤ length entries.now) }
     ensures some { behind < length entries.now → IfSome result (λ r. 0 < r.0) }
     ensures few { IfSome result (λ r. r.0 ≤ 16) }
     ensures full { IfSome result (λ r. r.0 < 16 → length r.1.now ≤ behind) }

@@ -1,4 +1,4 @@
-use Rattle.std.proofs.Common.{◌≡◌, ◌-◌, ◌≤◌, ℕ, List, length, drop}
+use Rattle.std.proofs.Common.{◌≡◌, ◌-◌, ◌*◌, ◌≤◌, ℕ, List, length, drop}
 use Rattle.std.specs.Option.{option_copied}
 use Rattle.prolly_entry.specs.Pair.{Pair}
 use Rattle.prolly_entry.specs.declared.version.Version.{Version}
@@ -11,7 +11,7 @@ use Rattle.prolly_c.proofs.shown.write_shown.Given as goal
 abbrev pub invariant-loop-chunk : goal.invariant-loop-chunk
 invariant-loop-chunk l = record {
   within : length l.rest ≤ length l.proof;
-  few : l.written.pairs ≤ length l.proof - length l.rest;
+  few : 6 * l.written.pairs ≤ length l.proof - length l.rest;
   fewer : l.written.runs ≤ l.written.pairs;
   room : length l.out ≡ length l.fn.out;
   behind : drop l.written.runs l.out ≡ drop l.written.runs l.fn.out;

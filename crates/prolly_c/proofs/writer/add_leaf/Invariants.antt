@@ -1,4 +1,4 @@
-use Rattle.std.proofs.Common.{◌≡◌, ℕ, ◌-◌, ◌≤◌, List, length, drop}
+use Rattle.std.proofs.Common.{◌≡◌, ℕ, ◌-◌, ◌*◌, ◌≤◌, List, length, drop}
 use Rattle.prolly_entry.specs.Pair.{Pair}
 use Rattle.prolly_c.proofs.Writing.{Adds}
 use Rattle.prolly_c.specs.Runs.{IsEnd}
@@ -8,7 +8,7 @@ use Rattle.prolly_c.proofs.writer.add_leaf.Given as goal
 abbrev pub invariant-loop-left : goal.invariant-loop-left
 invariant-loop-left l = record {
   within : length l.left ≤ length l.entries;
-  few : l.here.pairs ≤ length l.bytes - length l.left;
+  few : 6 * l.here.pairs ≤ length l.bytes - length l.left;
   fewer : l.here.runs ≤ l.here.pairs;
   room : length l.out ≡ length l.fn.out;
   more : l.fn.written.runs ≤ l.here.runs;
