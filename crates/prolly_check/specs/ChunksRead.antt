@@ -38,8 +38,7 @@ TakesChunk old new chunk result = (chunks : List (List ℕ)) → AreRead chunks 
     MatchResult result (λ done. AreRead (chunks ++ chunk ∷ []) new)
     (UnlessMemory (IsFlawBehind old.follower.version old.follower.cut chunks chunk))
 
--- The chunks are taken behind others; or the first of them that has a flaw is found, unless memory
--- was refused.
+-- Of chunks that are taken behind others, this is the flaw of the first that has one.
 pub record HasFlaw (read : ChunksRead) (chunks taken : List (List ℕ)) (fault : CheckFault) : Type 0
   where
     pub before : List (List ℕ)
@@ -49,6 +48,8 @@ pub record HasFlaw (read : ChunksRead) (chunks taken : List (List ℕ)) (fault :
     pub may : MayBegin read.follower.version read.follower.cut (chunks ++ before)
     pub flaw : IsFlawBehind read.follower.version read.follower.cut (chunks ++ before) chunk fault
 
+-- The chunks are taken behind others; or the first of them that has a flaw is found, unless memory
+-- was refused.
 abbrev pub GoesOver : ChunksRead → ChunksRead → List (List ℕ) → Result (Unit {0}) CheckFault → Type 0
 GoesOver old new taken result = (chunks : List (List ℕ)) → AreRead chunks old →
     length (flat_map framed (chunks ++ taken)) < 2 ^ 64 →

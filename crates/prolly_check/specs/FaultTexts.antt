@@ -6,6 +6,7 @@ use Rattle.prolly_check.specs.declared.stream.fault.StreamFault.TheVariants as s
 use Rattle.prolly_check.specs.declared.verdict.fault.CheckFault.{CheckFault}
 use Rattle.prolly_check.specs.declared.verdict.fault.CheckFault.TheVariants as checks
 
+-- What is said of a file that was not accepted as a chunk file.
 abbrev pub check_fault_text : CheckFault → List ℕ
 check_fault_text checks.Memory = codes "out of memory"
 check_fault_text checks.Read = codes "chunk file: read failed"

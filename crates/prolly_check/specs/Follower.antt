@@ -126,8 +126,7 @@ TakesNext old new number chunk result = (read : List (List ℕ)) → number ≡ 
     (UnlessMemory (IsOutOfPlace old.cut old.version (read ++ chunk ∷ [])
     (place_of_end old.ending number)))
 
--- The chunks are all of the file of the pairs that they hold; or another one must follow, unless
--- memory was refused.
+-- In the file of the pairs that the chunks hold another one follows, and the fault names its place.
 pub record IsTooShort (bits : ℕ) (version : Version) (read : List (List ℕ)) (fault : CheckFault)
     : Type 0 where
   pub next : List ℕ
@@ -135,6 +134,8 @@ pub record IsTooShort (bits : ℕ) (version : Version) (read : List (List ℕ)) 
   pub are : bytes_in (all_of bits version (flat_map pairs_held read)) ≡ read ++ next ∷ more
   pub is : fault ≡ NotCanonical (length read)
 
+-- The chunks are all of the file of the pairs that they hold; or another one must follow, unless
+-- memory was refused.
 abbrev pub EndsWith : Follower → ℕ → Result (Unit {0}) CheckFault → Type 0
 EndsWith old number result = (read : List (List ℕ)) → number ≡ length read → Follows read old →
     MatchResult result (λ done. bytes_in (all_of old.cut old.version (flat_map pairs_held read)) ≡

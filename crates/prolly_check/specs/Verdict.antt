@@ -69,6 +69,7 @@ pub record FramesVerdict (version : Version) (bits : ℕ) (bytes : List ℕ)
   pub is : IsFramed bytes chunks ending
   pub so : EndVerdict version bits chunks ending verdict
 
+-- Bytes with a faulty header have that fault; else the bytes behind the header are judged.
 abbrev pub HeaderVerdict : Option HeaderFault → List ℕ → Result Content CheckFault → Type 0
 HeaderVerdict (Some fault) bytes verdict = verdict ≡ Err (fault_of_header fault)
 HeaderVerdict None bytes verdict =
@@ -86,7 +87,8 @@ abbrev pub OneVerdict : Type 0
 OneVerdict = (bytes : List ℕ) (verdict other : Result Content CheckFault) →
     IsVerdict bytes verdict → IsVerdict bytes other → verdict ≡ other
 
--- Law: bytes are accepted exactly where they are the file of a map, and as the file of that map.
+-- Law: what is accepted is the file of a map, and such a file of fewer than 2^64 bytes is accepted,
+-- each as the file of that map.
 abbrev pub AcceptsFiles : Type 0
 AcceptsFiles = (bytes : List ℕ) (content : Content) →
     (IsVerdict bytes (Ok content) → IsFileOf bytes content)

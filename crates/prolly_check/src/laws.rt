@@ -2,7 +2,8 @@
 //! the law, and to prove the crate is to prove it.
 ghost use Rattle.prolly_check.specs.Verdict.{OneVerdict, AcceptsFiles};
 
-/// Bytes have one verdict, and are accepted exactly where they are the file of a map.
+/// Bytes have one verdict. What is accepted is the file of a map, and such a file of fewer than
+/// 2^64 bytes is accepted.
 pub fn files_are_accepted()
     ensures one { OneVerdict }
     ensures accepted { AcceptsFiles }

@@ -19,16 +19,19 @@ pub record NodeState (C : Type 0) : Type 0 where
   pub node : Chunk
   pub received : Received
 
+-- How many these events are: none, a single one, or several.
 abbrev pub received_of : List Chunk → Received
 received_of [] = Nothing
 received_of (e ∷ []) = Single
 received_of (e ∷ f ∷ es) = Several
 
+-- How many came once one more has come.
 abbrev pub one_more_received : Received → Received
 one_more_received Nothing = Single
 one_more_received Single = Several
 one_more_received Several = Several
 
+-- Whether several came.
 abbrev pub is_several : Received → Bool
 is_several Nothing = false
 is_several Single = false

@@ -11,14 +11,16 @@ abbrev pub tail_length : Version → ℕ
 tail_length One = 20
 tail_length Two = 28
 
--- The key, the reference and the count of the child entry that is said to lie there. (Version One
--- has no count; whatever number stands for it is not spelled.)
+-- The key of the child entry that is said to lie there.
 abbrev pub key_at : List ℕ → ChildAt → List ℕ
 key_at bytes at = take (at.key_end - 2) (drop 2 bytes)
 
+-- The reference of the child entry that is said to lie there.
 abbrev pub reference_at : List ℕ → ChildAt → List ℕ
 reference_at bytes at = take 20 (drop at.key_end bytes)
 
+-- The count of the child entry that is said to lie there. (Version One has none; whatever number
+-- stands for it is not spelled.)
 abbrev pub count_at : List ℕ → ChildAt → ℕ
 count_at bytes at = from_be_bytes w64 (take 8 (drop (at.key_end + 20) bytes))
 

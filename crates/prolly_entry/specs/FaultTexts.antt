@@ -17,10 +17,12 @@ shown_text (Holding before number behind) = before.now ++ decimal number ++ behi
 shown_text (HoldingTwo before first between second behind) = before.now ++ decimal first ++
     between.now ++ decimal second ++ behind.now
 
+-- What is said of a key or a value that is too long.
 abbrev pub entry_fault_text : EntryFault → List ℕ
 entry_fault_text entries.KeyTooLong = codes "key too long"
 entry_fault_text entries.ValueTooLong = codes "value too long"
 
+-- What is said of bytes that are no record file, or were not read as one.
 abbrev pub record_fault_text : RecordFault → List ℕ
 record_fault_text records.Memory = codes "out of memory"
 record_fault_text (records.Truncated place) = codes "record " ++ decimal place ++ codes " is cut"

@@ -25,26 +25,29 @@ pub record IsPairAt (bytes : List ℕ) (p : Pair) (len : ℕ) : Type 0 where
   pub size : length (pair_spelling p) ≡ len
   pub within : len ≤ length bytes
 
--- No lawful record's spelling begins the bytes; no lawful pair's.
+-- No lawful record's spelling begins the bytes.
 abbrev pub NoRecordAt : List ℕ → Type 0
 NoRecordAt bytes = (r : Record) (more : List ℕ) → IsRecord r → bytes ≡ record_spelling r ++ more → ⊥
 
+-- No lawful pair's spelling begins the bytes.
 abbrev pub NoPairAt : List ℕ → Type 0
 NoPairAt bytes = (p : Pair) (more : List ℕ) → IsPair p → bytes ≡ pair_spelling p ++ more → ⊥
 
--- The pair, the record that puts it, and the removal whose key and value lie between these offsets.
+-- The pair whose key and value lie between these offsets.
 abbrev pub pair_at : List ℕ → ℕ → ℕ → ℕ → Pair
 pair_at bytes key_end value_start len = record {
   key = take (key_end - 2) (drop 2 bytes);
   value = take (len - value_start) (drop value_start bytes);
 }
 
+-- The record that puts the value at the key that lie between these offsets.
 abbrev pub put_at : List ℕ → ℕ → ℕ → ℕ → Record
 put_at bytes key_end value_start len = record {
   key = take (key_end - 2) (drop 2 bytes);
   value = Some (take (len - value_start) (drop value_start bytes));
 }
 
+-- The record that removes the key that ends at this offset.
 abbrev pub removal_at : List ℕ → ℕ → Record
 removal_at bytes key_end = record { key = take (key_end - 2) (drop 2 bytes); value = None }
 
@@ -90,10 +93,11 @@ front_by size n m =
     else (if nat_lt size (6 + n + m) then More
     else Put (2 + n) (6 + n) (6 + n + m))))))
 
+-- What these bytes begin with, computed.
 abbrev pub front_of : List ℕ → FrontRecord
 front_of bytes = front_by (length bytes) (key_length bytes) (value_length bytes)
 
--- What the bytes begin with, where only a put is a pair: a removal is a value that is too long.
+-- What a front is where only a put is a pair: a removal is a value that is too long.
 abbrev pub as_pair : FrontRecord → Front
 as_pair (Put key_end value_start len) = pairs.Pair key_end value_start len
 as_pair (Remove key_end len) = pairs.ValueTooLong
@@ -101,6 +105,7 @@ as_pair More = pairs.More
 as_pair KeyTooLong = pairs.KeyTooLong
 as_pair ValueTooLong = pairs.ValueTooLong
 
+-- What the bytes begin with, where only a put is a pair.
 abbrev pub IsFrontPair : List ℕ → Front → Type 0
 IsFrontPair bytes (pairs.Pair key_end value_start len) =
     IsPairAt bytes (pair_at bytes key_end value_start len) len × (key_end ≤ value_start) ×

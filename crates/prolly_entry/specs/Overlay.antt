@@ -15,6 +15,7 @@ abbrev pub change_of : List Record → List ℕ → Option (Option (List ℕ))
 change_of [] key = None
 change_of (r ∷ rs) key = if is_eq (key_order r.key key) then Some r.value else change_of rs key
 
+-- The first where it is there, else the second.
 abbrev pub or_else : {A : Type 0} → Option A → Option A → Option A
 or_else (Some x) other = Some x
 or_else None other = other
@@ -31,16 +32,19 @@ pub record IsRawOverlay (lists : List (List Record)) (m : List Record) : Type 0 
 
 -- ---- The same as a list that computes.
 
--- A rising list with a record put at its key's place, in the place of an earlier record of the key.
+-- A record r put at its key's place into the list of s and ss, by how its key compares with that of
+-- s; `more` is ss with r put there.
 abbrev pub with_record_by : Ordering → Record → Record → List Record → List Record → List Record
 with_record_by Less r s ss more = r ∷ s ∷ ss
 with_record_by Equal r s ss more = r ∷ ss
 with_record_by Greater r s ss more = s ∷ more
 
+-- A rising list with a record put at its key's place, in the place of an earlier record of the key.
 abbrev pub with_record : Record → List Record → List Record
 with_record r [] = r ∷ []
 with_record r (s ∷ ss) = with_record_by (key_order r.key s.key) r s ss (with_record r ss)
 
+-- A rising list with records put there so, one after another.
 abbrev pub with_records : List Record → List Record → List Record
 with_records m [] = m
 with_records m (r ∷ rs) = with_records (with_record r m) rs
@@ -49,6 +53,7 @@ with_records m (r ∷ rs) = with_records (with_record r m) rs
 unfoldable pub raw_overlay : List (List Record) → List Record
 raw_overlay lists = with_records [] (flat_map (λ records. records) lists)
 
+-- The keys of each list rise.
 abbrev pub AllRising : List (List Record) → Type 0
 AllRising lists = AllByRecursion (λ records. Rising (keys_of records)) lists
 
@@ -60,6 +65,7 @@ OneRawOverlay = (lists : List (List Record)) → AllRising lists →
 
 -- ---- The overlay.
 
+-- The pair that is put at a key; none where the key is removed.
 abbrev pub pairs_of_change : List ℕ → Option (List ℕ) → List Pair
 pairs_of_change key None = []
 pairs_of_change key (Some value) = record { key = key; value = value } ∷ []

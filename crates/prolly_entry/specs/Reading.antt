@@ -23,10 +23,11 @@ pub record Begins (bytes : List ℕ) (limit : ℕ) (records : List Record) (rest
     pub rising : Rising (keys_of records)
     pub few : length records ≤ limit
 
--- The numbers that stand where the lengths of a record's key and value stand.
+-- The number that stands where the length of a record's key stands.
 abbrev pub key_length : List ℕ → ℕ
 key_length bytes = from_be_bytes w16 (take 2 bytes)
 
+-- The number that stands where the length of a record's value stands, behind a key of that length.
 abbrev pub value_length : List ℕ → ℕ
 value_length bytes = from_be_bytes w32 (take 4 (drop (2 + key_length bytes) bytes))
 
@@ -80,12 +81,13 @@ OneReading = (bytes : List ℕ) (limit : ℕ) (good good' : List Record) (ending
     IsReading bytes limit good ending → IsReading bytes limit good' ending' →
     (good ≡ good') × (ending ≡ ending')
 
--- Law: and they have one.
+-- The bytes have a reading.
 pub record HasReading (bytes : List ℕ) (limit : ℕ) : Type 0 where
   pub good : List Record
   pub ending : Option Flaw
   pub reading : IsReading bytes limit good ending
 
+-- Law: bytes have a reading.
 abbrev pub SomeReading : Type 0
 SomeReading = (bytes : List ℕ) (limit : ℕ) → All IsByte bytes → HasReading bytes limit
 

@@ -46,16 +46,18 @@ pub record BeginsWith {A : Type 0} (spelling : A → List ℕ) (Lawful : A → T
   pub lawful : Lawful entry
   pub is : bytes ≡ spelling entry ++ rest
 
--- Laws: no spelling is a proper prefix of another of its kind. Where two spellings begin the same
--- bytes, they are one, and what follows them is the same.
+-- Law: no spelling of a pair is a proper prefix of another. Where those of two pairs begin the same
+-- bytes, the pairs are one, and what follows is the same.
 abbrev pub PairSpellingsApart : Type 0
 PairSpellingsApart = (p q : Pair) (x y : List ℕ) → IsPair p → IsPair q →
     pair_spelling p ++ x ≡ pair_spelling q ++ y → (p ≡ q) × (x ≡ y)
 
+-- Law: so it is with records.
 abbrev pub RecordSpellingsApart : Type 0
 RecordSpellingsApart = (r s : Record) (x y : List ℕ) → IsRecord r → IsRecord s →
     record_spelling r ++ x ≡ record_spelling s ++ y → (r ≡ s) × (x ≡ y)
 
+-- Law: so it is with child entries, whose counts have one spelling then.
 abbrev pub ChildSpellingsApart : Version → Type 0
 ChildSpellingsApart version = (key key' reference reference' : List ℕ) (count count' : ℕ)
     (x y : List ℕ) →

@@ -91,8 +91,10 @@ fault_text LoneRoot = codes "one of --old-root and --new-root is missing"
 fault_text NotUnicode = codes "a word is not UTF-8"
 fault_text OutIsStdout = codes "OUT is also standard output"
 
--- 2: usage. 3: the input is at fault. 4: a chunk file or a proof is. 5: a device is. 6: memory or a
--- thread. 7: the tree is too tall.
+-- The exit statuses. 2: usage. 3: the input is at fault. 4: a chunk file or a proof is. 5: a device
+-- is. 6: memory or a thread. 7: the tree is too tall.
+
+-- The status of a fault of a run.
 abbrev pub run_status : RunFault → ℕ
 run_status runs.Memory = 6
 run_status (runs.Read file) = 5
@@ -107,6 +109,7 @@ run_status runs.NoThread = 6
 run_status runs.Lost = 6
 run_status runs.TooManyFiles = 3
 
+-- The status of runs that can't wait or be merged.
 abbrev pub store_status : StoreFault → ℕ
 store_status stores.Memory = 6
 store_status stores.Make = 5
@@ -114,6 +117,7 @@ store_status stores.Write = 5
 store_status stores.Read = 5
 store_status stores.TooMany = 3
 
+-- The status of a file that was not accepted as a chunk file.
 abbrev pub check_status : CheckFault → ℕ
 check_status checks.Memory = 6
 check_status checks.Read = 5
@@ -128,11 +132,13 @@ check_status (checks.NotCanonical chunk) = 4
 check_status checks.BadEnd = 4
 check_status (checks.Collision chunk) = 4
 
+-- The status of a file that is not that of the tree of a root.
 abbrev pub stream_status : StreamFault → ℕ
 stream_status (streams.Check fault) = check_status fault
 stream_status streams.Version = 4
 stream_status streams.OtherRoot = 4
 
+-- The status of a file that has no answer to a look-up by a root.
 abbrev pub root_status : RootFault → ℕ
 root_status roots.Memory = 6
 root_status roots.Read = 5
@@ -147,6 +153,7 @@ root_status (roots.Chunk chunk) = 4
 root_status (roots.KeysOutOfOrder chunk) = 4
 root_status (roots.Level chunk) = 4
 
+-- The status of a fault.
 abbrev pub fault_status : Fault → ℕ
 fault_status Memory = 6
 fault_status Read = 5

@@ -4,6 +4,7 @@ use Rattle.std.specs.Fmt.{decimal}
 use Rattle.prolly_file.specs.declared.scratch_build.ScratchFault.{ScratchFault}
 use Rattle.prolly_file.specs.declared.scratch_build.ScratchFault.TheVariants as scratches
 
+-- What is said of pairs of which no file was made.
 abbrev pub scratch_fault_text : ScratchFault → List ℕ
 scratch_fault_text scratches.Memory = codes "out of memory"
 scratch_fault_text (scratches.OutOfOrder pair) = codes "pair " ++ decimal pair ++

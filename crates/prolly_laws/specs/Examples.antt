@@ -13,20 +13,23 @@ use Rattle.prolly_tree.specs.File.{file}
 use Rattle.prolly_tree.specs.Events.{clean, faulty, leaf_events}
 use Rattle.prolly_tree.specs.Pipeline.{pipeline_events, within_stages}
 
--- The pair of a key of one byte and the value `1`; the record that puts it; and the one that
--- removes the key.
+-- The pair of a key of one byte and the value `1`.
 abbrev pub example_pair : ℕ → Pair
 example_pair key = record { key = key ∷ []; value = 0x31 ∷ [] }
 
+-- The record that puts this pair.
 abbrev pub example_put : ℕ → Record
 example_put key = record { key = key ∷ []; value = Some (0x31 ∷ []) }
 
+-- The record that removes a key of one byte.
 abbrev pub example_removal : ℕ → Record
 example_removal key = record { key = key ∷ []; value = None }
 
+-- The levels of chunks, in their order.
 abbrev pub levels : List Chunk → List ℕ
 levels cs = map (λ c. c.level) cs
 
+-- The pairs of the keys a, b and c.
 abbrev pub abc : List Pair
 abc = example_pair 0x61 ∷ example_pair 0x62 ∷ example_pair 0x63 ∷ []
 
@@ -98,13 +101,16 @@ abbrev pub marked : List Pair
 marked = example_pair 0x61 ∷ record { key = codes "b!"; value = 0x31 ∷ [] } ∷ example_pair 0x63
     ∷ record { key = codes "d!"; value = 0x31 ∷ [] } ∷ example_pair 0x65 ∷ []
 
+-- The marked pairs have six chunks on three levels, in this order.
 abbrev pub MarkedChunks : Type 0
 MarkedChunks = levels (chunks key_cut One marked) ≡ 0 ∷ 0 ∷ 1 ∷ 0 ∷ 1 ∷ 2 ∷ []
 
--- Five pairs, each a boundary, have eleven chunks on four levels, in either version.
+-- The pairs of the keys a to e.
 abbrev pub abcde : List Pair
 abcde = abc ++ (example_pair 0x64 ∷ example_pair 0x65 ∷ [])
 
+-- Five pairs, each a boundary, have eleven chunks on four levels, in either version: these levels
+-- in version One, and these counts in version Two.
 abbrev pub ChunksOfFive : Type 0
 ChunksOfFive = (levels (chunks every_entry One abcde) ≡ 0 ∷ 0 ∷ 1 ∷ 0 ∷ 0 ∷ 1 ∷ 2 ∷ 0 ∷ 1 ∷ 2 ∷ 3 ∷
     [])
@@ -127,12 +133,12 @@ MarkedEvents = (levels (leaf_events key_cut One clean marked) ≡ 0 ∷ 0 ∷ 0 
 
 -- ---- Merging.
 
--- The first input has the key 5 and then a fault, the second 1, 2 and 7 and none: the fault stands
--- at 5, and 1, 2 and 5 come before.
+-- The first input has the key 5 and then a fault, the second 1, 2 and 7 and none.
 abbrev pub two_inputs : List (Input ℕ)
 two_inputs = record { records = example_put 0x35 ∷ []; fault = Some 0 }
     ∷ record { records = example_put 0x31 ∷ example_put 0x32 ∷ example_put 0x37 ∷ []; fault = None } ∷ []
 
+-- The fault of these inputs stands at 5, and 1, 2 and 5 come before.
 abbrev pub FaultOfLeastPosition : Type 0
 FaultOfLeastPosition = (stop two_inputs ≡ Some (record { position = Some (0x35 ∷ []); fault = 0 }))
     × (merged_part two_inputs ≡ example_pair 0x31 ∷ example_pair 0x32 ∷ example_pair 0x35 ∷ [])

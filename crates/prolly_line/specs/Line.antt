@@ -55,141 +55,187 @@ some_words_rule name = record (word_rule name) {
   range = Some (record { start_inclusive = 1; end_inclusive = usize_max });
 }
 
+-- `--bits Q`, from 0 to 24
 abbrev pub bits_option : Rule
 bits_option = optional_number_option (codes "bits") 0 24
 
+-- `--chunk-bytes N`, from 1 to 2^30
 abbrev pub chunk_bytes_option : Rule
 chunk_bytes_option = optional_number_option (codes "chunk-bytes") 1 1073741824
 
+-- `--memory MB`, from 16 to 4000
 abbrev pub memory_option : Rule
 memory_option = optional_number_option (codes "memory") 16 4000
 
+-- `--stages S`, from 1 to 12, the default
 abbrev pub stages_option : Rule
 stages_option = number_option (codes "stages") 1 12 (codes "12")
 
+-- `--capacity C`, from 1 to 4096, with the default 64
 abbrev pub capacity_option : Rule
 capacity_option = number_option (codes "capacity") 1 4096 (codes "64")
 
+-- `--max-records M`, from 1 to 2^24, the default
 abbrev pub max_records_option : Rule
 max_records_option = number_option (codes "max-records") 1 16777216 (codes "16777216")
 
+-- `--batch B`, from 1 to 1024, with the default 16
 abbrev pub batch_option : Rule
 batch_option = number_option (codes "batch") 1 1024 (codes "16")
 
+-- `--format V`, the version 1, the default, or 2
 abbrev pub format_option : Rule
 format_option = number_option (codes "format") 1 2 (codes "1")
 
+-- `--format V` without a default, since OLD has a version
 abbrev pub old_format_option : Rule
 old_format_option = optional_number_option (codes "format") 1 2
 
+-- `--root ROOT`
 abbrev pub root_option : Rule
 root_option = option_rule (codes "root")
 
+-- `--root ROOT`, which has to be there
 abbrev pub required_root_option : Rule
 required_root_option = record root_option { required = true }
 
+-- `--from KEY`
 abbrev pub from_option : Rule
 from_option = option_rule (codes "from")
 
+-- `--to KEY`
 abbrev pub to_option : Rule
 to_option = option_rule (codes "to")
 
+-- `--keys KEYS`
 abbrev pub keys_option : Rule
 keys_option = option_rule (codes "keys")
 
+-- `--old-root ROOT`
 abbrev pub old_root_option : Rule
 old_root_option = option_rule (codes "old-root")
 
+-- `--new-root ROOT`
 abbrev pub new_root_option : Rule
 new_root_option = option_rule (codes "new-root")
 
+-- `--out FILE`
 abbrev pub out_option : Rule
 out_option = option_rule (codes "out")
 
+-- `--atomic`
 abbrev pub atomic_flag : Rule
 atomic_flag = flag (codes "atomic")
 
+-- `--sync`
 abbrev pub sync_flag : Rule
 sync_flag = flag (codes "sync")
 
+-- `--force`
 abbrev pub force_flag : Rule
 force_flag = flag (codes "force")
 
+-- `--text`
 abbrev pub text_flag : Rule
 text_flag = flag (codes "text")
 
+-- `--removals`
 abbrev pub removals_flag : Rule
 removals_flag = flag (codes "removals")
 
+-- `--sort`
 abbrev pub sort_flag : Rule
 sort_flag = flag (codes "sort")
 
+-- `--unique`
 abbrev pub unique_flag : Rule
 unique_flag = flag (codes "unique")
 
+-- `--lines`
 abbrev pub lines_flag : Rule
 lines_flag = flag (codes "lines")
 
+-- `--all`
 abbrev pub all_flag : Rule
 all_flag = flag (codes "all")
 
+-- `--raw`
 abbrev pub raw_flag : Rule
 raw_flag = flag (codes "raw")
 
+-- `--hex`
 abbrev pub hex_flag : Rule
 hex_flag = flag (codes "hex")
 
+-- `--stat`
 abbrev pub stat_flag : Rule
 stat_flag = flag (codes "stat")
 
+-- `--json`
 abbrev pub json_flag : Rule
 json_flag = flag (codes "json")
 
+-- `--quiet`
 abbrev pub quiet_flag : Rule
 quiet_flag = flag (codes "quiet")
 
+-- the word OUT
 abbrev pub out_word : Rule
 out_word = word_rule (codes "out")
 
+-- the word OUT, which may be missing
 abbrev pub optional_out_word : Rule
 optional_out_word = optional_word (codes "out")
 
+-- the word FILE
 abbrev pub file_word : Rule
 file_word = word_rule (codes "file")
 
+-- the word FILE, which may be missing
 abbrev pub optional_file_word : Rule
 optional_file_word = optional_word (codes "file")
 
+-- one word FILE or more
 abbrev pub file_words : Rule
 file_words = some_words_rule (codes "file")
 
+-- the word PROOF, which may be missing
 abbrev pub proof_word : Rule
 proof_word = optional_word (codes "proof")
 
+-- the word ROOT
 abbrev pub root_word : Rule
 root_word = word_rule (codes "root")
 
+-- the word OLD
 abbrev pub old_word : Rule
 old_word = word_rule (codes "old")
 
+-- the word NEW
 abbrev pub new_word : Rule
 new_word = word_rule (codes "new")
 
+-- the word KEY
 abbrev pub key_word : Rule
 key_word = word_rule (codes "key")
 
+-- the word KEY, which may be missing
 abbrev pub optional_key_word : Rule
 optional_key_word = optional_word (codes "key")
 
+-- the word LIMIT, a number from 0 to 1,000,000
 abbrev pub limit_word : Rule
 limit_word = number_word (codes "limit") 0 1000000
 
+-- the word N, a number from 0 to 2^32 - 1
 abbrev pub n_word : Rule
 n_word = number_word (codes "n") 0 4294967295
 
+-- any number of words FILES
 abbrev pub files_words : Rule
 files_words = words_rule (codes "files")
 
+-- any number of words CHANGES
 abbrev pub changes_words : Rule
 changes_words = words_rule (codes "changes")
 

@@ -9,6 +9,7 @@ abbrev pub record_text : ℕ → ℕ → List ℕ → List ℕ
 record_text file place rest = codes "file " ++ decimal file ++ codes ": record " ++ decimal place ++
     rest
 
+-- What is said of a fault of a run.
 abbrev pub run_text : RunFault → List ℕ
 run_text runs.Memory = codes "out of memory"
 run_text (runs.Read file) = codes "file " ++ decimal file ++ codes ": read failed"

@@ -7,7 +7,7 @@ use Rattle.rtrb.specs.declared.AnyItems.{AnyItems}
 use Rattle.rtrb.specs.declared.producer.Producer.{Producer}
 use Rattle.rtrb.specs.declared.consumer.Consumer.{Consumer}
 
--- one ring: where it lies, and the names of its two views
+-- one ring: where it lies, its capacity with the names of its two views, and the heap that it is in
 pub record RingId : Type 0 where
   pub words : Ptr
   pub slots : Ptr
@@ -28,6 +28,7 @@ room_of (sink_link kept taken failed) = 0
 room_of no_link = 0
 
 module _ {M : Type 0} where
+  -- the link that a producer is an end of
   abbrev pub producer_link : Producer M Global AnyItems → LinkId
   producer_link p = ring_link record {
     words = p.end.words;
@@ -36,6 +37,7 @@ module _ {M : Type 0} where
     heap = p.end.heap;
   }
 
+  -- the link that a consumer is an end of
   abbrev pub consumer_link : Consumer M Global AnyItems → LinkId
   consumer_link c = ring_link record {
     words = c.end.words;

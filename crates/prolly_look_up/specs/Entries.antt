@@ -14,31 +14,34 @@ pub record IsLeaf (entries : List ℕ) (pairs : List Pair) : Type 0 where
   pub is : entries ≡ flat_map pair_spelling pairs
   pub lawful : AllByRecursion IsPair pairs
 
--- The entries that bytes hold, where a function tells the first one and another what is behind it:
--- so many at most, and all.
+-- The entries that bytes hold, so many at most, where a function tells the first one and another
+-- what is behind it.
 abbrev pub entries_up_to : {A : Type 0} → (List ℕ → A) → (List ℕ → List ℕ) → ℕ → List ℕ → List A
 entries_up_to first behind zero bytes = []
 entries_up_to first behind (suc n) [] = []
 entries_up_to first behind (suc n) (b ∷ bytes) =
     first (b ∷ bytes) ∷ entries_up_to first behind n (behind (b ∷ bytes))
 
+-- All entries that bytes hold, where two functions tell them so.
 abbrev pub entries_in : {A : Type 0} → (List ℕ → A) → (List ℕ → List ℕ) → List ℕ → List A
 entries_in first behind bytes = entries_up_to first behind (length bytes) bytes
 
--- The pair at the front of a leaf's entries, the entries behind it, and the pairs that they spell.
+-- The pair at the front of a leaf's entries.
 abbrev pub first_pair : List ℕ → Pair
 first_pair entries = record {
   key = take (key_length entries) (drop 2 entries);
   value = take (value_length entries) (drop (6 + key_length entries) entries);
 }
 
+-- The entries of a leaf behind the pair at their front.
 abbrev pub behind_pair : List ℕ → List ℕ
 behind_pair entries = drop (6 + key_length entries + value_length entries) entries
 
+-- The pairs that a leaf's entries spell.
 unfoldable pub pairs_in : List ℕ → List Pair
 pairs_in entries = entries_in first_pair behind_pair entries
 
--- The entries of a node, one child after another.
+-- The child at the front of a node's entries.
 abbrev pub first_child : Version → List ℕ → Child
 first_child version entries = record {
   key = take (key_length entries) (drop 2 entries);
@@ -46,9 +49,11 @@ first_child version entries = record {
   count = first_count version (drop (2 + key_length entries + 20) entries);
 }
 
+-- The entries of a node behind the child at their front.
 abbrev pub behind_child : Version → List ℕ → List ℕ
 behind_child version entries = drop (2 + key_length entries + tail_length version) entries
 
+-- The children that a node's entries spell.
 unfoldable pub children_in : Version → List ℕ → List Child
 children_in version entries = entries_in (first_child version) (behind_child version) entries
 
@@ -65,12 +70,13 @@ Holds version [] pairs = ⊥
 Holds version (zero ∷ entries) pairs = IsLeaf entries pairs
 Holds version (suc level ∷ entries) pairs = IsNode version entries pairs
 
--- Law: a chunk is bad where, behind lawful entries, there are bytes that no lawful entry begins.
+-- Law: no leaf has, behind lawful pairs, bytes that no lawful pair begins.
 abbrev pub NoLeaf : Type 0
 NoLeaf = (done pairs : List Pair) (rest : List ℕ) → AllByRecursion IsPair done → (rest ≡ [] → ⊥) →
     ((p : Pair) (x : List ℕ) → IsPair p → rest ≡ pair_spelling p ++ x → ⊥) →
     IsLeaf (flat_map pair_spelling done ++ rest) pairs → ⊥
 
+-- Law: no node has, behind lawful child entries, bytes that no lawful child entry begins.
 abbrev pub NoNode : Version → Type 0
 NoNode version = (done : List Child) (pairs : List Pair) (rest : List ℕ) →
     AllByRecursion IsChild done → (rest ≡ [] → ⊥) →

@@ -10,8 +10,10 @@ pub record SeenMet : Type 0 where
   pub reference : List ℕ
   pub set : KeySet
 
+-- A child in which keys are sought, as it is seen so.
 abbrev pub seen_met : Met Child → SeenMet
 seen_met met = record { number = met.number; reference = met.item.reference; set = met.set }
 
+-- A child that the code met, as it is seen so.
 abbrev pub met_of : ChildMet → SeenMet
 met_of met = record { number = met.number; reference = met.reference.0; set = set_of met.set }

@@ -65,6 +65,8 @@ pub record Met (A : Type 0) : Type 0 where
   pub item : A
   pub set : KeySet
 
+-- The things in which keys are sought: the first one, of this number, with its part of the set if
+-- it has one, and then the others.
 abbrev pub met_first : {A : Type 0} → ℕ → A → Option KeySet → List (Met A) → List (Met A)
 met_first number x None others = others
 met_first number x (Some part) others = record { number = number; item = x; set = part } ∷ others

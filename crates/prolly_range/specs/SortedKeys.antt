@@ -24,12 +24,13 @@ keys_up_to key keys = filter (λ k. not (is_lt (key_order key k))) keys
 abbrev pub keys_above : List ℕ → List (List ℕ) → List (List ℕ)
 keys_above key keys = filter (λ k. is_lt (key_order key k)) keys
 
--- That keys rise is said in one way only.
+-- That keys rise from one on is said in one way only.
 RisingFrom-prop : (x : List ℕ) (keys : List (List ℕ)) → IsProp (RisingFrom x keys)
 RisingFrom-prop x [] = Unit-prop
 RisingFrom-prop x (k ∷ ks) = ×_prop {A = KeyBelow x k} {B = RisingFrom k ks} (Ordering-set (key_order x k) Less)
     (RisingFrom-prop k ks)
 
+-- That keys rise is said in one way only.
 pub Rising-prop : (keys : List (List ℕ)) → IsProp (Rising keys)
 Rising-prop [] = Unit-prop
 Rising-prop (k ∷ ks) = RisingFrom-prop k ks

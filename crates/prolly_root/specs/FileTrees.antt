@@ -7,10 +7,11 @@ use Rattle.prolly_entry.specs.declared.version.Version.{Version}
 use Rattle.prolly_tree.specs.Chunk.{post_order}
 use Rattle.prolly_tree.specs.Tree.{Tree, tree_of}
 
--- The level of the root of the content's tree, and the whole tree.
+-- The level of the root of the content's tree.
 abbrev pub root_level : Content → ℕ
 root_level content = (tree_of (sha512_cut content.bits) content.version content.pairs).level
 
+-- The whole tree of the content.
 abbrev pub root_tree : (content : Content) → Tree (root_level content)
 root_tree content = (tree_of (sha512_cut content.bits) content.version content.pairs).tree
 

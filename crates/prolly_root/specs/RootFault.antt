@@ -9,6 +9,7 @@ abbrev pub TellsFailure : ℕ → ℕ → RootFault → Type 0
 TellsFailure old new Read = new ≡ after_failure old
 TellsFailure old new fault = new ≡ old
 
+-- A call that gives a value met no failed call; one that gives a fault tells so whether it met one.
 abbrev pub TellsReads : {T : Type 0} → ℕ → ℕ → Result T RootFault → Type 0
 TellsReads old new (Ok value) = new ≡ old
 TellsReads old new (Err fault) = TellsFailure old new fault

@@ -183,7 +183,7 @@ pub record HasTold {S : Type 0} (goes_over : S → ChunkFile → Type 0) (failur
   pub goes_still : GoesOverStill goes_over old new
   pub told : TellsFailure (failures old) (failures new) fault
 
--- What a call tells of the source of the old tree, and of that of the new one.
+-- What a call tells of the source of the old tree.
 abbrev pub TellsOld : {S C : Type 0} → (S → ChunkFile → Type 0) → (S → ℕ) → S → S →
     Result C RootDiffFault → Type 0
 TellsOld goes_over failures old new (Ok given) = HasStill goes_over failures old new
@@ -191,6 +191,7 @@ TellsOld goes_over failures old new (Err (faults.Old fault)) =
     HasTold goes_over failures old new fault
 TellsOld goes_over failures old new (Err fault) = HasStill goes_over failures old new
 
+-- What a call tells of the source of the new tree.
 abbrev pub TellsNew : {S C : Type 0} → (S → ChunkFile → Type 0) → (S → ℕ) → S → S →
     Result C RootDiffFault → Type 0
 TellsNew goes_over failures old new (Ok given) = HasStill goes_over failures old new

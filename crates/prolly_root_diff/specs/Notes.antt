@@ -22,10 +22,11 @@ use Rattle.prolly_root_diff.specs.declared.notes.Notes.{Notes}
 
 -- ---- the chunks of each tree
 
--- The chunks of the old tree that are read on the way, and those of the new one.
+-- The chunks of the old tree that are read on the way.
 abbrev pub read_old : List Move → List (List ℕ)
 read_old way = read_by (old_steps way)
 
+-- The chunks of the new tree that are read on the way.
 abbrev pub read_new : List Move → List (List ℕ)
 read_new way = read_by (new_steps way)
 
@@ -51,10 +52,11 @@ AddsNew note (Some before) new = (after : Notes) × (new ≡ Some after) ×
     (after.old.items ≡ before.old.items) ×
     (after.new.items ≡ before.new.items ++ note ∷ [])
 
--- What a note says, and what it is to say of a chunk: the reference and the length.
+-- What a note says: a reference and a length.
 abbrev pub said_by : Note → List ℕ × ℕ
 said_by note = (note.reference.0, note.length)
 
+-- What a note of a chunk is to say: its reference and its length.
 abbrev pub said_of : List ℕ → List ℕ × ℕ
 said_of chunk = (reference_of chunk, length chunk)
 

@@ -9,6 +9,7 @@ unfoldable pub weight : ℕ → ℕ
 weight zero = 1
 weight (suc n) = 2 ^ 64 * weight n
 
+-- What subtrees that are due weigh in all.
 abbrev pub weights : List Due → ℕ
 weights [] = 0
 weights (d ∷ ds) = weight d.bound + weights ds

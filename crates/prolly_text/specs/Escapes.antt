@@ -37,11 +37,12 @@ shown_plain character =
     if is_hidden character then flat_map hex_escape (encode_utf8 character)
     else encode_utf8 character
 
--- A character: a backslash and its letter where it has one.
+-- A character whose letter this is: a backslash and the letter; or one that has no letter.
 abbrev pub shown_by : ℕ → Option ℕ → List ℕ
 shown_by character (Some letter) = 0x5C ∷ letter ∷ []
 shown_by character None = shown_plain character
 
+-- A character: a backslash and its letter where it has one, else as one that has none.
 abbrev pub shown_character : ℕ → List ℕ
 shown_character character = shown_by character (letter_of character)
 

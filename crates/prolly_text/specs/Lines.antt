@@ -64,13 +64,14 @@ pub record CutsAt (byte : ℕ) (line key_text change_text : List ℕ) : Type 0 w
 abbrev pub IsBadLine : LineForm → List ℕ → Type 0
 IsBadLine form line = (key : List ℕ) (change : Option (List ℕ)) → IsLineOf form line key change → ⊥
 
--- The line stands for a key that is too long; for a key that is not, and a value that is.
+-- The line stands for a key that is too long.
 pub record IsLongKeyLine (form : LineForm) (line : List ℕ) : Type 0 where
   pub key : List ℕ
   pub change : Option (List ℕ)
   pub is : IsLineOf form line key change
   pub over : 1024 < length key
 
+-- The line stands for a key that is not too long, and a value that is.
 pub record IsLongValueLine (form : LineForm) (line : List ℕ) : Type 0 where
   pub key : List ℕ
   pub value : List ℕ

@@ -75,10 +75,11 @@ MarksRemoval Text change = ⊥
 abbrev pub IsChangeOf : List ℕ → Option (List ℕ) → Record → Type 0
 IsChangeOf key change r = (r.key ≡ key) × (r.value ≡ change) × IsRecord r
 
--- The key is too long; or it is not, and the value is.
+-- The key is too long, and that is the flaw.
 abbrev pub IsLongKey : List ℕ → LineFlaw → Type 0
 IsLongKey key flaw = (flaw ≡ flaws.KeyTooLong) × (1024 < length key)
 
+-- The key is too long, or it is not and the value is; and that is the flaw.
 abbrev pub IsLongPair : List ℕ → List ℕ → LineFlaw → Type 0
 IsLongPair key value flaw = IsLongKey key flaw
     ⊎ ((flaw ≡ flaws.ValueTooLong) × (length key ≤ 1024) × (65536 < length value))
@@ -88,6 +89,7 @@ abbrev pub LinesAreShort : Type 0
 LinesAreShort = (form : LineForm) (line : List ℕ) (r : Record) → StandsFor form line r →
     length line ≤ LINE_LIMIT
 
+-- The key of a change is too long, or it is not and the value that is put is; and that is the flaw.
 abbrev pub IsLongChange : List ℕ → Option (List ℕ) → LineFlaw → Type 0
 IsLongChange key None flaw = IsLongKey key flaw
 IsLongChange key (Some value) flaw = IsLongPair key value flaw

@@ -64,11 +64,12 @@ begun_chunks cut version m = closed_post_order cut version (tree_of cut version 
 abbrev pub FewChunks : Cut → Version → Type 0
 FewChunks cut version = (m : List Pair) → length (chunks cut version m) ≤ 3 * length m + 1
 
--- Law: the chunks of a map are all different as bytes.
+-- The chunks of the list are all different as bytes.
 abbrev pub AllDiffer : List Chunk → Type 0
 AllDiffer [] = Unit {0}
 AllDiffer (c ∷ cs) = AllByRecursion (λ d. c.bytes ≡ d.bytes → ⊥) cs × AllDiffer cs
 
+-- Law: the chunks of a map are all different as bytes.
 abbrev pub ChunksDiffer : Cut → Version → Type 0
 ChunksDiffer cut version = (m : List Pair) → AllByRecursion IsPair m → Rising (map (λ p. p.key) m) →
     AllDiffer (chunks cut version m)

@@ -32,14 +32,17 @@ event_entry version event = child_spelling version event.key (reference_of event
 abbrev pub event_is_boundary : Cut → Version → Chunk → Bool
 event_is_boundary cut version event = cut.is_boundary (event_entry version event)
 
+-- The key of the last event; the empty key where there is none.
 abbrev pub last_event_key : List Chunk → List ℕ
 last_event_key [] = []
 last_event_key (e ∷ []) = e.key
 last_event_key (e ∷ f ∷ es) = last_event_key (f ∷ es)
 
+-- The greatest count that eight bytes spell.
 abbrev pub greatest_count : ℕ
 greatest_count = 0xFFFF_FFFF_FFFF_FFFF
 
+-- The sum of the counts of events.
 abbrev pub count_sum : List Chunk → ℕ
 count_sum [] = 0
 count_sum (e ∷ es) = e.count + count_sum es
@@ -54,10 +57,11 @@ group_event version level group = record {
   bytes = level ∷ flat_map (event_entry version) group;
 }
 
+-- The event is one of this level.
 abbrev pub has_level : ℕ → Chunk → Bool
 has_level level event = event.level == level
 
--- The events up to, and with, number n of a level; and the events beyond it.
+-- The events up to, and with, number n of a level, counted from 1; all where there is no such one.
 abbrev pub events_through : ℕ → ℕ → List Chunk → List Chunk
 events_through level zero events = []
 events_through level (suc n) [] = []
@@ -66,6 +70,7 @@ events_through level (suc n) (e ∷ es) = elim (has_level level e) [
   | false ↦ e ∷ events_through level (suc n) es
 ]
 
+-- The events beyond number n of a level, counted from 1.
 abbrev pub events_beyond : ℕ → ℕ → List Chunk → List Chunk
 events_beyond level zero events = events
 events_beyond level (suc n) [] = []

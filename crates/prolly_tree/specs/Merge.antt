@@ -18,6 +18,7 @@ pub record Stop (Fault : Type 0) : Type 0 where
   pub position : Position
   pub fault : Fault
 
+-- The fault of an input at this position; none where its end is clean.
 abbrev pub stop_at : {Fault : Type 0} → Position → Option Fault → Option (Stop Fault)
 stop_at position None = None
 stop_at position (Some fault) = Some (record { position = position; fault = fault })

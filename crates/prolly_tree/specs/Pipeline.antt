@@ -17,11 +17,12 @@ pipeline_events zero cut version closing pairs = leaf_events cut version closing
 pipeline_events (suc n) cut version closing pairs =
     inner_events (suc n) cut version closing (pipeline_events n cut version closing pairs)
 
--- The chunks up to, and without, the first of a level; and the second.
+-- The chunks up to, and without, the first of a level.
 abbrev pub before_first : ℕ → List Chunk → List Chunk
 before_first level [] = []
 before_first level (e ∷ es) = if has_level level e then [] else e ∷ before_first level es
 
+-- The chunks up to, and without, the second of a level.
 abbrev pub before_second : ℕ → List Chunk → List Chunk
 before_second level [] = []
 before_second level (e ∷ es) = e ∷ (if has_level level e then before_first level es else

@@ -14,6 +14,7 @@ last_passes test (x ∷ y ∷ ys) = last_passes test (y ∷ ys)
 abbrev pub is_closed : {A : Type 0} → (A → Bool) → ℕ → List A → Bool
 is_closed test least group = nat_le least (length group) && last_passes test group
 
+-- Each element but the last one is such.
 abbrev pub AllButLast : {A : Type 0} → (A → Type 0) → List A → Type 0
 AllButLast P [] = Unit {0}
 AllButLast P (x ∷ []) = Unit {0}
@@ -36,6 +37,7 @@ pub record IsSplit {A : Type 0} (test : A → Bool) (least : ℕ) (list : List A
 
 -- ---- The same as a list that computes.
 
+-- The groups with an element in front of the first one's; where there is no group, it is one alone.
 abbrev pub in_front : {A : Type 0} → A → List (List A) → List (List A)
 in_front x [] = (x ∷ []) ∷ []
 in_front x (group ∷ groups) = (x ∷ group) ∷ groups

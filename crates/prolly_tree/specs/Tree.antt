@@ -21,6 +21,7 @@ abbrev pub pairs_below : (level : ℕ) → Tree level → List Pair
 pairs_below zero leaf = leaf
 pairs_below (suc level) children = flat_map (pairs_below level) children
 
+-- The key of the last pair; the empty key where there is none.
 abbrev pub last_key : List Pair → List ℕ
 last_key [] = []
 last_key (p ∷ []) = p.key
@@ -48,19 +49,21 @@ child_entry version level child = child_spelling version
     (greatest_key level child) (reference_of (bytes_of version level child))
     (pair_count level child)
 
--- Which pairs are boundaries in a leaf, and which children in a node, by their entries.
+-- Which pairs are boundaries in a leaf, by their spellings.
 abbrev pub pair_is_boundary : Cut → Pair → Bool
 pair_is_boundary cut p = cut.is_boundary (pair_spelling p)
 
+-- Which children are boundaries in a node, by their entries.
 abbrev pub child_is_boundary : Cut → Version → (level : ℕ) → Tree level → Bool
 child_is_boundary cut version level child = cut.is_boundary (child_entry version level child)
 
--- The leaves of a map: one for each group of the split of its pairs with `least` 1; for the empty
--- map one leaf without pairs.
+-- The leaves that groups of pairs are: one for each; and where there is none, one without pairs.
 abbrev pub leaves_of : List (List Pair) → List (Tree 0)
 leaves_of [] = [] ∷ []
 leaves_of (leaf ∷ leaves) = leaf ∷ leaves
 
+-- The leaves of a map: one for each group of the split of its pairs with `least` 1; for the empty
+-- map one leaf without pairs.
 abbrev pub leaves : Cut → List Pair → List (Tree 0)
 leaves cut m = leaves_of (split (pair_is_boundary cut) 1 m)
 
@@ -83,6 +86,7 @@ grow_within zero cut version level (tree ∷ next ∷ trees) = record { level = 
 grow_within (suc steps) cut version level (tree ∷ next ∷ trees) =
     grow_within steps cut version (suc level) (nodes cut version level (tree ∷ next ∷ trees))
 
+-- What trees grow to, in as many steps as there are trees.
 unfoldable pub grow : Cut → Version → (level : ℕ) → List (Tree level) → LeveledTree
 grow cut version level trees = grow_within (length trees) cut version level trees
 
