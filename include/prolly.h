@@ -280,8 +280,8 @@ uint32_t prolly_diff_next(const uint8_t *old_bytes, size_t old_len, const prolly
  * `*at` behind it. A record file is such records one behind another, in the order of their keys.
  *
  * PROLLY_DONE: it is appended; it has 6 bytes beside key and value. PROLLY_NO_ROOM: the buffer has no
- * room for it. PROLLY_USAGE: the key has more than 1,024 bytes or the value more than 65,536. Where it
- * is not done, nothing is changed. */
+ * room for it. PROLLY_USAGE: the key has more than 1,024 bytes or the value more than 65,536, whatever
+ * room there is. Where it is not done, nothing is changed. */
 uint32_t prolly_record(const uint8_t *key, size_t key_len, const uint8_t *value, size_t value_len,
                        uint8_t *out, size_t room, size_t *at);
 
