@@ -2,11 +2,12 @@
 use Rattle.std.proofs.Common.{◌≡◌, ℕ, true, false, List, [], ◌∷◌, ◌++◌, Ordering, is_lt, refl, sym}
 use Rattle.std.proofs.Common.{ap, ◌∙◌, subst}
 use Rattle.std.proofs.lemmas.Bool.{false≢true}
+use Rattle.std.specs.Ordering.{ordering_then}
 use Rattle.std.specs.declared.cmp.Ordering.TheVariants.{Less, Equal, Greater}
 use Rattle.prolly_entry.specs.Keys.{KeyBelow, key_order, Rising}
 use Rattle.prolly_entry.specs.Overlay.{with_record, with_record_by, with_records}
 use Rattle.prolly_entry.specs.Record.{Record, keys_of}
-use Rattle.prolly_entry.specs.lemmas.Orders.{below_greater, greater_below, order_same, order_trans}
+use Rattle.prolly_entry.specs.lemmas.Orders.{below_greater, greater_below, order_self, order_trans}
 use Rattle.prolly_entry.specs.lemmas.RisingRecords.{AllAbove, IsRising, is_rising, rising_is}
 use Rattle.prolly_sort.specs.Overlaid.{overlaid}
 use Rattle.prolly_sort.proofs.Coming.{come_to, overlaid_rises}
@@ -83,6 +84,12 @@ equal_from x y h k = go (key_order x y) refl h
     go Equal e l = e
     go Greater e l = absurd (false≢true (sym k ∙ ap is_lt (greater_below x y e)))
 
+-- What does not come before another by its key and its number has no lesser key.
+pub before_below : (o r : Ordering) → is_lt (ordering_then o r) ≡ false → is_lt o ≡ false
+before_below Less r e = e
+before_below Equal r e = refl
+before_below Greater r e = refl
+
 -- Behind a record of a lower key, the next one comes behind all.
 pub kept_with_next : (records m : List Record) (s r : Record) → m ++ s ∷ [] ≡ overlaid records →
     is_lt (key_order s.key r.key) ≡ true →
@@ -95,13 +102,11 @@ kept_with_next records m s r e h =
 
 -- Behind a record of the same key, the next one takes its place.
 pub kept_in_its_place : (records m : List Record) (s r : Record) → m ++ s ∷ [] ≡ overlaid records →
-    is_lt (key_order s.key r.key) ≡ false → is_lt (key_order r.key s.key) ≡ false →
-    m ++ r ∷ [] ≡ overlaid (records ++ r ∷ [])
-kept_in_its_place records m s r e h k =
-    let same : key_order r.key s.key ≡ Equal = equal_from r.key s.key k h in
+    s.key ≡ r.key → m ++ r ∷ [] ≡ overlaid (records ++ r ∷ [])
+kept_in_its_place records m s r e same =
     sym (one_more records r ∙ ap (with_record r) (sym e) ∙
-    put_over r s m (subst (λ x. AllBelow x m) (sym (order_same r.key s.key same))
-    (below_last m s (rises_to_last records m s e))) same)
+    put_over r s m (subst (λ x. AllBelow x m) same (below_last m s (rises_to_last records m s e)))
+    (ap (key_order r.key) same ∙ order_self r.key))
 
 -- ---- keys that rise with one more
 

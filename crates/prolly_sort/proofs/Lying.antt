@@ -157,7 +157,7 @@ records_with bytes places number r h =
 -- A run holds one record more.
 pub held_more : (bytes : List ℕ) (places : List Place) (is_rising rises : Bool) (budget : ℕ)
     (r : Record) → IsHeld bytes places is_rising budget → IsRecord r →
-    length bytes + 48 * length places + (48 + length (record_spelling r)) ≤ budget →
+    length bytes + 24 * length places + (24 + length (record_spelling r)) ≤ budget →
     ((rises ≡ true) ↔ Rising (keys_of (records_in bytes places ++ r ∷ []))) →
     IsHeld (bytes ++ record_spelling r)
     (places ++ place_of (length places) (length bytes) (length (bytes ++ record_spelling r)) r ∷ [])
@@ -199,7 +199,7 @@ module _ (bytes all : List ℕ) (places more : List Place) (place : Place) (numb
   more_is = pushed ∙ ap (λ p. places ++ p ∷ []) place_is
 
   pub held_pushed : (is_rising rises : Bool) (budget : ℕ) → IsHeld bytes places is_rising budget →
-      IsRecord r → length bytes + 48 * length places + (48 + length (record_spelling r)) ≤ budget →
+      IsRecord r → length bytes + 24 * length places + (24 + length (record_spelling r)) ≤ budget →
       ((rises ≡ true) ↔ Rising (keys_of (records_in bytes places ++ r ∷ []))) →
       IsHeld all more rises budget
   held_pushed is_rising rises budget h lawful room rising =

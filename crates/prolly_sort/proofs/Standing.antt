@@ -1,6 +1,6 @@
 -- Places in the order of their keys and numbers: those of one key stand in the order in which they came.
 use Rattle.std.proofs.Common.{◌≡◌, ℕ, zero, suc, ◌+◌, ◌<◌, ◌≤◌, Bool, true, false, cond, List, []}
-use Rattle.std.proofs.Common.{◌∷◌, All, IsPermutation, Ordering, filter, get_or, is_lt, nat_eq}
+use Rattle.std.proofs.Common.{◌∷◌, All, IsPermutation, filter, get_or, is_lt, nat_eq}
 use Rattle.std.proofs.Common.{sum_by, refl, sym, ap, ◌∙◌, arith}
 use Rattle.std.proofs.lemmas.Bool.Decides.{Decides-eqb}
 use Rattle.std.proofs.lemmas.Cmp.{nat_cmp_total, nat_list_cmp_total, on_total, then_total}
@@ -13,7 +13,6 @@ use Rattle.std.specs.Cmp.{IsStrictWeakOrder}
 use Rattle.std.specs.List.{AllPairs}
 use Rattle.std.specs.List.Sorted.{IsStableBy, ties}
 use Rattle.std.specs.Ordering.{nat_cmp, ordering_then}
-use Rattle.std.specs.declared.cmp.Ordering.TheVariants.{Less, Equal, Greater}
 use Rattle.prolly_entry.specs.Keys.{key_order}
 use Rattle.prolly_entry.specs.lemmas.Orders.{eq_true, order_same, order_self}
 use Rattle.prolly_sort.specs.declared.place.Place.{Place}
@@ -27,12 +26,6 @@ use Rattle.prolly_sort.proofs.Sorting.{tied_equal}
 pub places_ordered : (bytes : List ℕ) → IsStrictWeakOrder (comes_before bytes)
 places_ordered bytes = ranks_by (then_total (on_total (key_in bytes) nat_list_cmp_total)
     (on_total (λ (p : Place). p.number) nat_cmp_total)) (λ (p : Place). p)
-
--- A place that does not come before another has no lesser key.
-pub before_below : (o r : Ordering) → is_lt (ordering_then o r) ≡ false → is_lt o ≡ false
-before_below Less r e = e
-before_below Equal r e = refl
-before_below Greater r e = refl
 
 -- ---- numbers that do not fall
 

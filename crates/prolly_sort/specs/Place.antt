@@ -1,9 +1,9 @@
 -- Where a record lies among the bytes of a run.
-use Rattle.std.specs.Prelude.{◌≡◌, ℕ, zero, suc, ◌+◌, ◌*◌, ◌^◌, ◌<◌, ◌≤◌, nat_lt, Bool, false, List, []}
-use Rattle.std.specs.Prelude.{◌∷◌, ◌++◌, All, drop, length, map, Option, Some, None, is_some, slice_range}
+use Rattle.std.specs.Prelude.{◌≡◌, ℕ, zero, suc, ◌+◌, ◌*◌, ◌^◌, ◌<◌, ◌≤◌, nat_eq, nat_lt, Bool, ◌&&◌, false, List, []}
+use Rattle.std.specs.Prelude.{◌∷◌, All, drop, length, map, Option, Some, None, is_some, slice_range}
 use Rattle.std.specs.Prelude.{if◌then◌else◌, IsPermutation, slice_index_or}
 use Rattle.std.specs.List.{AllPairs}
-use Rattle.std.specs.Ordering.{is_lt, nat_cmp, ordering_then}
+use Rattle.std.specs.Ordering.{is_eq, is_lt, nat_cmp, ordering_then}
 use Rattle.std.specs.declared.cmp.Ordering.{Ordering}
 use Rattle.prolly_entry.specs.Keys.{key_order}
 use Rattle.prolly_entry.specs.Prefix.{IsPrefix}
@@ -100,6 +100,11 @@ comes_before bytes p q = is_lt (place_order bytes p q)
 abbrev pub is_below : List ℕ → Place → Place → Bool
 is_below bytes p q = is_lt (key_order (key_in bytes p) (key_in bytes q))
 
+-- The two places have one key, and are ranked alike.
+abbrev pub have_one_key : List ℕ → Place → Place → Bool
+have_one_key bytes p q =
+    nat_eq p.prefix q.prefix && is_eq (key_order (key_in bytes p) (key_in bytes q))
+
 -- The other place does not come before the one, and is ranked alike where they have one key.
 pub record Precedes (bytes : List ℕ) (p q : Place) : Type 0 where
   pub order : comes_before bytes q p ≡ false
@@ -120,8 +125,3 @@ place_of number start stop r = record {
   key_len = length r.key;
   is_put = is_some r.value;
 }
-
--- A place is kept behind others where the next one's key is greater.
-abbrev pub kept_before : List ℕ → List Place → Place → Place → List Place
-kept_before bytes kept place next =
-    if is_below bytes place next then kept ++ place ∷ [] else kept

@@ -24,9 +24,9 @@ new_run budget = record { records = []; budget = budget }
 abbrev pub with_more : Held → Record → Held
 with_more held r = record { records = held.records ++ r ∷ []; budget = held.budget }
 
--- How much of a budget records take: their record file, and 48 bytes for each.
+-- How much of a budget records take: their record file, and 24 bytes for each.
 abbrev pub cost_of : List Record → ℕ
-cost_of records = length (written records) + 48 * length records
+cost_of records = length (written records) + 24 * length records
 
 -- The numbers of the places go up by one, from this one on.
 abbrev pub NumberedFrom : ℕ → List Place → Type 0
@@ -41,7 +41,7 @@ pub record IsHeld (bytes : List ℕ) (places : List Place) (is_rising : Bool) (b
     pub spelled : bytes ≡ written (records_in bytes places)
     pub numbered : NumberedFrom zero places
     pub rising : (is_rising ≡ true) ↔ Rising (keys_of (records_in bytes places))
-    pub within : length bytes + 48 * length places ≤ budget
+    pub within : length bytes + 24 * length places ≤ budget
     pub limit : budget ≤ 0xFFFF_FFFF
 
 -- The record of the one number and that of the other one, a later one, have one key.

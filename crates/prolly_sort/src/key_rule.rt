@@ -8,7 +8,6 @@ ghost use Rattle.prolly_sort.specs.Told.{AreTold, CountUpFrom, IsToldOf, Obeys, 
 use crate::fault::{DoubledKey, SorterFault};
 use crate::run::Run;
 use crate::sorted_run::SortedRun;
-use std::alloc::Global;
 
 /// What comes of a key that comes twice.
 #[derive(Clone, Copy)]
@@ -22,14 +21,14 @@ pub(crate) enum KeyRule {
 impl KeyRule {
     /// Puts a run in order. Its first record carries the number `before`, where records carry
     /// numbers.
-    pub(crate) fn sort(self, alloc: Global, run: Run, before: u64) -> Result<SortedRun, SorterFault>
+    pub(crate) fn sort(self, run: Run, before: u64) -> Result<SortedRun, SorterFault>
         ensures records { IfOk result (λ sorted. sorted ≡ overlaid run.records) }
         ensures obeys { IfOk result (λ _. Obeys self run.records) }
         ensures told { IfErr result (IsToldOf self (λ a b. CountUpFrom before run.records →
             before + length run.records ≤ 0xFFFF_FFFF_FFFF_FFFF → AreTold run.records a b)) }
     {
         match self {
-            KeyRule::LastCounts => Ok(run.sort(alloc)?),
+            KeyRule::LastCounts => Ok(run.sort()),
             KeyRule::Unique => match run.sort_unique() {
                 Ok(sorted) => Ok(sorted),
                 Err(fault) => Err(fault_behind(fault, before)),

@@ -135,7 +135,7 @@ impl<W: Sink + Drop, S: Source + Drop> Pile<W, S> {
     {
         let run = mem::replace(&mut self.run, Run::new(self.alloc, self.budget));
         let before = self.count.saturating_sub(run.len() as u64);
-        self.rule.sort(self.alloc, run, before)
+        self.rule.sort(run, before)
     }
 
     /// The record file of all records that came, in order: of those with one key the last one.

@@ -1,7 +1,7 @@
 //! Where a record lies among the bytes of a run.
 ghost use Rattle.std.specs.Prelude.{◌≡◌, slice_range};
 ghost use Rattle.std.specs.Option.{option_copied};
-ghost use Rattle.prolly_sort.specs.Place.{Precedes, StandsIn, is_below, key_in, place_order, prefix_of, value_in};
+ghost use Rattle.prolly_sort.specs.Place.{StandsIn, have_one_key, key_in, place_order, prefix_of, value_in};
 
 use prolly_entry::{KEY_START, key_order};
 use std::cmp::Ordering;
@@ -85,10 +85,10 @@ pub(crate) fn place_order(bytes: &[u8], one: Place, other: Place) -> Ordering
     key_order(one.key(bytes), other.key(bytes)).then(one.number.cmp(&other.number))
 }
 
-/// Whether the one place's key is less than that of the next one, of places in order.
-pub(crate) fn is_below(bytes: &[u8], one: Place, next: Place) -> bool
-    requires { Precedes bytes.now one next }
-    ensures { result ≡ is_below bytes.now one next }
+/// Whether two places have one key. Behind a sort such places are ranked alike, so keys are compared
+/// only where the places are.
+pub(crate) fn have_one_key(bytes: &[u8], one: Place, other: Place) -> bool
+    ensures { result ≡ have_one_key bytes.now one other }
 {
-    one.prefix != next.prefix || key_order(one.key(bytes), next.key(bytes)).is_lt()
+    one.prefix == other.prefix && key_order(one.key(bytes), other.key(bytes)).is_eq()
 }

@@ -6,21 +6,20 @@ ghost use Rattle.prolly_entry.specs.Spelling.{record_spelling};
 ghost use Rattle.prolly_sort.specs.Place.{place_of, records_in};
 
 use crate::fault::{DoubledKey, PushFault};
-use crate::order::{first_doubled, last_of_each, sort_places};
+use crate::order::{first_doubled, keep_last, sort_places};
 use crate::place::{LENGTHS_SIZE, Place};
 use crate::sorted_run::SortedRun;
 use prolly_entry::{Record, append_record, key_order};
-use std::alloc::{AllocError, Global};
+use std::alloc::Global;
 use std::marker::Model;
 
-/// How much of a budget a record takes beside its spelling: the 24 bytes of its place, and as many
-/// while the last place of each key is picked.
-const PLACE_COST: usize = 48;
+/// How much of a budget a record takes beside its spelling: the 24 bytes of its place.
+const PLACE_COST: usize = 24;
 
 /// Records in memory, in the order in which they came, up to a budget.
 ///
 /// Their spellings stand in one block of memory and their places in another, so a record takes no
-/// memory of its own. A record takes its spelling and 48 bytes of the budget. A block that is too
+/// memory of its own. A record takes its spelling and 24 bytes of the budget. A block that is too
 /// small is copied into one of twice its size, so for a moment a run takes up to three times its
 /// budget.
 #[derive(Drop)]
@@ -104,13 +103,11 @@ impl Run {
     /// Puts the records in the order of their keys, each key once: of records with one key the last
     /// one counts.
     ///
-    /// Where the keys rise ([`Run::is_rising`]) this takes neither time nor memory. Else it takes O(n
-    /// log n) comparisons, of eight bytes where these tell keys apart and else of keys, and memory
-    /// for one more table of places.
-    pub fn sort(self, alloc: Global) -> Result<SortedRun, AllocError>
-        ensures records { IfOk result (λ sorted. sorted ≡ overlaid self.records) }
-        ensures rising { IfOk result (λ sorted. Rising (keys_of sorted)) }
-        ensures at_once { OnErr result (Rising (keys_of self.records) → ⊥) }
+    /// It takes no memory, and no time where the keys rise ([`Run::is_rising`]). Else it takes O(n log
+    /// n) comparisons, of eight bytes where these tell keys apart and else of keys.
+    pub fn sort(self) -> SortedRun
+        ensures records { result ≡ overlaid self.records }
+        ensures rising { Rising (keys_of result) }
     {
         let Run {
             bytes,
@@ -119,14 +116,11 @@ impl Run {
             budget: _,
         } = self;
         if is_rising {
-            return Ok(SortedRun { bytes, places });
+            return SortedRun { bytes, places };
         }
         sort_places(&bytes, &mut places);
-        let kept = last_of_each(alloc, &bytes, &places)?;
-        Ok(SortedRun {
-            bytes,
-            places: kept,
-        })
+        keep_last(&bytes, &mut places);
+        SortedRun { bytes, places }
     }
 
     /// Puts the records in the order of their keys, where no key came twice. Else it answers two
@@ -163,8 +157,8 @@ impl Run {
 
 /// How much of a budget a record takes.
 fn cost(record: &Record) -> usize
-    ensures cost { result ≡ 48 + length (record_spelling «record».now) }
-    ensures few { result ≤ 66614 }
+    ensures cost { result ≡ 24 + length (record_spelling «record».now) }
+    ensures few { result ≤ 66590 }
     ensures lawful { IsRecord «record».now }
 {
     let key = record.key();

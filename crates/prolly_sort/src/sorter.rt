@@ -38,7 +38,7 @@ impl<W: Sink + Drop, S: Source + Drop> Sorter<W, S> {
     ghost use Rattle.prolly_sort.specs.Shelf.{CameTo, IsSortedFile, is_unique};
 
     /// No record came yet. The budget is that of a run, in bytes (see [`Run::new`]). A record that
-    /// takes more of it than all is told as want of memory: one takes 66,614 at most.
+    /// takes more of it than all is told as want of memory: one takes 66,590 at most.
     ///
     /// [`Run::new`]: crate::Run::new
     pub fn new(alloc: Global, budget: u32) -> Sorter<W, S>

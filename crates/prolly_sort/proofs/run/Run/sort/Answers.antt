@@ -14,22 +14,23 @@ returns-then-is_rising-clause-records c =
     (c.self.invariant.rising.0 c.if-is_rising.true)) ∙
     ap (λ (h : Held). overlaid h.records) c.self.view_is
 
-pub last_of_each-requires-clause-stand : goal.last_of_each-requires-clause-stand
-last_of_each-requires-clause-stand c =
-    rw (c.deref-2.ensures.value, c.deref-3.ensures.value)
+pub keep_last-requires-clause-stand : goal.keep_last-requires-clause-stand
+keep_last-requires-clause-stand c = rw c.deref-2.ensures.value
     (still_stand c.self.inside.bytes.items _ _ c.sort_places.ensures.same c.self.invariant.stand)
+
+pub keep_last-requires-clause-in_order : goal.keep_last-requires-clause-in_order
+keep_last-requires-clause-in_order c = rw c.deref-2.ensures.value
+    (rw c.deref.ensures.value at c.sort_places.ensures.in_order)
 
 pub returns-clause-records : goal.returns-clause-records
 returns-clause-records c =
     kept_come c.self.inside.bytes.items c.self.inside.places.items c.sort_places.new.places.items
     c.sort_places.ensures.same (rw c.deref.ensures.value at c.sort_places.ensures.stable)
-    c.in_ok-kept.kept.items
-    (rw (c.deref-2.ensures.value, c.deref-3.ensures.value) at c.in_ok-kept.ensures.records) ∙
+    c.keep_last.new.places.items (rw c.deref-2.ensures.value at c.keep_last.ensures.records) ∙
     ap (λ (h : Held). overlaid h.records) c.self.view_is
 
 pub returns-clause-rising : goal.returns-clause-rising
 returns-clause-rising c =
     kept_rises c.self.inside.bytes.items c.self.inside.places.items c.sort_places.new.places.items
     c.sort_places.ensures.same (rw c.deref.ensures.value at c.sort_places.ensures.stable)
-    c.in_ok-kept.kept.items
-    (rw (c.deref-2.ensures.value, c.deref-3.ensures.value) at c.in_ok-kept.ensures.records)
+    c.keep_last.new.places.items (rw c.deref-2.ensures.value at c.keep_last.ensures.records)

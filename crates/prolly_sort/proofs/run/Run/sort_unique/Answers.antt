@@ -16,6 +16,10 @@ returns-then-is_rising-clause-records c =
     (c.self.invariant.rising.0 c.if-is_rising.true)) ∙
     ap (λ (h : Held). overlaid h.records) c.self.view_is
 
+pub first_doubled-requires : goal.first_doubled-requires
+first_doubled-requires c = rw (c.deref-2.ensures.value, c.deref-3.ensures.value)
+    (rw c.deref.ensures.value at c.sort_places.ensures.in_order)
+
 pub invariant_of-result-in-None : goal.invariant_of-result-in-None
 invariant_of-result-in-None c =
     still_stand c.self.inside.bytes.items _ _ c.sort_places.ensures.same c.self.invariant.stand
