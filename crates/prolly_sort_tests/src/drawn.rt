@@ -104,7 +104,7 @@ fn expect_drawn(rt: &impl Abort, alloc: Global, front: &[u8], seed: u64) -> Resu
     for _ in 0..drawn.below(100) {
         run.push(&drawn.record(alloc, front, &mut last)?)?;
     }
-    let sorted = run.sort(alloc)?;
+    let sorted = run.sort();
     expect_bytes(
         rt,
         file_of(alloc, &sorted)?.taken(),
@@ -132,7 +132,7 @@ fn expect_sorted(
 ) -> Result<(), Fail> {
     let mut drawn = Drawn { state: seed };
     let mut files = Files::new(alloc, Failing::Nothing);
-    let mut sorter = Sorter::new(alloc, 84 + drawn.below(400) as u32);
+    let mut sorter = Sorter::new(alloc, 60 + drawn.below(400) as u32);
     let mut last = [None; 12];
     for _ in 0..drawn.below(200) {
         let record = drawn.record(alloc, front, &mut last)?;

@@ -41,12 +41,11 @@ fn falling(rt: &impl Abort, alloc: Global) -> Result<Run, Fail> {
 }
 
 #[test]
-fn a_run_is_put_in_order_or_wants_memory(rt: HostRuntime) -> Result<(), Fail> {
-    if let Ok(sorted) = falling(&rt, rt.alloc())?.sort(rt.alloc()) {
-        expect_eq(&rt, &sorted.len(), &40);
-        expect_eq(&rt, &sorted.get(0), &Some((&[60], Some(&[39]))));
-        expect_eq(&rt, &sorted.get(20), &Some((&[80], None)));
-    }
+fn a_run_is_put_in_order(rt: HostRuntime) -> Result<(), Fail> {
+    let sorted = falling(&rt, rt.alloc())?.sort();
+    expect_eq(&rt, &sorted.len(), &40);
+    expect_eq(&rt, &sorted.get(0), &Some((&[60], Some(&[39]))));
+    expect_eq(&rt, &sorted.get(20), &Some((&[80], None)));
     Ok(())
 }
 
@@ -60,16 +59,6 @@ fn a_key_that_came_twice_is_told(rt: HostRuntime) -> Result<(), Fail> {
         second: 40,
     };
     expect_eq(&rt, &two, &told);
-    Ok(())
-}
-
-#[test]
-fn keys_that_rise_take_no_memory_to_sort(rt: HostRuntime) -> Result<(), Fail> {
-    let mut run = Run::new(rt.alloc(), AMPLE);
-    for number in 0..40u8 {
-        push(&rt, &mut run, &record_of(rt.alloc(), &[number], Some(1))?);
-    }
-    expect_eq(&rt, &run.sort(rt.alloc()).is_ok(), &true);
     Ok(())
 }
 

@@ -57,7 +57,7 @@ const ORDERS: [&[(u8, u8)]; 4] = [
 #[test]
 fn the_last_record_of_a_key_counts(rt: HostRuntime) -> Result<(), Fail> {
     for records in &ORDERS {
-        let sorted = run_of(rt.alloc(), records)?.sort(rt.alloc())?;
+        let sorted = run_of(rt.alloc(), records)?.sort();
         expect_eq(&rt, &sorted.len(), &3);
         expect_bytes(&rt, file_of(rt.alloc(), &sorted)?.taken(), THREE);
     }
@@ -66,7 +66,7 @@ fn the_last_record_of_a_key_counts(rt: HostRuntime) -> Result<(), Fail> {
 
 #[test]
 fn records_are_given_by_their_numbers(rt: HostRuntime) -> Result<(), Fail> {
-    let sorted = run_of(rt.alloc(), &[(b'b', b'-'), (b'a', b'1'), (b'a', b'2')])?.sort(rt.alloc())?;
+    let sorted = run_of(rt.alloc(), &[(b'b', b'-'), (b'a', b'1'), (b'a', b'2')])?.sort();
     expect_eq(
         &rt,
         &sorted.get(0),
@@ -162,7 +162,7 @@ fn fronted_run(alloc: Global) -> Result<Run, Fail> {
 fn keys_with_one_front_are_put_in_order(rt: HostRuntime) -> Result<(), Fail> {
     let alloc = rt.alloc();
     for sorted in [
-        fronted_run(alloc)?.sort(alloc)?,
+        fronted_run(alloc)?.sort(),
         fronted_run(alloc)?.sort_unique()?,
     ] {
         expect_eq(&rt, &sorted.len(), &FRONTED.len());
@@ -193,7 +193,7 @@ fn a_front_that_came_twice_is_told(rt: HostRuntime) -> Result<(), Fail> {
     }
 }
 
-/// Pushes a=1 and then b=1, which take 56 bytes of the budget each, and compares the answers.
+/// Pushes a=1 and then b=1, which take 32 bytes of the budget each, and compares the answers.
 fn expect_pushed(
     rt: &impl Abort,
     alloc: Global,
@@ -214,16 +214,16 @@ fn expect_pushed(
 #[test]
 fn a_run_is_full_where_its_budget_ends(rt: HostRuntime) -> Result<(), Fail> {
     let full = Err(PushFault::Full);
-    expect_pushed(&rt, rt.alloc(), 112, [Ok(()), Ok(())])?;
-    expect_pushed(&rt, rt.alloc(), 111, [Ok(()), full])?;
-    expect_pushed(&rt, rt.alloc(), 56, [Ok(()), full])?;
-    expect_pushed(&rt, rt.alloc(), 55, [full, full])?;
+    expect_pushed(&rt, rt.alloc(), 64, [Ok(()), Ok(())])?;
+    expect_pushed(&rt, rt.alloc(), 63, [Ok(()), full])?;
+    expect_pushed(&rt, rt.alloc(), 32, [Ok(()), full])?;
+    expect_pushed(&rt, rt.alloc(), 31, [full, full])?;
     expect_pushed(&rt, rt.alloc(), 0, [full, full])
 }
 
 #[test]
 fn each_call_of_the_sink_may_fail(rt: HostRuntime) -> Result<(), Fail> {
-    let sorted = run_of(rt.alloc(), ORDERS[2])?.sort(rt.alloc())?;
+    let sorted = run_of(rt.alloc(), ORDERS[2])?.sort();
     for number in 1..8u64 {
         let mut sink = ScriptSink::new(rt.alloc(), 4, Some(number));
         expect_eq(&rt, &sorted.write_records(&mut sink), &Err(WriteFault));

@@ -11,10 +11,10 @@ use std::sync::Wait;
 use std::test::Fail;
 
 /// A budget that two records of [`records_at`] fill.
-pub(crate) const TWO_A_RUN: u32 = 114;
+pub(crate) const TWO_A_RUN: u32 = 66;
 
 /// One of which two records and two numbers fill a half each.
-pub(crate) const TWO_A_HALF: u32 = 256;
+pub(crate) const TWO_A_HALF: u32 = 160;
 
 /// Puts records in order.
 pub(crate) fn sorted<R: Wait>(
@@ -236,7 +236,7 @@ fn a_record_that_takes_more_than_the_budget_wants_memory(rt: HostRuntime) -> Res
     match sorted(
         &rt,
         &mut files,
-        Sorter::new(alloc, 56),
+        Sorter::new(alloc, 32),
         &records_at(alloc, &[7])?,
     ) {
         Ok(_) => return Err(Fail::from("the record was taken")),

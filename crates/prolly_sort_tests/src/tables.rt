@@ -57,7 +57,7 @@ fn tables_are_put_in_order(rt: HostRuntime) -> Result<(), Fail> {
     for table in TABLES {
         append_keys(alloc, &mut keys, table)?;
     }
-    expect_keys(&rt, &run.sort(alloc)?, &keys, b'2');
+    expect_keys(&rt, &run.sort(), &keys, b'2');
     Ok(())
 }
 
