@@ -43,13 +43,15 @@ pub(crate) fn sort_group(bytes: &[u8], places: &mut [Place], levels: u32)
     }
 }
 
-/// Puts places in that order by their whole keys. They are put in the order of their numbers first,
-/// so that places of one key are in order then.
+/// Puts places in that order by their whole keys. Many places are put in the order of their numbers
+/// first: where all of them have one key, they are in order then, and the other sort sees it at once.
 fn sort_by_keys(bytes: &[u8], places: &mut [Place])
     ensures same { IsPermutation places.old places.new }
     ensures sorted { IsSortedBy (comes_before bytes.now) places.new }
 {
-    places.sort_unstable_by_key(|place| place.number);
+    if places.len() > FEW {
+        places.sort_unstable_by_key(|place| place.number);
+    }
     places.sort_unstable_by(|one, other| place_order(bytes, *one, *other));
 }
 
