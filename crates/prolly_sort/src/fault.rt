@@ -46,9 +46,9 @@ impl From<AllocError> for PushFault {
 #[derive(Clone, Copy, Debug, PartialEq, Eq)]
 pub struct DoubledKey {
     /// The number of the earlier record. The first that came has number 0.
-    pub first: u32,
+    pub first: u64,
     /// The number of the later one.
-    pub second: u32,
+    pub second: u64,
 }
 
 impl Display for DoubledKey {
@@ -84,9 +84,11 @@ impl Display for SorterFault {
     fn fmt<W: fmt::Write>(&self, f: &mut Formatter<W>) -> fmt::Result {
         match self {
             SorterFault::Store(fault) => fault.fmt(f),
-            SorterFault::Doubled { first, second } => {
-                write!(f, "records {first} and {second} have one key")
+            SorterFault::Doubled { first, second } => DoubledKey {
+                first: *first,
+                second: *second,
             }
+            .fmt(f),
         }
     }
 }

@@ -42,7 +42,7 @@ fn fault_behind(fault: DoubledKey, before: u64) -> SorterFault
     ensures { result ≡ fault_behind before fault }
 {
     SorterFault::Doubled {
-        first: before.saturating_add(u64::from(fault.first)),
-        second: before.saturating_add(u64::from(fault.second)),
+        first: before.saturating_add(fault.first),
+        second: before.saturating_add(fault.second),
     }
 }

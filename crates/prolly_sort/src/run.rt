@@ -148,8 +148,8 @@ impl Run {
         match first_doubled(&bytes, &places) {
             None => Ok(SortedRun { bytes, places }),
             Some((one, next)) => Err(DoubledKey {
-                first: one.number,
-                second: next.number,
+                first: u64::from(one.number),
+                second: u64::from(next.number),
             }),
         }
     }

@@ -46,11 +46,12 @@ pub returns-in-Some-clause-doubled : goal.returns-in-Some-clause-doubled
 returns-in-Some-clause-doubled c =
     let one = c.in-Some.one in
     let next = c.in-Some.next in
-    subst (λ (h : Held). AreDoubled h.records one.number next.number) c.self.view_is
+    rw (c.from.ensures, c.from-in-Some.ensures)
+    (subst (λ (h : Held). AreDoubled h.records one.number next.number) c.self.view_is
     (doubled_same c.self.inside.bytes.items c.self.inside.places.items
     c.sort_places.new.places.items c.sort_places.ensures.same one next c.self.invariant.numbered
     (rw c.deref.ensures.value at c.sort_places.ensures.stable)
-    (rw (c.deref-2.ensures.value, c.deref-3.ensures.value) at c.in-Some.ensures.some))
+    (rw (c.deref-2.ensures.value, c.deref-3.ensures.value) at c.in-Some.ensures.some)))
 
 pub returns-then-is_rising-clause-apart : goal.returns-then-is_rising-clause-apart
 returns-then-is_rising-clause-apart c = λ first second two.
