@@ -79,9 +79,7 @@ fn readers_of<S: Source + Drop>(
     let mut readers = Vec::with_capacity(alloc, runs.len())?;
     for run in runs {
         let reader = RecordReader::new(alloc, 0, run.file, MOST_RECORDS)?;
-        if let Err(_) = readers.push(reader) {
-            return Err(AllocError);
-        }
+        readers.push(reader)?;
     }
     Ok(readers)
 }

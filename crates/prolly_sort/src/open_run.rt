@@ -12,7 +12,7 @@ use crate::sorted_file::SortedFile;
 use crate::sorted_run::SortedRun;
 use crate::store::StoreFault;
 use prolly_entry::key_rises;
-use prolly_io::{Sink, WriteFault};
+use prolly_io::Sink;
 use std::alloc::{AllocError, Global};
 
 /// A run in the file that is being written. Records whose keys are greater go behind it.
@@ -58,10 +58,7 @@ impl<W: Sink> OpenRun<W> {
             OnOk result (HoldsOpen W.seen rule self.new (came ++ more) ×
             IsSettled (W.seen self.new.file)) }
     {
-        match sorted.write_records(&mut self.file) {
-            Ok(()) => {}
-            Err(WriteFault) => return Err(StoreFault::Write),
-        }
+        sorted.write_records(&mut self.file)?;
         let last_key = self.last_key.take();
         self.last_key = last_key_with(alloc, last_key, sorted)?;
         self.len = self.len.saturating_add(sorted.len() as u64);

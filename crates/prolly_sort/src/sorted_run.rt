@@ -85,9 +85,7 @@ impl SortedRun {
         for place in &self.places {
             write_all(sink, place.spelling(&self.bytes))?;
         }
-        match sink.flush() {
-            Ok(()) => Ok(()),
-            Err(_) => Err(WriteFault),
-        }
+        sink.flush()?;
+        Ok(())
     }
 }

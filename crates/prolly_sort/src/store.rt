@@ -2,7 +2,7 @@
 ghost use Rattle.std.specs.Prelude.{◌≡◌, [], true, Bool, IfOk};
 ghost use Rattle.prolly_io.specs.Sink.{IsSettled};
 
-use prolly_io::{Sink, Source};
+use prolly_io::{Sink, Source, WriteFault};
 use std::alloc::AllocError;
 use std::error::Error;
 use std::fmt;
@@ -50,6 +50,16 @@ impl From<AllocError> for StoreFault {
 
     fn from(_: AllocError) -> Self {
         StoreFault::Memory
+    }
+}
+
+impl From<WriteFault> for StoreFault {
+    ghost use Rattle.prolly_sort.specs.declared.store.StoreFault.TheVariants.{Write};
+
+    ghost from_gives = { λ _ fault. fault ≡ Write };
+
+    fn from(_: WriteFault) -> Self {
+        StoreFault::Write
     }
 }
 

@@ -11,7 +11,7 @@ most = 0xFFFF_FFFF_FFFF_FFFF
 
 pub returns : goal.returns
 returns g c = λ rule came more h s rising obeys.
-    let w = c.in-Ok.ensures.writes in (
+    let w = c.in_ok-write_records.ensures.writes in (
       record {
         holds = record {
           keeping = w.keeping h.holds.keeping;
@@ -30,5 +30,5 @@ returns g c = λ rule came more h s rising obeys.
             sym (ap last_position (stands_behind came more rising));
         obeys = both_obey rule came more rising h.obeys obeys;
       },
-      c.in-Ok.ensures.settled,
+      c.in_ok-write_records.ensures.settled,
     )
