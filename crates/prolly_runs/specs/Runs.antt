@@ -14,32 +14,30 @@ use Rattle.prolly_build.specs.Config.{Settings}
 use Rattle.prolly_build.specs.GivenBack.{IsGivenBack}
 use Rattle.prolly_build.specs.Outcome.{IsOutcome}
 use Rattle.prolly_runs.specs.Apply.{ShowsApply}
-use Rattle.prolly_runs.specs.Build.{ShowsBuild}
 use Rattle.prolly_fault.specs.Flushes.{IsFlushedAs}
 use Rattle.prolly_fault.specs.declared.answer.Answer.{Answer}
 use Rattle.prolly_runs.specs.declared.held_back.HeldBack.{HeldBack}
 use Rattle.prolly_runs.specs.declared.held_back.HeldBack.TheVariants.{Lost}
 
--- What is told of a build behind which the flush failed: a tree that was made, or that is too tall,
--- is told as a failed write, and any other fault as it is.
-abbrev pub unbuilt : Result Report RunFault → Result Report RunFault
-unbuilt (Ok report) = Err Write
-unbuilt (Err TooTall) = Err Write
-unbuilt (Err fault) = Err fault
+-- What a build came to, as a run over an old tree would come to it.
+abbrev pub of_build : Result Report RunFault → Result Report ApplyFault
+of_build (Ok report) = Ok report
+of_build (Err fault) = Err (Run fault)
 
--- The same of changes that were applied.
-abbrev pub unapplied : Result Report ApplyFault → Result Report ApplyFault
-unapplied (Ok report) = Err (Run Write)
-unapplied (Err (Run TooTall)) = Err (Run Write)
-unapplied (Err fault) = Err fault
+-- What is told of a run behind which the flush failed: a tree that was made, or that is too tall, is
+-- told as a failed write, and any other fault as it is.
+abbrev pub unflushed : Result Report ApplyFault → Result Report ApplyFault
+unflushed (Ok report) = Err (Run Write)
+unflushed (Err (Run TooTall)) = Err (Run Write)
+unflushed (Err fault) = Err fault
 
 -- What is told of a run, and what became of the sink behind it. Where the run made no tree, and what
 -- the sink holds back is to be lost then, the run's fault is told, and the sink is as it was. Else the
 -- sink was flushed, and of a flush that failed that is told which `unflushed` makes of the outcome.
-abbrev pub IsToldBehind : {W T F : Type 0} → (W → SinkView) → (Result T F → Result T F) → HeldBack →
-    W → W → Result T F → Result T F → Type 0
-IsToldBehind sees unflushed Lost old new (Err fault) told = (told ≡ Err fault) × (new ≡ old)
-IsToldBehind sees unflushed held_back old new came told =
+abbrev pub IsToldBehind : {W : Type 0} → (W → SinkView) → HeldBack → W → W →
+    Result Report ApplyFault → Result Report ApplyFault → Type 0
+IsToldBehind sees Lost old new (Err fault) told = (told ≡ Err fault) × (new ≡ old)
+IsToldBehind sees held_back old new came told =
     IsFlushedAs sees (unflushed came) old new came told
 
 module _ {S W : Type 0} (seen : S → SourceView) (sees : W → SinkView) where
@@ -51,9 +49,9 @@ module _ {S W : Type 0} (seen : S → SourceView) (sees : W → SinkView) where
     pub mid : W
     pub outcome : IsOutcome seen settings before after (sees old) (sees mid) (mid ≡ old) built
     pub too_many : (built ≡ Err TooManyFiles) ↔ (16 < count)
-    pub told : Result Report RunFault
-    pub tells : IsToldBehind sees unbuilt held_back mid new built told
-    pub shows : IfOk result (λ answer. ShowsBuild answer told)
+    pub told : Result Report ApplyFault
+    pub tells : IsToldBehind sees held_back mid new (of_build built) told
+    pub shows : IfOk result (λ answer. ShowsApply answer told)
 
   -- What `apply` answers, over the source of an old tree, so many sources of changes, and a sink.
   -- `goes_over` says which chunk files the old tree's source goes over, and `failures` how many of its
@@ -69,5 +67,5 @@ module _ {S W : Type 0} (seen : S → SourceView) (sees : W → SinkView) where
     pub given_back : IsGivenBack goes_over failures source given applied
     pub too_many : (applied ≡ Err (Run TooManyFiles)) ↔ (15 < count)
     pub told : Result Report ApplyFault
-    pub tells : IsToldBehind sees unapplied held_back mid new applied told
+    pub tells : IsToldBehind sees held_back mid new applied told
     pub shows : IfOk result (λ answer. ShowsApply answer told)

@@ -2,10 +2,8 @@
 //! sink behind it, and what is told of both.
 ghost use Rattle.std.specs.Prelude.{vec_len};
 ghost use Rattle.prolly_runs.specs.Runs.{AnswersApply, AnswersBuild, IsToldBehind};
-ghost use Rattle.prolly_runs.specs.Runs.{unapplied, unbuilt};
 
 use crate::applied::answer_apply;
-use crate::built::answer_build;
 use crate::held_back::HeldBack;
 use prolly_build::{ApplyFault, Config, Report, apply_changes, build};
 use prolly_entry::Ref;
@@ -35,25 +33,8 @@ pub fn answer_build_into<R: Wait + Threads + Sync, S: Source + Send + Drop, W: S
         sources.new.items sink.old sink.new result }
 {
     let built = build(rt, alloc, config, sources, sink, gate);
-    let told = built_told(sink, built, held_back);
-    answer_build(alloc, &told)
-}
-
-/// Gives what is told of a build, behind which the sink is flushed, or left alone.
-fn built_told<W: Sink>(
-    sink: &mut W,
-    built: Result<Report, RunFault>,
-    held_back: HeldBack,
-) -> Result<Report, RunFault>
-    ensures { IsToldBehind W.seen unbuilt held_back sink.old sink.new built result }
-{
-    if built.is_err() && held_back == HeldBack::Lost {
-        return built;
-    }
-    match (built, sink.flush()) {
-        (Ok(_) | Err(RunFault::TooTall), Err(_)) => Err(RunFault::Write),
-        (built, _) => built,
-    }
+    let told = flush_behind(sink, built.map_err(ApplyFault::Run), held_back);
+    answer_apply(alloc, &told)
 }
 
 /// What `apply` answers over an old tree and files of changes that are open. It
@@ -83,25 +64,26 @@ where
         result }
 {
     let applied = apply_changes(rt, alloc, config, root, old, sources, sink, gate);
-    let told = applied_told(sink, applied.answer, held_back);
+    let told = flush_behind(sink, applied.answer, held_back);
     answer_apply(alloc, &told)
 }
 
-/// The same of a run over an old tree.
-fn applied_told<W: Sink>(
+/// Flushes the sink behind a run, or leaves it alone, and gives what is told of both. A build is told as
+/// a run over no old tree.
+fn flush_behind<W: Sink>(
     sink: &mut W,
-    applied: Result<Report, ApplyFault>,
+    outcome: Result<Report, ApplyFault>,
     held_back: HeldBack,
 ) -> Result<Report, ApplyFault>
-    ensures { IsToldBehind W.seen unapplied held_back sink.old sink.new applied result }
+    ensures { IsToldBehind W.seen held_back sink.old sink.new outcome result }
 {
-    if applied.is_err() && held_back == HeldBack::Lost {
-        return applied;
+    if outcome.is_err() && held_back == HeldBack::Lost {
+        return outcome;
     }
-    match (applied, sink.flush()) {
+    match (outcome, sink.flush()) {
         (Ok(_) | Err(ApplyFault::Run(RunFault::TooTall)), Err(_)) => {
             Err(ApplyFault::Run(RunFault::Write))
         }
-        (applied, _) => applied,
+        (outcome, _) => outcome,
     }
 }
