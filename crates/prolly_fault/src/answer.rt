@@ -6,14 +6,14 @@ ghost use Rattle.prolly_fault.specs.Answers.{ShowsFault, ShowsFileFault, ShowsFi
 use crate::fault::Fault;
 use crate::line::{append_named_fault, append_named_line};
 use crate::name_fault::NameFault;
+use crate::status;
 use prolly_text::append_name;
 use std::alloc::{AllocError, Global};
 
 /// What the program prints, and the status with which it ends.
 #[derive(Drop)]
 pub struct Answer {
-    /// 0 where the command is done; 1 where a look-up found nothing, `diff` found a change, or
-    /// `explain` a flaw; and else the status of the fault.
+    /// [`DONE`](status::DONE) or [`NOTHING`](status::NOTHING), or else the status of the fault.
     pub status: u8,
     /// For standard output; empty where the command is not done.
     pub out: Vec<u8>,
@@ -30,7 +30,7 @@ impl Answer {
         out.extend_from_slice(text)?;
         out.extend_from_slice(b"\n")?;
         Ok(Answer {
-            status: 0,
+            status: status::DONE,
             out,
             err: Vec::new(alloc),
         })
@@ -41,7 +41,7 @@ impl Answer {
         ensures { Shows result 0 lines.items [] }
     {
         Answer {
-            status: 0,
+            status: status::DONE,
             out: lines,
             err: Vec::new(alloc),
         }
@@ -52,7 +52,7 @@ impl Answer {
         ensures { ShowsDone result }
     {
         Answer {
-            status: 0,
+            status: status::DONE,
             out: Vec::new(alloc),
             err: Vec::new(alloc),
         }
@@ -63,7 +63,7 @@ impl Answer {
         ensures { ShowsNothing result }
     {
         Answer {
-            status: 1,
+            status: status::NOTHING,
             out: Vec::new(alloc),
             err: Vec::new(alloc),
         }
@@ -93,7 +93,7 @@ impl Answer {
         append_name(&mut line, name)?;
         line.extend_from_slice(b"\n")?;
         Ok(Answer {
-            status: 5,
+            status: status::FILES,
             out: Vec::new(alloc),
             err: line,
         })

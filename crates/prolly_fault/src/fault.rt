@@ -4,6 +4,7 @@ ghost use Rattle.prolly_fault.specs.Faults.{fault_text, check_status, root_statu
 ghost use Rattle.prolly_fault.specs.Faults.{fault_status, root_side_text, side_fault_text};
 ghost use Rattle.prolly_fault.specs.Faults.{store_status, stream_status};
 
+use crate::status;
 use prolly_check::{CheckFault, StreamFault};
 use prolly_io::SinkFault;
 use prolly_link::RunFault;
@@ -88,7 +89,7 @@ impl Fault {
         match self {
             Fault::Memory
             | Fault::Pack(LinesFault::Pack(PackFault::Memory))
-            | Fault::Keys(KeysFault::Memory) => 6,
+            | Fault::Keys(KeysFault::Memory) => status::RESOURCES,
             Fault::Run(fault) => run_status(fault),
             Fault::Store(fault) => store_status(fault),
             Fault::Pack(_)
@@ -97,7 +98,7 @@ impl Fault {
             | Fault::DoubledKey { .. }
             | Fault::Keys(_)
             | Fault::WrongBits
-            | Fault::OtherHeader => 3,
+            | Fault::OtherHeader => status::RECORDS,
             Fault::Check(fault) | Fault::CheckOld(fault) | Fault::CheckNew(fault) => {
                 check_status(fault)
             }
@@ -105,13 +106,13 @@ impl Fault {
             Fault::Root(fault) | Fault::RootOld(fault) | Fault::RootNew(fault) => {
                 root_status(fault)
             }
-            Fault::Proof(_) | Fault::NoCounts => 4,
-            Fault::Read | Fault::Write | Fault::InputTooLong | Fault::OutIsStdout => 5,
+            Fault::Proof(_) | Fault::NoCounts => status::CHUNKS,
+            Fault::Read | Fault::Write | Fault::InputTooLong | Fault::OutIsStdout => status::FILES,
             Fault::BadKey
             | Fault::BadTextKey
             | Fault::BadRoot
             | Fault::LoneRoot
-            | Fault::NotUnicode => 2,
+            | Fault::NotUnicode => status::WORDS,
         }
     }
 }
@@ -198,9 +199,9 @@ fn store_status(fault: StoreFault) -> u8
     ensures { result ≡ store_status fault }
 {
     match fault {
-        StoreFault::Memory => 6,
-        StoreFault::Make | StoreFault::Write | StoreFault::Read => 5,
-        StoreFault::TooMany => 3,
+        StoreFault::Memory => status::RESOURCES,
+        StoreFault::Make | StoreFault::Write | StoreFault::Read => status::FILES,
+        StoreFault::TooMany => status::RECORDS,
     }
 }
 
@@ -208,9 +209,9 @@ fn check_status(fault: CheckFault) -> u8
     ensures { result ≡ check_status fault }
 {
     match fault {
-        CheckFault::Memory => 6,
-        CheckFault::Read => 5,
-        _ => 4,
+        CheckFault::Memory => status::RESOURCES,
+        CheckFault::Read => status::FILES,
+        _ => status::CHUNKS,
     }
 }
 
@@ -219,7 +220,7 @@ fn stream_status(fault: StreamFault) -> u8
 {
     match fault {
         StreamFault::Check(fault) => check_status(fault),
-        _ => 4,
+        _ => status::CHUNKS,
     }
 }
 
@@ -227,9 +228,9 @@ fn root_status(fault: RootFault) -> u8
     ensures { result ≡ root_status fault }
 {
     match fault {
-        RootFault::Memory => 6,
-        RootFault::Read => 5,
-        _ => 4,
+        RootFault::Memory => status::RESOURCES,
+        RootFault::Read => status::FILES,
+        _ => status::CHUNKS,
     }
 }
 
@@ -242,10 +243,10 @@ fn run_status(fault: RunFault) -> u8
         | RunFault::ValueTooLong { .. }
         | RunFault::OutOfOrder { .. }
         | RunFault::TooManyRecords { .. }
-        | RunFault::TooManyFiles => 3,
-        RunFault::Read { .. } | RunFault::Write => 5,
-        RunFault::Memory | RunFault::NoThread | RunFault::Lost => 6,
-        RunFault::TooTall => 7,
+        | RunFault::TooManyFiles => status::RECORDS,
+        RunFault::Read { .. } | RunFault::Write => status::FILES,
+        RunFault::Memory | RunFault::NoThread | RunFault::Lost => status::RESOURCES,
+        RunFault::TooTall => status::TOO_TALL,
     }
 }
 

@@ -8,6 +8,7 @@ mod name_fault;
 mod output_fault;
 mod root_output_fault;
 mod set_fault;
+pub mod status;
 
 pub use answer::Answer;
 pub use fault::{Fault, INPUT_LIMIT};

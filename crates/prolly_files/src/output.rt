@@ -13,7 +13,7 @@ use crate::output::disk::{open_folder, sync};
 use crate::output::place::{Place, Replaced, Replacement};
 use crate::refusal::Refusal;
 pub use kind::{CHUNK_FILE_LETTERS, OutputKind};
-use prolly_fault::{Answer, Fault, NameFault};
+use prolly_fault::{Answer, Fault, NameFault, status};
 pub use run_files::{RunFile, RunFiles};
 use std::alloc::AllocError;
 use std::fs::File;
@@ -22,7 +22,7 @@ use std::{fs, io};
 pub use target::Target;
 
 /// The greatest status of a command that is done: by it `diff` says that the maps differ.
-const GREATEST_DONE: u8 = 1;
+const GREATEST_DONE: u8 = status::NOTHING;
 
 /// The file that a command writes: the one that the words name, or one beside it that is to replace
 /// it.

@@ -2,7 +2,7 @@
 ghost use Rattle.std.specs.Prelude.{IfOk};
 ghost use Rattle.prolly_runs.specs.Refusals.{ShowsRefusal};
 
-use prolly_fault::{Answer, Fault};
+use prolly_fault::{Answer, Fault, status};
 use prolly_line::ParseFault;
 use std::alloc::{AllocError, Global};
 
@@ -18,12 +18,12 @@ pub fn answer_refusal(alloc: Global, refusal: ParseFault) -> Result<Answer, Allo
         ParseFault::BadRoot => Answer::of_fault(alloc, Fault::BadRoot),
         ParseFault::LoneRoot => Answer::of_fault(alloc, Fault::LoneRoot),
         ParseFault::Usage(text) => Ok(Answer {
-            status: 2,
+            status: status::WORDS,
             out: Vec::new(alloc),
             err: text.into_bytes(),
         }),
         ParseFault::Help(text) => Ok(Answer {
-            status: 0,
+            status: status::DONE,
             out: text.into_bytes(),
             err: Vec::new(alloc),
         }),
