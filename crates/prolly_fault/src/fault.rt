@@ -1,8 +1,7 @@
 //! The faults of commands, each with its line and its status.
 ghost use Rattle.std.specs.Prelude.{◌≡◌, Some};
 ghost use Rattle.prolly_fault.specs.Faults.{fault_text, check_status, root_status, run_status};
-ghost use Rattle.prolly_fault.specs.Faults.{fault_status, root_side_text, side_fault_text};
-ghost use Rattle.prolly_fault.specs.Faults.{store_status, stream_status};
+ghost use Rattle.prolly_fault.specs.Faults.{fault_status, store_status, stream_status};
 
 use crate::status;
 use prolly_check::{CheckFault, StreamFault};
@@ -255,7 +254,11 @@ impl Display for Fault {
 
     fn fmt<W: fmt::Write>(&self, f: &mut Formatter<W>) -> fmt::Result {
         match self {
-            Fault::Memory => f.write_str("out of memory"),
+            Fault::Memory
+            | Fault::CheckOld(CheckFault::Memory)
+            | Fault::CheckNew(CheckFault::Memory)
+            | Fault::RootOld(RootFault::Memory)
+            | Fault::RootNew(RootFault::Memory) => f.write_str("out of memory"),
             Fault::Read => f.write_str("file 0: read failed"),
             Fault::Write => f.write_str("write failed"),
             Fault::Run(fault) => fault.fmt(f),
@@ -269,12 +272,12 @@ impl Display for Fault {
             Fault::Keys(fault) => fault.fmt(f),
             Fault::Check(fault) => fault.fmt(f),
             Fault::Stream(fault) => fault.fmt(f),
-            Fault::CheckOld(fault) => SideText("old ", *fault).fmt(f),
-            Fault::CheckNew(fault) => SideText("new ", *fault).fmt(f),
+            Fault::CheckOld(fault) => write!(f, "old {fault}"),
+            Fault::CheckNew(fault) => write!(f, "new {fault}"),
             Fault::Proof(fault) => fault.fmt(f),
             Fault::Root(fault) => fault.fmt(f),
-            Fault::RootOld(fault) => RootSideText("old ", *fault).fmt(f),
-            Fault::RootNew(fault) => RootSideText("new ", *fault).fmt(f),
+            Fault::RootOld(fault) => write!(f, "old {fault}"),
+            Fault::RootNew(fault) => write!(f, "new {fault}"),
             Fault::WrongBits => f.write_str("the bits are not those of the tree"),
             Fault::OtherHeader => f.write_str("OLD has other --bits or another --format"),
             Fault::NoCounts => f.write_str("chunk file: no counts"),
@@ -286,38 +289,5 @@ impl Display for Fault {
             Fault::NotUnicode => f.write_str("a word is not UTF-8"),
             Fault::OutIsStdout => f.write_str("OUT is also standard output"),
         }
-    }
-}
-
-/// Why one of two files is no lawful chunk file, to be shown: which of them, and then the fault.
-#[derive(Clone, Copy)]
-pub struct SideText<'a>(pub &'a str, pub CheckFault);
-
-impl Display for SideText<'_> {
-    ghost output = { λ shown. Some (side_fault_text shown.0.now shown.1) };
-
-    fn fmt<W: fmt::Write>(&self, f: &mut Formatter<W>) -> fmt::Result {
-        let SideText(side, fault) = *self;
-        if fault != CheckFault::Memory {
-            f.write_str(side)?;
-        }
-        fault.fmt(f)
-    }
-}
-
-/// Why one of two files has not the tree of its root, to be shown: which of them, and then the
-/// fault.
-#[derive(Clone, Copy)]
-pub struct RootSideText<'a>(pub &'a str, pub RootFault);
-
-impl Display for RootSideText<'_> {
-    ghost output = { λ shown. Some (root_side_text shown.0.now shown.1) };
-
-    fn fmt<W: fmt::Write>(&self, f: &mut Formatter<W>) -> fmt::Result {
-        let RootSideText(side, fault) = *self;
-        if fault != RootFault::Memory {
-            f.write_str(side)?;
-        }
-        fault.fmt(f)
     }
 }
