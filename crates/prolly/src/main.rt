@@ -13,7 +13,7 @@ mod words;
 use crate::commands::answer_of;
 use crate::host::Host;
 use crate::words::read_words;
-use prolly_fault::{Answer, Fault};
+use prolly_fault::{Answer, Fault, LINE_START};
 use prolly_files::{ClosedStreams, print};
 use prolly_line::parse;
 use prolly_runs::answer_refusal;
@@ -58,6 +58,6 @@ fn tell(rt: &HostRuntime, answer: &Answer) -> u8 {
 
 /// Prints the line of a fault, which takes no memory, and gives its status.
 fn report(rt: &HostRuntime, fault: Fault) -> u8 {
-    let _ = eprintln!(rt; "prolly: {fault}");
+    let _ = eprintln!(rt; "{LINE_START}{fault}");
     fault.status()
 }

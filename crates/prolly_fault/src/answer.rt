@@ -4,7 +4,7 @@ ghost use Rattle.prolly_fault.specs.Answers.{Shows, ShowsNothing, ShowsLine, Sho
 ghost use Rattle.prolly_fault.specs.Answers.{ShowsFault, ShowsFileFault, ShowsFileLine, ShowsName};
 
 use crate::fault::Fault;
-use crate::line::{append_named_fault, append_named_line};
+use crate::line::{LINE_START, append_named_fault, append_named_line};
 use crate::name_fault::NameFault;
 use crate::status;
 use prolly_text::append_name;
@@ -73,7 +73,7 @@ impl Answer {
     pub fn of_fault(alloc: Global, fault: Fault) -> Result<Answer, AllocError>
         ensures { IfOk result (λ answer. ShowsFault answer fault) }
     {
-        let line = format!(in alloc; "prolly: {fault}\n")?;
+        let line = format!(in alloc; "{LINE_START}{fault}\n")?;
         Ok(Answer {
             status: fault.status(),
             out: Vec::new(alloc),
@@ -88,7 +88,7 @@ impl Answer {
         ensures { IfOk result (λ answer. ShowsName answer fault name.now) }
     {
         let mut line = Vec::new(alloc);
-        line.extend_from_slice(b"prolly: ")?;
+        line.extend_from_slice(LINE_START.as_bytes())?;
         line.extend_from_slice(fault.text().as_bytes())?;
         append_name(&mut line, name)?;
         line.extend_from_slice(b"\n")?;

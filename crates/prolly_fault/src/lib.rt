@@ -12,7 +12,7 @@ pub mod status;
 
 pub use answer::Answer;
 pub use fault::{Fault, INPUT_LIMIT};
-pub use line::append_number;
+pub use line::{LINE_START, append_number};
 pub use name_fault::NameFault;
 pub use output_fault::OutputFault;
 pub use root_output_fault::RootOutputFault;

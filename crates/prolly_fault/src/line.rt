@@ -7,8 +7,8 @@ ghost use Rattle.prolly_text.specs.Names.{shown_name};
 use prolly_text::append_name;
 use std::alloc::{AllocError, Global};
 
-/// With what the line of a fault begins.
-const PROGRAM: &[u8] = b"prolly: ";
+/// With what the line of a fault, or of a note, begins: the program's name.
+pub const LINE_START: &str = "prolly: ";
 
 /// Appends a space, and the number in decimal.
 pub fn append_number(alloc: Global, line: &mut Vec<u8>, number: u64) -> Result<(), AllocError>
@@ -50,10 +50,10 @@ pub(crate) fn append_named_fault(
         ≡ out.old.items ++ fault_line (shown_name name.now ++ codes ": " ++ text)) }
     ensures none { line.now ≡ [] → OnOk result (out.new.items ≡ out.old.items) }
 {
-    let Some(text) = line.strip_prefix(PROGRAM) else {
+    let Some(text) = line.strip_prefix(LINE_START.as_bytes()) else {
         return Ok(());
     };
-    out.extend_from_slice(PROGRAM)?;
+    out.extend_from_slice(LINE_START.as_bytes())?;
     append_name(out, name)?;
     out.extend_from_slice(b": ")?;
     out.extend_from_slice(text)

@@ -1,4 +1,5 @@
 //! Standard streams that may be non-blocking.
+use prolly_fault::LINE_START;
 use prolly_io::FromRead;
 use std::io::{ErrorKind, IsTerminal, Read, Write};
 use std::rt::Stdin;
@@ -76,6 +77,6 @@ pub fn stdin_source(rt: &HostRuntime) -> FromRead<Patient<'_, Stdin>> {
 /// Says that lines are read from the terminal, where standard input is one.
 pub fn tell_of_terminal(rt: &HostRuntime) {
     if rt.stdin().is_terminal() {
-        let _ = eprintln!(rt; "prolly: reading lines from the terminal; Control-D ends them");
+        let _ = eprintln!(rt; "{LINE_START}reading lines from the terminal; Control-D ends them");
     }
 }
