@@ -10,9 +10,9 @@ use Rattle.prolly_line.specs.AcceptedWords.{IsRefusedFitting}
 use Rattle.prolly_line.specs.GivenCommand.{AreMisfit, HasMisfit, HasNone, HasWord}
 use Rattle.prolly_line.specs.GivenCommand.{IsMisfitCut, IsMisfitKey, IsMisfitLines, IsMisfitSort}
 use Rattle.prolly_line.specs.declared.command.Command.{Command}
-use Rattle.prolly_line.specs.declared.command.ParseFault.{ParseFault}
-use Rattle.prolly_line.specs.declared.command.ParseFault.TheVariants.{BadKey, BadRoot, BadTextKey}
-use Rattle.prolly_line.specs.declared.command.ParseFault.TheVariants.{Help, LoneRoot, Memory, Usage}
+use Rattle.prolly_line.specs.declared.parse_fault.ParseFault.{ParseFault}
+use Rattle.prolly_line.specs.declared.parse_fault.ParseFault.TheVariants.{BadKey, BadRoot, BadTextKey}
+use Rattle.prolly_line.specs.declared.parse_fault.ParseFault.TheVariants.{Help, LoneRoot, Memory, Usage}
 
 -- a word does not stand where none does
 not_both : (name : Text) (rows : List Row) → HasWord name rows → HasNone name rows → ⊥

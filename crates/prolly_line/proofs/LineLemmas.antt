@@ -24,13 +24,13 @@ use Rattle.prolly_line.specs.declared.command.Command.TheVariants.{Apply, Explai
 use Rattle.prolly_line.specs.declared.command.Command.TheVariants.{Check, CheckFiles, Root, Stat}
 use Rattle.prolly_line.specs.declared.command.Command.TheVariants.{Get, GetKeys, Scan, Nth, Dump, Diff}
 use Rattle.prolly_line.specs.declared.command.Command.TheVariants.{Prove, Verify}
-use Rattle.prolly_line.specs.declared.command.ParseFault.{ParseFault}
-use Rattle.prolly_line.specs.declared.command.RootPair.{RootPair}
-use Rattle.prolly_line.specs.declared.command.ParseFault.TheVariants.{Memory, Usage, Help}
-use Rattle.prolly_line.specs.declared.command.ParseFault.TheVariants.{BadRoot, LoneRoot, BadKey}
-use Rattle.prolly_line.specs.declared.command.ParseFault.TheVariants.{BadTextKey}
-use Rattle.prolly_line.specs.declared.command.Sought.{Sought}
-use Rattle.prolly_line.specs.declared.command.Sought.TheVariants.{Key, Keys, Range}
+use Rattle.prolly_line.specs.declared.parse_fault.ParseFault.{ParseFault}
+use Rattle.prolly_line.specs.declared.root_pair.RootPair.{RootPair}
+use Rattle.prolly_line.specs.declared.parse_fault.ParseFault.TheVariants.{Memory, Usage, Help}
+use Rattle.prolly_line.specs.declared.parse_fault.ParseFault.TheVariants.{BadRoot, LoneRoot, BadKey}
+use Rattle.prolly_line.specs.declared.parse_fault.ParseFault.TheVariants.{BadTextKey}
+use Rattle.prolly_line.specs.declared.sought.Sought.{Sought}
+use Rattle.prolly_line.specs.declared.sought.Sought.TheVariants.{Key, Keys, Range}
 use Rattle.prolly_text.specs.declared.notation.Notation.{Notation}
 
 -- ---- clap's model holds of the line

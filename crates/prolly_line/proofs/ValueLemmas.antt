@@ -20,11 +20,11 @@ use Rattle.prolly_line.specs.AcceptedWords.{IsRefusedFitting, IsRefusedSought, M
 use Rattle.prolly_line.specs.AcceptedWords.{ReadsNumber}
 use Rattle.prolly_line.specs.GivenCommand.{GivesSought, HasMisfit, IsWordFault, MayGiveNumber}
 use Rattle.prolly_line.specs.GivenCommand.{MayGiveRoot, decimal_of, number_given, place_of_last}
-use Rattle.prolly_line.specs.declared.command.ParseFault.{ParseFault}
-use Rattle.prolly_line.specs.declared.command.ParseFault.TheVariants.{BadKey, BadRoot, BadTextKey}
-use Rattle.prolly_line.specs.declared.command.ParseFault.TheVariants.{Help, LoneRoot, Memory, Usage}
-use Rattle.prolly_line.specs.declared.command.Sought.{Sought}
-use Rattle.prolly_line.specs.declared.command.Sought.TheVariants.{Key, Keys, Range}
+use Rattle.prolly_line.specs.declared.parse_fault.ParseFault.{ParseFault}
+use Rattle.prolly_line.specs.declared.parse_fault.ParseFault.TheVariants.{BadKey, BadRoot, BadTextKey}
+use Rattle.prolly_line.specs.declared.parse_fault.ParseFault.TheVariants.{Help, LoneRoot, Memory, Usage}
+use Rattle.prolly_line.specs.declared.sought.Sought.{Sought}
+use Rattle.prolly_line.specs.declared.sought.Sought.TheVariants.{Key, Keys, Range}
 use Rattle.prolly_text.specs.declared.notation.Notation.{Notation}
 
 -- a typed getter gives a number where a numeral in its range stands under the name

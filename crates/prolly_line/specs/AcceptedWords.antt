@@ -14,10 +14,10 @@ use Rattle.prolly_line.specs.GivenCommand.{HasSet}
 use Rattle.prolly_line.specs.GivenCommand.{GivesBadPair, GivesLoneRoot, HasBadRoot, HasLoneRoot}
 use Rattle.prolly_line.specs.GivenCommand.{HasFields, MayGiveNumber, MayGiveRoot}
 use Rattle.prolly_line.specs.declared.command.Command.{Command}
-use Rattle.prolly_line.specs.declared.command.ParseFault.{ParseFault}
-use Rattle.prolly_line.specs.declared.command.ParseFault.TheVariants.{Memory, BadRoot, LoneRoot}
-use Rattle.prolly_line.specs.declared.command.ParseFault.TheVariants.{Usage}
-use Rattle.prolly_line.specs.declared.command.ParseFault.TheVariants.{BadKey, BadTextKey}
+use Rattle.prolly_line.specs.declared.parse_fault.ParseFault.{ParseFault}
+use Rattle.prolly_line.specs.declared.parse_fault.ParseFault.TheVariants.{Memory, BadRoot, LoneRoot}
+use Rattle.prolly_line.specs.declared.parse_fault.ParseFault.TheVariants.{Usage}
+use Rattle.prolly_line.specs.declared.parse_fault.ParseFault.TheVariants.{BadKey, BadTextKey}
 use Rattle.prolly_text.specs.declared.notation.Notation.TheVariants.{Hex, Text as AsText}
 
 -- the rows that the matches of a subcommand hold

@@ -15,19 +15,19 @@ use Rattle.prolly_text.specs.declared.notation.Notation.{Notation}
 use Rattle.prolly_text.specs.declared.notation.Notation.TheVariants.{Hex, Text as AsText}
 use Rattle.prolly_line.specs.Line.{line_faults, line_given}
 use Rattle.prolly_line.specs.declared.command.Command.{Command}
-use Rattle.prolly_line.specs.declared.command.WriteMode.{WriteMode}
+use Rattle.prolly_line.specs.declared.write_mode.WriteMode.{WriteMode}
 use Rattle.prolly_line.specs.declared.command.Command.TheVariants.{Pack, PackSorted, Scratch, Build}
 use Rattle.prolly_line.specs.declared.command.Command.TheVariants.{Apply, Explain, ExplainLines}
 use Rattle.prolly_line.specs.declared.command.Command.TheVariants.{Check, CheckFiles, Root, Stat}
 use Rattle.prolly_line.specs.declared.command.Command.TheVariants.{Get, GetKeys, Scan, Nth, Dump, Diff}
 use Rattle.prolly_line.specs.declared.command.Command.TheVariants.{Prove, Verify}
-use Rattle.prolly_line.specs.declared.command.Sought.{Sought}
-use Rattle.prolly_line.specs.declared.command.Sought.TheVariants.{Key, Keys, Range}
-use Rattle.prolly_line.specs.declared.command.ParseFault.{ParseFault}
-use Rattle.prolly_line.specs.declared.command.RootPair.{RootPair}
-use Rattle.prolly_line.specs.declared.command.ParseFault.TheVariants.{Memory, Usage, Help}
-use Rattle.prolly_line.specs.declared.command.ParseFault.TheVariants.{BadRoot, LoneRoot, BadKey}
-use Rattle.prolly_line.specs.declared.command.ParseFault.TheVariants.{BadTextKey}
+use Rattle.prolly_line.specs.declared.sought.Sought.{Sought}
+use Rattle.prolly_line.specs.declared.sought.Sought.TheVariants.{Key, Keys, Range}
+use Rattle.prolly_line.specs.declared.parse_fault.ParseFault.{ParseFault}
+use Rattle.prolly_line.specs.declared.root_pair.RootPair.{RootPair}
+use Rattle.prolly_line.specs.declared.parse_fault.ParseFault.TheVariants.{Memory, Usage, Help}
+use Rattle.prolly_line.specs.declared.parse_fault.ParseFault.TheVariants.{BadRoot, LoneRoot, BadKey}
+use Rattle.prolly_line.specs.declared.parse_fault.ParseFault.TheVariants.{BadTextKey}
 
 -- ---- what the rows of a subcommand give
 

@@ -4,48 +4,18 @@ ghost use Rattle.clap.specs.Words.{kind_of, subcommand_rows_of};
 ghost use Rattle.prolly_line.specs.GivenCommand.{IsGivenBy, IsRefusalOf, IsRefusedBy};
 ghost use Rattle.prolly_line.specs.GivenCommand.{IsWithinLimits};
 ghost use Rattle.prolly_line.specs.AcceptedWords.{Answers, IsAccepted, rows_in};
-ghost use Rattle.prolly_line.specs.declared.command.ParseFault.TheVariants.{Memory};
 
 use crate::commands;
 use crate::line::program_line;
+use crate::parse_fault::ParseFault;
+use crate::root_pair::RootPair;
+use crate::sought::Sought;
+use crate::write_mode::WriteMode;
 use clap::ArgMatches;
 use clap::error::ErrorKind;
 use prolly_entry::Ref;
 use prolly_text::Notation;
-use std::alloc::{AllocError, Global};
-
-/// How an output is written.
-#[derive(Clone, Copy, Debug, PartialEq, Eq)]
-pub struct WriteMode {
-    /// A file beside the output is written, and takes its place once it is whole. Record files,
-    /// lines and proofs are written so in any case.
-    pub atomic: bool,
-    /// The command is done only once the output is on the disk.
-    pub sync: bool,
-    /// The output is written over even where it is a file of another kind.
-    pub force: bool,
-}
-
-/// The roots of two trees.
-#[derive(Clone, Copy, Debug, PartialEq, Eq)]
-pub struct RootPair {
-    /// That of the tree as it was.
-    pub old: Ref,
-    /// That of the tree as it is now.
-    pub new: Ref,
-}
-
-/// What a proof is to show.
-#[derive(Debug, Drop)]
-pub enum Sought {
-    /// What the map has at a key.
-    Key(Vec<u8>),
-    /// Its pairs whose key is not less than `from`, and less than `to`; where there is no `to`, all
-    /// whose key is not less than `from`.
-    Range { from: Vec<u8>, to: Option<Vec<u8>> },
-    /// What it has at each of the keys that the lines of the file of this name stand for.
-    Keys(String),
-}
+use std::alloc::Global;
 
 /// What the program is asked to do. File names are the words as they stand. A notation is that of
 /// keys and values, in the words and in the lines that are read or printed.
@@ -232,36 +202,6 @@ pub enum Command {
         proof: Option<String>,
         notation: Notation,
     },
-}
-
-/// Why the words give no command.
-#[derive(Drop)]
-pub enum ParseFault {
-    /// Memory ran out.
-    Memory,
-    /// The words are not what the command line takes, which the text says as clap does.
-    Usage(String),
-    /// The words ask for help, or for the version, which is the text.
-    Help(String),
-    /// The word for the root is not the text of a reference: 32 figures and letters from a to v. It is
-    /// told only where the words fit together.
-    BadRoot,
-    /// Of the roots of two trees one is given alone.
-    LoneRoot,
-    /// A word for a key is not hexadecimal, or writes more than 1,024 bytes. It is told only where
-    /// the words fit together, and the word for the root, if there is one, is good.
-    BadKey,
-    /// With `--text`, a word for a key is no text of bytes, or of more than 1,024. It is told only
-    /// where the words fit together, and the word for the root, if there is one, is good.
-    BadTextKey,
-}
-
-impl From<AllocError> for ParseFault {
-    ghost from_gives = { λ _ fault. fault ≡ Memory };
-
-    fn from(_error: AllocError) -> ParseFault {
-        ParseFault::Memory
-    }
 }
 
 /// The command that the words after the program's name give.

@@ -11,7 +11,15 @@ mod commands;
 mod help;
 mod line;
 mod misfit;
+mod parse_fault;
+mod root_pair;
+mod sought;
 mod values;
+mod write_mode;
 
-pub use command::{Command, ParseFault, RootPair, Sought, WriteMode, parse};
+pub use command::{Command, parse};
+pub use parse_fault::ParseFault;
 pub use prolly_text::Notation;
+pub use root_pair::RootPair;
+pub use sought::Sought;
+pub use write_mode::WriteMode;

@@ -7,7 +7,8 @@ ghost use Rattle.prolly_line.specs.GivenCommand.{IsMisfitCut, IsMisfitKey, IsMis
 ghost use Rattle.prolly_line.specs.GivenCommand.{IsMisfitSort, IsWordFault};
 
 use crate::assembly::Line;
-use crate::command::{ParseFault, refusal};
+use crate::command::refusal;
+use crate::parse_fault::ParseFault;
 use crate::values::{flag_of, is_given};
 use clap::ArgMatches;
 use clap::error::ErrorKind;

@@ -3,8 +3,8 @@ use Rattle.std.specs.Prelude.{[], string_bytes}
 use Rattle.prolly_fault.specs.Answers.{Shows, ShowsFault}
 use Rattle.prolly_fault.specs.declared.answer.Answer.{Answer}
 use Rattle.prolly_fault.specs.declared.fault.Fault.TheVariants as faults
-use Rattle.prolly_line.specs.declared.command.ParseFault.{ParseFault}
-use Rattle.prolly_line.specs.declared.command.ParseFault.TheVariants as refusals
+use Rattle.prolly_line.specs.declared.parse_fault.ParseFault.{ParseFault}
+use Rattle.prolly_line.specs.declared.parse_fault.ParseFault.TheVariants as refusals
 
 -- What clap says of the words is shown as it words it: help that was asked for on standard output,
 -- and what is wrong with them on standard error.

@@ -6,9 +6,10 @@ ghost use Rattle.prolly_line.specs.LocalArgs.{HasCommandLine};
 
 use crate::arguments;
 use crate::assembly::{Line, described, with_argument};
-use crate::command::{Command, ParseFault};
+use crate::command::Command;
 use crate::commands::shared::{ASIDE, MADE_CHUNK_FILE, NO_PROGRESS, with_mode};
 use crate::help::Help;
+use crate::parse_fault::ParseFault;
 use crate::values::{flag_of, mode_of, optional_byte_of, root_of, text_of, texts_of};
 use clap::ArgMatches;
 use std::alloc::Global;

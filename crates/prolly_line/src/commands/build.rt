@@ -7,12 +7,13 @@ ghost use Rattle.prolly_line.specs.LocalArgs.{HasCommandLine};
 
 use crate::arguments;
 use crate::assembly::{Line, called, described, with_argument};
-use crate::command::{Command, ParseFault};
+use crate::command::Command;
 use crate::commands::shared::{
     ASIDE, CUT, MADE_CHUNK_FILE, NO_PROGRESS, WRITTEN_FORMAT, with_mode,
 };
 use crate::help::Help;
 use crate::misfit::Misfit;
+use crate::parse_fault::ParseFault;
 use crate::values::{
     bits_of, byte_of, chunk_bytes_of, flag_of, mode_of, number_of, text_of, texts_of,
 };

@@ -8,9 +8,10 @@ ghost use Rattle.prolly_line.specs.LocalArgs.{HasCommandLine};
 
 use crate::arguments;
 use crate::assembly::{Line, described, with_argument};
-use crate::command::{Command, ParseFault};
+use crate::command::Command;
 use crate::commands::shared::with_trust;
 use crate::help::Help;
+use crate::parse_fault::ParseFault;
 use crate::values::{flag_of, has_several, text_of, texts_of, trust_of};
 use clap::ArgMatches;
 use std::alloc::Global;

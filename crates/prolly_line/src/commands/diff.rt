@@ -7,9 +7,10 @@ ghost use Rattle.prolly_line.specs.LocalArgs.{HasCommandLine};
 
 use crate::arguments;
 use crate::assembly::{Line, described, with_argument};
-use crate::command::{Command, ParseFault};
+use crate::command::Command;
 use crate::commands::shared::{ALWAYS_ASIDE, with_mode};
 use crate::help::Help;
+use crate::parse_fault::ParseFault;
 use crate::values::{byte_of, flag_of, mode_of, notation_of, option_of, roots_of, text_of};
 use clap::ArgMatches;
 use std::alloc::Global;

@@ -6,9 +6,10 @@ ghost use Rattle.prolly_line.specs.LocalArgs.{HasCommandLine};
 
 use crate::arguments;
 use crate::assembly::{Line, described, with_argument};
-use crate::command::{Command, ParseFault};
+use crate::command::Command;
 use crate::commands::shared::{ALWAYS_ASIDE, CHUNK_FILE, with_mode, with_trust};
 use crate::help::Help;
+use crate::parse_fault::ParseFault;
 use crate::values::{lines_of, mode_of, option_of, text_of, trust_of};
 use clap::ArgMatches;
 use std::alloc::Global;

@@ -8,11 +8,12 @@ ghost use Rattle.prolly_line.specs.LocalArgs.{HasCommandLine};
 
 use crate::arguments;
 use crate::assembly::{Line, described_as, with_argument};
-use crate::command::{Command, ParseFault};
+use crate::command::Command;
 use crate::commands::look_up::trusted_key;
 use crate::commands::shared::{CHUNK_FILE, with_trust};
 use crate::help::Help;
 use crate::misfit::Misfit;
+use crate::parse_fault::ParseFault;
 use crate::values::{flag_of, is_given, notation_of, text_of, trust_of};
 use clap::ArgMatches;
 use std::alloc::Global;

@@ -8,9 +8,9 @@ ghost use Rattle.prolly_line.specs.LocalArgs.{HasCommandLine, IsReadBy};
 
 use crate::arguments;
 use crate::assembly::{Line, described, with_argument};
-use crate::command::ParseFault;
 use crate::commands::shared::{CHUNK_FILE, with_trust};
 use crate::help::Help;
+use crate::parse_fault::ParseFault;
 use crate::values::{key_of, trust_of};
 use clap::{Arg, ArgMatches};
 use prolly_entry::Ref;

@@ -6,9 +6,10 @@ ghost use Rattle.prolly_line.specs.LocalArgs.{HasCommandLine};
 
 use crate::arguments;
 use crate::assembly::Line;
-use crate::command::{Command, ParseFault};
+use crate::command::Command;
 use crate::commands::look_up::look_up_line;
 use crate::help::Help;
+use crate::parse_fault::ParseFault;
 use crate::values::{notation_of, number_of, text_of, trust_of};
 use clap::ArgMatches;
 use std::alloc::Global;

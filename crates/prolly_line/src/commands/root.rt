@@ -6,9 +6,10 @@ ghost use Rattle.prolly_line.specs.LocalArgs.{HasCommandLine};
 
 use crate::arguments;
 use crate::assembly::{Line, described};
-use crate::command::{Command, ParseFault};
+use crate::command::Command;
 use crate::commands::shared::CHUNK_FILE;
 use crate::help::Help;
+use crate::parse_fault::ParseFault;
 use crate::values::text_of;
 use clap::ArgMatches;
 use std::alloc::Global;

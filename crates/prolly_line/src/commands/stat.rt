@@ -6,8 +6,9 @@ ghost use Rattle.prolly_line.specs.LocalArgs.{HasCommandLine};
 
 use crate::arguments;
 use crate::assembly::{Line, described, with_argument};
-use crate::command::{Command, ParseFault};
+use crate::command::Command;
 use crate::help::Help;
+use crate::parse_fault::ParseFault;
 use crate::values::{flag_of, notation_of, text_of};
 use clap::ArgMatches;
 use std::alloc::Global;

@@ -7,10 +7,11 @@ ghost use Rattle.prolly_line.specs.LocalArgs.{HasCommandLine};
 
 use crate::arguments;
 use crate::assembly::{Line, described_as, with_argument};
-use crate::command::{Command, ParseFault};
+use crate::command::Command;
 use crate::commands::shared::{KEY_OR_SET, with_range};
 use crate::help::Help;
 use crate::misfit::Misfit;
+use crate::parse_fault::ParseFault;
 use crate::values::{byte_of, notation_of, option_of, place_of_last, root_of, sought_of};
 use clap::ArgMatches;
 use std::alloc::Global;

@@ -2,7 +2,7 @@
 ghost use Rattle.prolly_line.specs.GivenCommand.{GivesFlag, GivesLines, GivesMode, GivesNotation};
 ghost use Rattle.prolly_line.specs.AcceptedWords.{rows_in};
 
-use crate::command::WriteMode;
+use crate::write_mode::WriteMode;
 use clap::ArgMatches;
 use prolly_text::Notation;
 

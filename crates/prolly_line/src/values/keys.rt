@@ -4,9 +4,10 @@ ghost use Rattle.prolly_line.specs.GivenCommand.{GivesKeyAs, GivesNotation, Give
 ghost use Rattle.prolly_line.specs.GivenCommand.{IsKeyText, MayGiveKeyAs, bad_key, place_of_last};
 ghost use Rattle.prolly_line.specs.AcceptedWords.{HasWord, IsRefusedKey, IsRefusedRange};
 ghost use Rattle.prolly_line.specs.AcceptedWords.{IsRefusedSought, rows_in};
-ghost use Rattle.prolly_line.specs.declared.command.ParseFault.TheVariants.{Memory};
+ghost use Rattle.prolly_line.specs.declared.parse_fault.ParseFault.TheVariants.{Memory};
 
-use crate::command::{ParseFault, Sought};
+use crate::parse_fault::ParseFault;
+use crate::sought::Sought;
 use crate::values::words::{is_given, text_of, word_of};
 use clap::ArgMatches;
 use prolly_entry::KEY_LIMIT;

@@ -3,9 +3,10 @@ ghost use Rattle.std.specs.Prelude.{◌≡◌, IfErr, IfOk, codes};
 ghost use Rattle.prolly_line.specs.GivenCommand.{GivesBadRoot, GivesBadRootAs, GivesRootAs};
 ghost use Rattle.prolly_line.specs.GivenCommand.{GivesTrust, MayGiveRoots};
 ghost use Rattle.prolly_line.specs.AcceptedWords.{AreRefusedRoots, HasNumber, HasWord, rows_in};
-ghost use Rattle.prolly_line.specs.declared.command.ParseFault.TheVariants.{BadRoot};
+ghost use Rattle.prolly_line.specs.declared.parse_fault.ParseFault.TheVariants.{BadRoot};
 
-use crate::command::{ParseFault, RootPair};
+use crate::parse_fault::ParseFault;
+use crate::root_pair::RootPair;
 use crate::values::numbers::byte_of;
 use crate::values::words::{is_given, word_of};
 use clap::ArgMatches;
