@@ -14,6 +14,25 @@ pub(crate) struct Help<'a> {
 /// What `--version` prints behind the program's name: its version, and what has proved it.
 pub(crate) const VERSION: &str = "1.0.0, proved with rattle-kit-13f logic dac8208d650f15bf";
 
+/// What a key's word says, and behind that when it is left out.
+macro_rules! key_help {
+    ($left_out:literal) => {
+        concat!(
+            "The key in hexadecimal, two digits a byte, or with --text as text; at most 1,024 bytes",
+            $left_out
+        )
+    };
+}
+
+/// What KEY says.
+pub(crate) const KEY: &str = key_help!("");
+
+/// What `[KEY]` says where many keys may stand in its place.
+pub(crate) const KEY_OR_KEYS: &str = key_help!(". With --keys it is left out");
+
+/// What `[KEY]` says where a range, or many keys, may stand in its place.
+pub(crate) const KEY_OR_SET: &str = key_help!(". With --from, or with --keys, it is left out");
+
 pub(crate) const PROGRAM: Help<'static> = Help {
     about: "Makes, checks and reads prolly trees",
     details: "Makes, checks and reads prolly trees.

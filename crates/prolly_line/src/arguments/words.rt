@@ -5,6 +5,7 @@ ghost use Rattle.prolly_line.specs.Line.{optional_file_word, optional_key_word, 
 ghost use Rattle.prolly_line.specs.Line.{out_word, proof_word, root_word, word_rule, words_rule};
 ghost use Rattle.prolly_line.specs.LocalArgs.{IsReadBy};
 
+use crate::help;
 use clap::Arg;
 use clap::builder::ValueParser;
 use std::alloc::Global;
@@ -106,9 +107,7 @@ pub(crate) fn root_word<'a>(alloc: Global) -> Arg<'a>
 pub(crate) fn key_word<'a>(alloc: Global) -> Arg<'a>
     ensures { IsReadBy key_word result }
 {
-    required_word(alloc, "key", "KEY").help(
-        "The key in hexadecimal, two digits a byte, or with --text as text; at most 1,024 bytes",
-    )
+    required_word(alloc, "key", "KEY").help(help::KEY)
 }
 
 /// `[KEY]`, where something else may stand in its place; `what` says for its help what it is, and

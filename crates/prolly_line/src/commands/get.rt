@@ -11,7 +11,7 @@ use crate::assembly::{Line, described_as, with_argument};
 use crate::command::Command;
 use crate::commands::look_up::trusted_key;
 use crate::commands::shared::{CHUNK_FILE, with_trust};
-use crate::help::Help;
+use crate::help::{Help, KEY_OR_KEYS};
 use crate::misfit::Misfit;
 use crate::parse_fault::ParseFault;
 use crate::values::{flag_of, is_given, notation_of, text_of, trust_of};
@@ -51,10 +51,6 @@ there is at each key of a file
 
 const USAGE: &str = "prolly get [OPTIONS] <FILE> <KEY>
        prolly get [OPTIONS] --keys <KEYS> <FILE>";
-
-/// What `[KEY]` says where many keys may stand in its place.
-const KEY_OR_KEYS: &str = "The key in hexadecimal, two digits a byte, or with --text as text; at \
-     most 1,024 bytes. With --keys it is left out";
 
 /// What `--text` says where keys are taken and their values are printed.
 const KEYS_AND_VALUES: &str = "Take keys and print values as text in place of hexadecimal";

@@ -8,10 +8,8 @@ ghost use Rattle.prolly_line.specs.LocalArgs.{HasCommandLine};
 use crate::arguments;
 use crate::assembly::{Line, described_as, with_argument};
 use crate::command::Command;
-use crate::commands::shared::{
-    ALWAYS_ASIDE, CHUNK_FILE, KEY_OR_SET, with_mode, with_range, with_trust,
-};
-use crate::help::Help;
+use crate::commands::shared::{ALWAYS_ASIDE, CHUNK_FILE, with_mode, with_range, with_trust};
+use crate::help::{Help, KEY_OR_SET};
 use crate::misfit::Misfit;
 use crate::parse_fault::ParseFault;
 use crate::values::{mode_of, notation_of, place_of_last, sought_of, text_of, trust_of};

@@ -14,11 +14,6 @@ pub(crate) const CHUNK_FILE: &str = "The chunk file";
 /// What OUT says where it is to become one.
 pub(crate) const MADE_CHUNK_FILE: &str = "The chunk file to make";
 
-/// What `[KEY]` says where a range, or many keys, may stand in its place.
-pub(crate) const KEY_OR_SET: &str =
-    "The key in hexadecimal, two digits a byte, or with --text as text; at \
-     most 1,024 bytes. With --from, or with --keys, it is left out";
-
 /// What `--bits` says where a tree is made.
 pub(crate) const CUT: &str =
     "Cut by Q bits of a hash: about one entry in 2^Q ends a chunk (0 to 24) \
