@@ -17,6 +17,7 @@ mod sought;
 mod values;
 mod write_mode;
 
+pub use arguments::{DEFAULT_BATCH, DEFAULT_CAPACITY, DEFAULT_MAX_RECORDS, DEFAULT_STAGES};
 pub use command::{Command, parse};
 pub use parse_fault::ParseFault;
 pub use prolly_text::Notation;

@@ -15,7 +15,7 @@ use prolly_entry::{Ref, Version};
 use prolly_fault::{Answer, Fault};
 use prolly_files::{Chunks, InputName, Output, Refusal, Target, buffered};
 use prolly_io::{Blocks, FromFile, FromRead, Header, ToWrite};
-use prolly_line::Command;
+use prolly_line::{Command, DEFAULT_BATCH, DEFAULT_CAPACITY, DEFAULT_MAX_RECORDS, DEFAULT_STAGES};
 use prolly_progress::{CountedSink, CountedSource, CountingGate, Counts};
 use prolly_root::{FileChunks, RootFault, named_header};
 use prolly_runs::{agreed_header, answer_apply_into};
@@ -24,18 +24,6 @@ use std::fs::File;
 use std::sync::Wait;
 use std::thread::Threads;
 use std::time::Clock;
-
-/// How many levels a tree that is made has at most, as by default in a `build`.
-const STAGES: u8 = 12;
-
-/// How many messages wait between two threads, as by default in a `build`.
-const CAPACITY: u32 = 64;
-
-/// How many items a message has at most, as by default in a `build`.
-const BATCH: u32 = 16;
-
-/// The most records of a file of changes.
-const MAX_RECORDS: u32 = 16_777_216;
 
 /// `apply [--bits Q] [--format V] --root ROOT [--quiet] [--atomic] [--sync] [--force] OLD OUT
 /// [CHANGES...]`
@@ -132,13 +120,18 @@ fn settings_of(
     }
 }
 
-/// The settings of a run over a tree with this header.
+/// The settings of a run over a tree with this header. All else is as a `build` has it by default.
 fn config_of(header: Header) -> Result<Config, ConfigFault>
     ensures { IfOk result (IsSetBy header) }
 {
-    Config::new(header.bits, STAGES, CAPACITY, MAX_RECORDS)?
-        .with_batch(BATCH)?
-        .with_version(header.version.to_byte())
+    Config::new(
+        header.bits,
+        DEFAULT_STAGES,
+        DEFAULT_CAPACITY,
+        DEFAULT_MAX_RECORDS,
+    )?
+    .with_batch(DEFAULT_BATCH)?
+    .with_version(header.version.to_byte())
 }
 
 /// What a run reads: the old tree's root and chunks, and the changes.

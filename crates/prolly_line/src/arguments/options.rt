@@ -75,6 +75,9 @@ pub(crate) fn memory_option<'a>(alloc: Global) -> Arg<'a>
     )
 }
 
+/// How many levels a tree that is made has at most, where `--stages` is not given.
+pub const DEFAULT_STAGES: u8 = 12;
+
 /// `--stages S`
 pub(crate) fn stages_option<'a>(alloc: Global) -> Arg<'a>
     ensures { IsReadBy stages_option result }
@@ -83,6 +86,9 @@ pub(crate) fn stages_option<'a>(alloc: Global) -> Arg<'a>
         "Make at most S levels of the tree (1 to 12)",
     )
 }
+
+/// How many messages wait between two threads, where `--capacity` is not given.
+pub const DEFAULT_CAPACITY: u32 = 64;
 
 /// `--capacity C`
 pub(crate) fn capacity_option<'a>(alloc: Global) -> Arg<'a>
@@ -93,6 +99,9 @@ pub(crate) fn capacity_option<'a>(alloc: Global) -> Arg<'a>
     )
 }
 
+/// How many records a record file has at most, where `--max-records` is not given.
+pub const DEFAULT_MAX_RECORDS: u32 = 16_777_216;
+
 /// `--max-records M`
 pub(crate) fn max_records_option<'a>(alloc: Global) -> Arg<'a>
     ensures { IsReadBy max_records_option result }
@@ -101,6 +110,9 @@ pub(crate) fn max_records_option<'a>(alloc: Global) -> Arg<'a>
         "Refuse a record file of more than M records (1 to 16,777,216)",
     )
 }
+
+/// How many items a message has at most, where `--batch` is not given.
+pub const DEFAULT_BATCH: u32 = 16;
 
 /// `--batch B`
 pub(crate) fn batch_option<'a>(alloc: Global) -> Arg<'a>
