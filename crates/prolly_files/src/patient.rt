@@ -35,7 +35,7 @@ impl<S: Read> Read for Patient<'_, S> {
         for _ in 0..u64::MAX {
             match self.stream.read(buf) {
                 Err(error) if error.kind() == ErrorKind::WouldBlock => {
-                    pause = longer_behind(self.rt, pause);
+                    pause = pause_and_double(self.rt, pause);
                 }
                 result => return result,
             }
@@ -50,7 +50,7 @@ impl<S: Write> Write for Patient<'_, S> {
         for _ in 0..u64::MAX {
             match self.stream.write(buf) {
                 Err(error) if error.kind() == ErrorKind::WouldBlock => {
-                    pause = longer_behind(self.rt, pause);
+                    pause = pause_and_double(self.rt, pause);
                 }
                 result => return result,
             }
@@ -63,8 +63,8 @@ impl<S: Write> Write for Patient<'_, S> {
     }
 }
 
-/// Waits for so many milliseconds, and answers how long is waited the next time.
-fn longer_behind(rt: &HostRuntime, pause: u64) -> u64 {
+/// Waits for so many milliseconds, and answers how many are waited the next time.
+fn pause_and_double(rt: &HostRuntime, pause: u64) -> u64 {
     thread::sleep(rt, Duration::from_millis(pause));
     pause.saturating_mul(2).min(MOST_PAUSE)
 }

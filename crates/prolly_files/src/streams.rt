@@ -67,13 +67,13 @@ impl ClosedStreams {
     /// wrong way: it can't be used, as the closed stream could not.
     pub fn hold(rt: &HostRuntime) -> ClosedStreams {
         ClosedStreams {
-            _held: [held(rt), held(rt), held(rt)],
+            _held: [hold_next(rt), hold_next(rt), hold_next(rt)],
         }
     }
 }
 
-/// The next number that is free, where it is that of a standard stream.
-fn held(rt: &HostRuntime) -> Option<File> {
+/// Takes the next number that is free, where it is that of a standard stream.
+fn hold_next(rt: &HostRuntime) -> Option<File> {
     let file = match fs::open(rt, "/") {
         Ok(folder) => folder,
         Err(_) => unusable_device(rt)?,

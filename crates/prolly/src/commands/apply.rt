@@ -6,7 +6,7 @@ ghost use Rattle.prolly_line.specs.GivenCommand.{IsWithinLimits};
 ghost use Rattle.prolly.specs.Kinds.{IsApply};
 ghost use Rattle.prolly.specs.Requests.{IsSetBy};
 
-use crate::commands::record_files::{RecordFiles, held_back_by, looked_at, target_of};
+use crate::commands::record_files::{RecordFiles, held_back_by, look_at_all, target_of};
 use crate::commands::version_of;
 use crate::commands::watch::Watch;
 use crate::host::Host;
@@ -77,7 +77,7 @@ fn apply_to<T: Wait + Threads + Clock + Sync>(
 ) -> Result<Answer, Refusal> {
     let rt = host.rt;
     let old = InputName::look(rt, old)?;
-    let changes = looked_at(rt, changes)?;
+    let changes = look_at_all(rt, changes)?;
     let old = old.open_beside(rt, target.found())?;
     let mut old = Blocks::new(rt.alloc(), old.into_device())?;
     let counts = Counts::new();

@@ -7,7 +7,7 @@ ghost use Rattle.prolly.specs.Kinds.{IsBuild};
 ghost use Rattle.prolly.specs.Requests.{AreInRange};
 
 use crate::commands::bits::chosen_bits;
-use crate::commands::record_files::{RecordFiles, held_back_by, looked_at, target_of};
+use crate::commands::record_files::{RecordFiles, held_back_by, look_at_all, target_of};
 use crate::commands::watch::Watch;
 use crate::host::Host;
 use prolly_answer::Sample;
@@ -102,7 +102,7 @@ fn build_files<T: Wait + Threads + Clock + Sync>(
     requires { AreInRange request }
 {
     let counts = Counts::new();
-    let names = looked_at(host.rt, names)?;
+    let names = look_at_all(host.rt, names)?;
     let files = RecordFiles::open(host.rt, &names, target.found(), &counts)?;
     let mut output = Output::open_beside_answer(host.rt, target)?;
     let watch = Watch {

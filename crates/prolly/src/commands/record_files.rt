@@ -40,15 +40,15 @@ impl<'a> RecordFiles<'a> {
 }
 
 /// Looks at what these names lead to, before any file is opened.
-pub fn looked_at<'a>(
+pub fn look_at_all<'a>(
     rt: &HostRuntime,
     names: &'a [String],
 ) -> Result<Vec<InputName<'a>>, AllocError> {
-    let mut looked_at = Vec::with_capacity(rt.alloc(), names.len())?;
+    let mut inputs = Vec::with_capacity(rt.alloc(), names.len())?;
     for name in names {
-        looked_at.push(InputName::look(rt, name)?)?;
+        inputs.push(InputName::look(rt, name)?)?;
     }
-    Ok(looked_at)
+    Ok(inputs)
 }
 
 /// The sum of two sizes, where both are known.
