@@ -12,7 +12,9 @@ const OPEN_FILES: &str = "/proc/self/fd";
 /// A standard stream.
 #[derive(Clone, Copy)]
 pub enum Stream {
+    /// Standard input.
     Input,
+    /// Standard output.
     Output,
 }
 

@@ -28,7 +28,9 @@ const LINE_BYTES: usize = 4_096;
 
 /// Why it can't be told what a file holds.
 pub enum LookFault {
+    /// Memory was refused.
     Memory,
+    /// The file can't be opened, or read.
     Read,
 }
 
@@ -46,8 +48,11 @@ impl From<AllocError> for LookFault {
 /// A kind of file that commands write.
 #[derive(Clone, Copy, PartialEq, Eq)]
 pub enum OutputKind {
+    /// The chunks of a whole tree.
     ChunkFile,
+    /// Pairs and removals, in the order of their keys.
     RecordFile,
+    /// Chunks that show what the map of a tree has at a key, in a range, or at many keys.
     Proof,
     /// Lines of text, or of hexadecimal.
     Lines,
