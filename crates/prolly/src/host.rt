@@ -3,8 +3,9 @@ use prolly_look_up::ManyThreads;
 use std::num::NonZeroUsize;
 use std::thread::{Threads, available_parallelism};
 
-/// How many threads take hashes for each processor. Each has as many chunks, and chunks are of many
-/// sizes.
+/// How many threads take hashes for each processor. Each thread has as many chunks as another, but
+/// chunks are of many sizes, so one thread may have far more to do. With one for each processor, all
+/// would wait for that one. With four, a processor whose threads are done goes on with others.
 const THREADS_A_PROCESSOR: usize = 4;
 
 /// What a command runs on: the system, whose files and streams it uses, and what starts its threads and
