@@ -10,7 +10,7 @@ use Rattle.prolly_entry.specs.Overlay.{overlay}
 use Rattle.prolly_entry.specs.Pair.{Pair}
 use Rattle.prolly_entry.specs.Record.{Record}
 use Rattle.prolly_entry.specs.declared.version.Version.{Version}
-use Rattle.prolly_io.specs.Source.{AreHonest, SourceView}
+use Rattle.prolly_io.specs.Source.{SourceView}
 use Rattle.prolly_io.specs.Sink.{SinkView}
 use Rattle.prolly_link.specs.Identity.{LinkId}
 use Rattle.prolly_link.specs.Progress.{end_given}
@@ -107,10 +107,10 @@ changes_link count outs closed input input' (Some sender) paired fed reads =
 -- a sink that was left alone
 pub untouched_refused : {S : Type 0} (seen : S → SourceView) → LeftAreBytes seen →
     (goes : ChunkFile → Type 0) (settings : Settings) (root : List ℕ) (before : List S)
-    (old : SinkView) → AreHonest seen before →
+    (old : SinkView) →
     OfMaps goes settings root (IsRefusedOver seen settings before old old)
-untouched_refused seen bytes goes settings root before old honest m of =
-    let some = some_good seen settings.max_records bytes before honest in inl (record {
+untouched_refused seen bytes goes settings root before old m of =
+    let some = some_good seen settings.max_records bytes before in inl (record {
       goods = some.0;
       are_good = some.1;
       pairs = [];
@@ -200,7 +200,7 @@ module _ {S : Type 0} (seen : S → SourceView) (goes : ChunkFile → Type 0) (s
   -- nothing was started
   pub unstarted_outcome : (fault : RunFault) → (IsWriterFault fault → ⊥) →
       (IsFileFault fault → ⊥) → untouched → AreKept seen before after → IsBegun settings old new →
-      (fault ≡ Memory → AreHonest seen before →
+      (fault ≡ Memory →
       OfMaps goes settings root (IsRefusedOver seen settings before old new)) →
       Answers (Err (answers.Run fault))
   unstarted_outcome fault no_writer no_file none kept begun refused = record {
@@ -303,22 +303,22 @@ module _ {S : Type 0} (seen : S → SourceView) (goes : ChunkFile → Type 0) (s
     }
 
     refused_so : (fault : RunFault) → IsFinished settings out old new (Err fault) →
-        fault ≡ Memory → AreHonest seen before →
+        fault ≡ Memory →
         OfMaps goes settings root (IsRefusedOver seen settings before old new)
-    refused_so fault finished memory honest m of =
+    refused_so fault finished memory m of =
         let at = finished.refused memory in
         elim (over m of) [
-          | inl r ↦ inl (refused_over out m at (r.refuses bytes honest at.told))
+          | inl r ↦ inl (refused_over out m at (r.refuses bytes at.told))
           | inr clash ↦ inr clash
         ]
 
     stopped_so : (fault : RunFault) → IsFinished settings out old new (Err fault) →
-        IsFileFault fault → AreHonest seen before →
+        IsFileFault fault →
         OfMaps goes settings root (IsStoppedOver seen settings before after old new fault)
-    stopped_so fault finished file honest m of =
+    stopped_so fault finished file m of =
         let at = finished.stopped file in
         elim (over m of) [
-          | inl r ↦ inl (stopped_over out fault m at (r.stops bytes honest fault at.told
+          | inl r ↦ inl (stopped_over out fault m at (r.stops bytes fault at.told
               (λ e. subst IsFileFault e file)))
           | inr clash ↦ inr clash
         ]

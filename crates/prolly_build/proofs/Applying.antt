@@ -13,7 +13,7 @@ use Rattle.prolly_entry.specs.lemmas.Lists.{prefix_trans}
 use Rattle.prolly_entry.specs.Pair.{Pair}
 use Rattle.prolly_entry.specs.Prefix.{IsPrefix}
 use Rattle.prolly_entry.specs.Record.{Record, keys_of}
-use Rattle.prolly_io.specs.Source.{AreHonest, SourceView}
+use Rattle.prolly_io.specs.Source.{SourceView}
 use Rattle.prolly_laws.specs.Merging.{cut_behind_stop, merged_part_is_small, overlay_is_small}
 use Rattle.prolly_link.specs.Views.{Batching, Whole}
 use Rattle.prolly_link.specs.declared.message.End.{End}
@@ -334,9 +334,9 @@ module _ {S : Type 0} (seen : S → SourceView) (settings : Settings) (before af
     pub input : IsInputEnd end
     pub read : end ≡ Clean → AreRead seen settings.max_records before after goods
     pub run : IsRunOf settings (overlay (puts m ∷ goods)) events end
-    pub stops : LeftAreBytes seen → AreHonest seen before → (fault : RunFault) →
+    pub stops : LeftAreBytes seen → (fault : RunFault) →
         end ≡ Fault fault → fault ≢ Memory → StopsOver m events fault
-    pub refuses : LeftAreBytes seen → AreHonest seen before → end ≡ Fault Memory →
+    pub refuses : LeftAreBytes seen → end ≡ Fault Memory →
         RefusesOver m events
 
   module _ (lawful : AreLawful settings) (sixteen : length before ≤ 16) (m : List Pair)
@@ -468,7 +468,7 @@ module _ {S : Type 0} (seen : S → SourceView) (settings : Settings) (before af
         subst (λ (is : Inputs). IsTrue is s) (sym none)
         (record { stopped = h.0; merged = h.1 })
 
-    true_stop : LeftAreBytes seen → AreHonest seen before → (s : Stop RunFault) →
+    true_stop : LeftAreBytes seen → (s : Stop RunFault) →
         stop two ≡ Some s → s.fault ≢ Memory → (files : List (Whole Record)) → (inputs : Inputs) →
         AreFilesOr files inputs → AreLoaded seen settings.max_records 0 before old.fed.loader_outs
         after files →
@@ -476,9 +476,9 @@ module _ {S : Type 0} (seen : S → SourceView) (settings : Settings) (before af
         raw_merged_part two) →
         (counted : Inputs) × CountFor seen 0 settings.max_records before after counted ×
         IsTrue counted s
-    true_stop bytes honest s is other files inputs (inl are) loaded down =
+    true_stop bytes s is other files inputs (inl are) loaded down =
         let counts = all_count seen settings.max_records bytes 0 before old.fed.loader_outs after
-        files loaded honest in
+        files loaded in
         let down_files = subst (λ (is : Inputs). (stop (old_input ∷ is) ≡ Some s) ×
         (raw_merged_part (old_input ∷ is) ≡ raw_merged_part two)) are down in
         let cut_true = cut_behind_stop RunFault Memory (old_input ∷ counts.inputs)
@@ -492,9 +492,9 @@ module _ {S : Type 0} (seen : S → SourceView) (settings : Settings) (before af
           counts.count_for,
           record { stopped = cut_true.0; merged = cut_true.1 ∙ down_files.1 },
         )
-    true_stop bytes honest s is other files inputs (inr h) loaded down =
+    true_stop bytes s is other files inputs (inr h) loaded down =
         let counts = all_count seen settings.max_records bytes 0 before old.fed.loader_outs after
-        files loaded honest in
+        files loaded in
         let none : counts.inputs ≡ [] = no_counts counts.inputs files h.0 counts.sent_of in (
           counts.inputs,
           counts.count_for,
@@ -509,9 +509,9 @@ module _ {S : Type 0} (seen : S → SourceView) (settings : Settings) (before af
         no_counts (i ∷ is) [] none h = absurd h
         no_counts (i ∷ is) (c ∷ cs) none h = cc
 
-    stops_over : LeftAreBytes seen → AreHonest seen before → (fault : RunFault) →
+    stops_over : LeftAreBytes seen → (fault : RunFault) →
         end ≡ Fault fault → fault ≢ Memory → StopsOver m events fault
-    stops_over bytes honest fault end_is other = go staged
+    stops_over bytes fault end_is other = go staged
       where
         fault_is : Fault fault ≡ Fault Memory → ⊥
         fault_is e = other (same_fault fault Memory e)
@@ -546,7 +546,7 @@ module _ {S : Type 0} (seen : S → SourceView) (settings : Settings) (before af
             let down = joined_stops old.fed.mergers (old_input ∷ old.fed.inputs) two
             (joined_behind old_input old.fed.mergers old.fed.inputs (old.changes ∷ [])
             old.fed.joined) (old_rises, file_inputs) last.0 last.1 not_memory in
-            let counts = true_stop bytes honest last.0 last.1 not_memory old.fed.files
+            let counts = true_stop bytes last.0 last.1 not_memory old.fed.files
             old.fed.inputs old.fed.are old.fed.loaded down in
             let part : merged_part (old_input ∷ counts.0) ≡ merged_part two =
             ap pairs_put counts.2.merged in
@@ -605,11 +605,11 @@ module _ {S : Type 0} (seen : S → SourceView) (settings : Settings) (before af
         absurd (subst (λ (fs : List (Whole Record)). AreFrontsOf (g ∷ goods) (map sent_input fs))
         h.0 fronts)
 
-    refuses_over : LeftAreBytes seen → AreHonest seen before → end ≡ Fault Memory →
+    refuses_over : LeftAreBytes seen → end ≡ Fault Memory →
         RefusesOver m events
-    refuses_over bytes honest end_is =
+    refuses_over bytes end_is =
         let sent = all_fronts seen settings.max_records bytes 0 before old.fed.loader_outs after
-        old.fed.files old.fed.loaded honest in
+        old.fed.files old.fed.loaded in
         let files = front_sent sent.goods old.fed.files old.fed.inputs old.fed.are sent.fronts
         sent.rising in
         let both_sent = joined_sent old.fed.mergers (old_input ∷ old.fed.inputs) two

@@ -1,11 +1,13 @@
 -- What is known of what loaders sent.
-use Rattle.std.proofs.Common.{◌≡◌, ◌≤◌, ◌*◌, ℕ, List, [], ◌∷◌, map, length, Option, None, refl}
-use Rattle.std.proofs.Common.{sym, subst, arith}
+use Rattle.std.proofs.Common.{◌≡◌, ◌≢◌, ◌≤◌, ◌*◌, ℕ, Bool, true, false, List, [], ◌∷◌, map, length}
+use Rattle.std.proofs.Common.{Option, None, refl, sym, subst, arith}
 use Rattle.std.specs.List.{flat_map, AllByRecursion}
-use Rattle.std.proofs.lemmas.List.{length-append}
+use Rattle.std.proofs.lemmas.List.{append-nil, length-append}
 use Rattle.prolly_tree.specs.Merge.{Input}
 use Rattle.prolly_entry.specs.Reading.{Begins, IsReading}
 use Rattle.prolly_entry.specs.Record.{Record}
+use Rattle.prolly_entry.specs.Spelling.{record_spelling}
+use Rattle.prolly_laws.specs.Readings.{ends_clean}
 use Rattle.prolly_io.specs.Source.{SourceView}
 use Rattle.prolly_link.specs.Views.{Batching, Whole}
 use Rattle.prolly_link.specs.declared.message.End.{End}
@@ -53,6 +55,22 @@ end_told : (file limit : ℕ) (bytes : List ℕ) (records : List Record) (end : 
 end_told file limit bytes records Clean h = (of_reading h, tt)
 end_told file limit bytes records (Fault fault) h = fault_told file limit bytes records fault h
 
+-- records that some bytes begin with are all that their spellings hold
+pub own_reading : {bytes : List ℕ} {limit : ℕ} {records : List Record} {rest : List ℕ} →
+    Begins bytes limit records rest →
+    IsReading (flat_map record_spelling records) limit records None
+own_reading {bytes} {limit} {records} h = ends_clean (flat_map record_spelling records) limit records
+    (record {
+      spelled = sym (append-nil (flat_map record_spelling records));
+      lawful = h.lawful;
+      rising = h.rising;
+      few = h.few;
+    })
+
+-- a source is honest, or not
+pub not_both : (b : Bool) → b ≡ false → b ≡ true → ⊥
+not_both b e f = cc
+
 pub clean_end : (end : End) → fault_in end ≡ None → end ≡ Clean
 clean_end Clean e = refl
 clean_end (Fault f) e = absurd cc
@@ -70,20 +88,42 @@ module _ {S : Type 0} (seen : S → SourceView) (limit : ℕ) where
   not_read : (file : ℕ) (end : End) → end ≡ Clean → end ≡ Fault (faults.Read file) → ⊥
   not_read file end e f = cc
 
+  -- bytes that come to what was sent: all that an honest source had left, or what another one handed
+  -- out
+  pub record ComesOf (file : ℕ) (s : S) (records : List Record) (end : End) : Type 0 where
+    pub bytes : List ℕ
+    pub left : (seen s).is_honest ≡ true → bytes ≡ (seen s).left
+    pub ends : end ≢ Fault (faults.Read file) → EndsAs file limit bytes records end
+
+  pub comes_of : (file : ℕ) (s : S) (o : Batching Record) (t : S) (c : Whole Record) →
+      One file s o t c → ComesOf file s c.items c.end
+  comes_of file s o t c h =
+      subst (λ (rs : List Record). ComesOf file s rs c.end) (sym h.loaded.sent)
+      (go (seen s).is_honest refl)
+    where
+      go : (honest : Bool) → (seen s).is_honest ≡ honest → ComesOf file s h.loaded.records c.end
+      go true is = record { bytes = (seen s).left; left = λ _. refl; ends = h.loaded.whole is }
+      go false is = record {
+        bytes = h.loaded.handed;
+        left = λ honest. absurd (not_both (seen s).is_honest is honest);
+        ends = λ _. h.loaded.ends;
+      }
+
   pub one_read : (file : ℕ) (s : S) (o : Batching Record) (t : S) (c : Whole Record) →
       One file s o t c → c.end ≡ Clean → IsRead seen limit s t c.items
-  one_read file s o t c h clean = record {
-    reading = (λ honest.
-        subst (λ (rs : List Record). IsReading (seen s).left limit rs None) (sym h.loaded.sent)
-        (subst (λ (e : End). EndsAs file limit (seen s).left h.loaded.records e) clean
-        (h.loaded.whole honest (not_read file c.end clean))));
-    unfailed = h.unfailed (not_read file c.end clean);
-  }
+  one_read file s o t c h clean =
+      let comes = comes_of file s o t c h in record {
+        bytes = comes.bytes;
+        left = comes.left;
+        reading = subst (λ (e : End). EndsAs file limit comes.bytes c.items e) clean
+            (comes.ends (not_read file c.end clean));
+        unfailed = h.unfailed (not_read file c.end clean);
+      }
 
   one_kept : (file : ℕ) (s : S) (o : Batching Record) (t : S) (c : Whole Record) →
       One file s o t c → IsKept seen s t
   one_kept file s o t c h = record {
-    honest = h.honest;
+    stays = h.stays;
     handed = h.loaded.handed;
     rest = h.loaded.kept;
   }
@@ -142,6 +182,10 @@ module _ {S : Type 0} (seen : S → SourceView) (limit : ℕ) where
 pub same_kept : {S : Type 0} (seen : S → SourceView) (ss : List S) → AreKept seen ss ss
 same_kept seen [] = tt
 same_kept seen (s ∷ ss) = (
-  record { honest = λ h. h; handed = []; rest = λ h. refl },
+  record {
+    stays = record { honest = λ h. h; steady = λ h. h; never = λ h. refl };
+    handed = [];
+    rest = λ h. refl;
+  },
   same_kept seen ss,
 )

@@ -51,12 +51,12 @@ module _ {S : Type 0} (seen : S → SourceView) (settings : Settings) (before af
         unmade = IfErr-weaker result _ _ (λ fault h w. not_built r.goods
             (r.read (h r.input w).clean) ((h r.input w).unmade (overlay r.goods) r.run))
             finished.unmade;
-        stopped = IfErr-weaker result _ _ (λ fault h file honest. stopped fault file
-            (source_stops seen settings before after bytes lawful few honest sent.items sent.end
+        stopped = IfErr-weaker result _ _ (λ fault h file. stopped fault file
+            (source_stops seen settings before after bytes lawful few sent.items sent.end
             fault staged (h file).told) (h file)) finished.stopped;
         refused = IfErr-weaker result _ _
-            (λ fault h memory honest. refused seen settings before after
-            (source_refused seen settings before after bytes lawful few honest sent.items sent.end
+            (λ fault h memory. refused seen settings before after
+            (source_refused seen settings before after bytes lawful few sent.items sent.end
             staged (h memory).told) (h memory)) finished.refused;
         begun = finished.begun;
         unstarted = IfErr-weaker result _ _ (λ fault h start. absurd (h r.input start))

@@ -1,6 +1,6 @@
 -- What the workers of a build sent where one of them was refused memory.
-use Rattle.std.proofs.Common.{◌≡◌, ◌≤◌, ◌<◌, ◌-◌, ◌*◌, ◌^◌, ℕ, zero, suc, true, List, [], ◌∷◌}
-use Rattle.std.proofs.Common.{◌++◌, map, length, Option, Some, None, inl, inr, refl, ap, sym, subst}
+use Rattle.std.proofs.Common.{◌≡◌, ◌≤◌, ◌<◌, ◌-◌, ◌*◌, ◌^◌, ℕ, zero, suc, Bool, true, false, List}
+use Rattle.std.proofs.Common.{[], ◌∷◌, ◌++◌, map, length, Option, Some, None, inl, inr, refl, ap, sym, subst}
 use Rattle.std.proofs.Common.{◌∙◌, arith}
 use Rattle.std.specs.List.{flat_map}
 use Rattle.std.proofs.lemmas.List.{append-nil, length-append}
@@ -16,12 +16,14 @@ use Rattle.prolly_tree.specs.Pipeline.{before_second}
 use Rattle.prolly_entry.specs.Prefix.{IsPrefix}
 use Rattle.prolly_entry.specs.Reading.{IsReading}
 use Rattle.prolly_entry.specs.Record.{Record}
+use Rattle.prolly_entry.specs.Spelling.{record_spelling}
 use Rattle.prolly_entry.specs.declared.next.Flaw.{Flaw}
 use Rattle.prolly_laws.specs.Stages.{composition, within_is_prefix}
 use Rattle.prolly_laws.specs.Merging.{all_rising, fronts_merge, rising_two_as_one, two_of_all}
 use Rattle.prolly_laws.specs.Merging.{overlay_of_two, overlay_is_small}
-use Rattle.prolly_laws.specs.Readings.{begins_all, first_are_good, one_reading, reading_is}
-use Rattle.prolly_io.specs.Source.{AreHonest, SourceView}
+use Rattle.prolly_laws.specs.Readings.{begins_all, begins_none, first_are_good, one_reading}
+use Rattle.prolly_laws.specs.Readings.{reading_is}
+use Rattle.prolly_io.specs.Source.{SourceView}
 use Rattle.prolly_io.specs.Sink.{SinkView}
 use Rattle.prolly_link.specs.Views.{Batching, Whole}
 use Rattle.prolly_link.specs.declared.message.End.{End}
@@ -35,7 +37,7 @@ use Rattle.prolly_stage.specs.lemmas.Takings.{writer_takes}
 use Rattle.prolly_build.specs.RecordLinks.{IsJoint, Joined}
 use Rattle.prolly_build.specs.Mergers.{MergesAll, sent_input}
 use Rattle.prolly_build.specs.RunResult.{AreLoaded}
-use Rattle.prolly_build.specs.Refusals.{AreGood, IsRefused}
+use Rattle.prolly_build.specs.Refusals.{AreGoodOf, AreGood, IsRefused}
 use Rattle.prolly_build.specs.Config.{Settings, AreLawful}
 use Rattle.prolly_build.specs.End.{IsRefusedAt}
 use Rattle.prolly_build.proofs.StagingSteps.{HasStaged}
@@ -43,7 +45,8 @@ use Rattle.prolly_build.specs.Workers.{IsLoadedFrom}
 use Rattle.prolly_build.specs.WriterState.{frames_of}
 use Rattle.prolly_build.proofs.Counted.{LeftAreBytes}
 use Rattle.prolly_build.proofs.LoaderSteps.{of_all}
-use Rattle.prolly_build.proofs.Loads.{begun, clean_end, one_read}
+use Rattle.prolly_build.proofs.Loads.{IsBegunLoad, begun, clean_end, not_both, one_read}
+use Rattle.prolly_build.proofs.Loads.{own_reading}
 use Rattle.prolly_build.proofs.Mergings.{Inputs, fault_of_end_of}
 use Rattle.prolly_build.proofs.Tops.{frames_front}
 use Rattle.prolly_build.proofs.WritingSteps.{prefix_on}
@@ -191,36 +194,71 @@ module _ {S : Type 0} (seen : S → SourceView) (limit : ℕ) where
     pub fronts : AreFrontsOf goods sent
     pub rising : AllRising goods
 
+  -- the good records of what an honest source has left
+  left_good : {s : S} {good : List Record} {ending : Option Flaw} → (seen s).is_honest ≡ true →
+      IsReading (seen s).left limit good ending → AreGoodOf seen limit s good
+  left_good {s} {good} {ending} is reading = record {
+    bytes = (seen s).left;
+    left = λ _. refl;
+    ending = ending;
+    reading = reading;
+  }
+
+  -- the good records of a source, and what was sent of them
+  record OneGood (s : S) (sent : Input RunFault) : Type 0 where
+    good : List Record
+    is_good : AreGoodOf seen limit s good
+    front : IsFrontOf good sent
+
   -- what a loader sent are the first good records of its file
-  one_front : (file : ℕ) (s : S) (o : Batching Record) (t : S) (c : Whole Record) →
-      IsLoadedFrom seen file limit s o.link t c → (seen s).is_honest ≡ true →
-      (good : List Record) (ending : Option Flaw) → IsReading (seen s).left limit good ending →
-      IsFrontOf good (sent_input c)
-  one_front file s o t c h honest good ending reading =
-      let sent = begun seen limit file s o t c h in record {
-        first = first_are_good (seen s).left limit c.items (sent.rest ++ (seen t).left) good ending
-            (begins_all (seen s).left h.loaded.handed (seen t).left limit c.items sent.rest
-            sent.begins (h.loaded.kept honest)) reading;
-        all = λ e.
-            (one_reading (seen s).left limit c.items good None ending
-            ((one_read seen limit file s o t c h (clean_end c.end e)).reading honest)
-            reading).0;
+  one_good : LeftAreBytes seen → (file : ℕ) (s : S) (o : Batching Record) (t : S)
+      (c : Whole Record) → IsLoadedFrom seen file limit s o.link t c → OneGood s (sent_input c)
+  one_good bytes file s o t c h = go (seen s).is_honest refl
+    where
+      sent : IsBegunLoad h.loaded.handed limit c.items
+      sent = begun seen limit file s o t c h
+
+      go : (honest : Bool) → (seen s).is_honest ≡ honest → OneGood s (sent_input c)
+      go true is =
+          let has = reading_is (seen s).left limit (bytes s is) in record {
+            good = has.good;
+            is_good = left_good is has.reading;
+            front = record {
+              first = first_are_good (seen s).left limit c.items (sent.rest ++ (seen t).left) has.good
+                  has.ending
+                  (begins_all (seen s).left h.loaded.handed (seen t).left limit c.items sent.rest
+                  sent.begins (h.loaded.kept is)) has.reading;
+              all = λ e.
+                  let read = one_read seen limit file s o t c h (clean_end c.end e) in
+                  (one_reading (seen s).left limit c.items has.good None has.ending
+                  (subst (λ (numbers : List ℕ). IsReading numbers limit c.items None) (read.left is)
+                  read.reading) has.reading).0;
+            };
+          }
+      go false is = record {
+        good = c.items;
+        is_good = record {
+          bytes = flat_map record_spelling c.items;
+          left = λ honest. absurd (not_both (seen s).is_honest is honest);
+          ending = None;
+          reading = own_reading sent.begins;
+        };
+        front = record { first = ([], sym (append-nil c.items)); all = λ e. refl };
       }
 
   pub all_fronts : LeftAreBytes seen → (file : ℕ) (ss : List S) (os : List (Batching Record))
       (ts : List S) (cs : List (Whole Record)) →
-      AreLoaded seen limit file ss os ts cs → AreHonest seen ss → Good ss (map sent_input cs)
+      AreLoaded seen limit file ss os ts cs → Good ss (map sent_input cs)
   all_fronts bytes = of_all seen limit
-      (λ _ ss _ _ cs. AreHonest seen ss → Good ss (map sent_input cs))
-      (λ _ _. record { goods = []; are_good = tt; fronts = tt; rising = tt })
-      (λ file s o t c _ _ _ _ h more honest.
-      let has = reading_is (seen s).left limit (bytes s honest.0) in
-      let rest = more honest.1 in
+      (λ _ ss _ _ cs. Good ss (map sent_input cs))
+      (λ _. record { goods = []; are_good = tt; fronts = tt; rising = tt })
+      (λ file s o t c _ _ _ _ h rest.
+      let one = one_good bytes file s o t c h in
       record {
-        goods = has.good ∷ rest.goods;
-        are_good = (record { ending = has.ending; reading = has.reading }, rest.are_good);
-        fronts = (one_front file s o t c h honest.0 has.good has.ending has.reading, rest.fronts);
-        rising = (has.reading.begins.rising, rest.rising);
+        goods = one.good ∷ rest.goods;
+        are_good = (one.is_good, rest.are_good);
+        fronts = (one.front, rest.fronts);
+        rising = (one.is_good.reading.begins.rising, rest.rising);
       })
 
   -- n files have at most n times as many good records as one may have
@@ -235,23 +273,37 @@ module _ {S : Type 0} (seen : S → SourceView) (limit : ℕ) where
       let both = length-append g (flat_map (λ records. records) goods) in
       omega (arith, one, rest, both, small)
 
-  -- honest sources have good records
-  pub some_good : LeftAreBytes seen → (ss : List S) → AreHonest seen ss → (goods : List (List Record)) ×
+  -- sources that nobody read have good records
+  pub some_good : LeftAreBytes seen → (ss : List S) → (goods : List (List Record)) ×
       AreGood seen limit ss goods
-  some_good bytes [] honest = ([], tt)
-  some_good bytes (s ∷ ss) honest =
-      let has = reading_is (seen s).left limit (bytes s honest.0) in
-      let rest = some_good bytes ss honest.1 in
-      (has.good ∷ rest.0, (record { ending = has.ending; reading = has.reading }, rest.1))
+  some_good bytes [] = ([], tt)
+  some_good bytes (s ∷ ss) =
+      let one = unread (seen s).is_honest refl in
+      let rest = some_good bytes ss in
+      (one.0 ∷ rest.0, (one.1, rest.1))
+    where
+      unread : (honest : Bool) → (seen s).is_honest ≡ honest →
+          (good : List Record) × AreGoodOf seen limit s good
+      unread true is =
+          let has = reading_is (seen s).left limit (bytes s is) in (has.good, left_good is has.reading)
+      unread false is = (
+        [],
+        record {
+          bytes = [];
+          left = λ honest. absurd (not_both (seen s).is_honest is honest);
+          ending = None;
+          reading = own_reading (begins_none [] limit);
+        },
+      )
 
 -- ---- all workers
 
 -- a sink that was left alone
 pub untouched_refused : {S : Type 0} (seen : S → SourceView) → LeftAreBytes seen →
     (settings : Settings) (before : List S) (old : SinkView) →
-    AreHonest seen before → IsRefused seen settings before old old
-untouched_refused seen bytes settings before old honest =
-    let has = some_good seen settings.max_records bytes before honest in record {
+    IsRefused seen settings before old old
+untouched_refused seen bytes settings before old =
+    let has = some_good seen settings.max_records bytes before in record {
       goods = has.0;
       are_good = has.1;
       pairs = [];
@@ -284,12 +336,12 @@ module _ {S : Type 0} (seen : S → SourceView) (settings : Settings) (before af
       pub taken : IsPrefix (before_second level events) (chunks cut settings.version pairs)
 
     pub source_refused : LeftAreBytes seen → AreLawful settings → length before ≤ 16 →
-        AreHonest seen before → (events : List Chunk) (end : End) →
+        (events : List Chunk) (end : End) →
         HasStaged seen settings level before after events end → end ≡ Fault Memory →
         IsRefusedRun events
-    source_refused bytes lawful sixteen honest events end h end_is =
+    source_refused bytes lawful sixteen events end h end_is =
         let sent = all_fronts seen settings.max_records bytes 0 before h.gathered.loader_outs after
-        h.gathered.files h.gathered.loaded honest in
+        h.gathered.files h.gathered.loaded in
         let files : AreSent (map sent_input h.gathered.files) (raw_overlay sent.goods) =
         record {
           lists = sent.goods;

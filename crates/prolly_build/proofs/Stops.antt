@@ -15,7 +15,7 @@ use Rattle.prolly_tree.specs.Pipeline.{pipeline_events}
 use Rattle.prolly_entry.specs.Record.{Record}
 use Rattle.prolly_laws.specs.Merging.{cut_behind_stop, merge_joined, merged_part_rises}
 use Rattle.prolly_laws.specs.Merging.{merged_part_is_small}
-use Rattle.prolly_io.specs.Source.{AreHonest, SourceView}
+use Rattle.prolly_io.specs.Source.{SourceView}
 use Rattle.prolly_link.specs.declared.message.End.{End}
 use Rattle.prolly_link.specs.declared.message.End.TheVariants.{Clean, Fault}
 use Rattle.prolly_link.specs.declared.fault.RunFault.{RunFault}
@@ -144,12 +144,12 @@ module _ {S : Type 0} (seen : S → SourceView) (settings : Settings) (before af
           settings.version faulty (merged_part inputs)
 
     gathered_stops : LeftAreBytes seen → AreLawful settings → length before ≤ 16 →
-        AreHonest seen before → (pairs : List Pair) (end : End) (fault : RunFault) →
+        (pairs : List Pair) (end : End) (fault : RunFault) →
         IsGathered seen settings.max_records before after pairs end → end ≡ Fault fault →
         fault ≢ Memory →
         (events : List Chunk) → events ≡ pipeline_events (settings.stages - 1)
         (sha512_cut settings.bits) settings.version faulty pairs → IsStoppedRun events fault
-    gathered_stops bytes lawful sixteen honest pairs end fault h end_is other events sent =
+    gathered_stops bytes lawful sixteen pairs end fault h end_is other events sent =
         let files = map sent_input h.files in
         let rises = all_rise seen settings.max_records 0 before h.loader_outs after h.files h.loaded
         in
@@ -160,7 +160,7 @@ module _ {S : Type 0} (seen : S → SourceView) (settings : Settings) (before af
         let not_memory : last.0.fault ≢ Memory = λ e. other (sym last.2 ∙ e) in
         let down = joined_stops h.mergers files h.inputs h.joined rises last.0 last.1 not_memory in
         let counts = all_count seen settings.max_records bytes 0 before h.loader_outs after h.files
-        h.loaded honest in
+        h.loaded in
         let true_stop = cut_behind_stop RunFault Memory counts.inputs files last.0
         (count_rises 0 before after counts.inputs counts.count_for) counts.sent_of down.0
         not_memory in
@@ -182,10 +182,10 @@ module _ {S : Type 0} (seen : S → SourceView) (settings : Settings) (before af
         }
 
     pub source_stops : LeftAreBytes seen → AreLawful settings → length before ≤ 16 →
-        AreHonest seen before → (events : List Chunk) (end : End) (fault : RunFault) →
+        (events : List Chunk) (end : End) (fault : RunFault) →
         HasStaged seen settings (settings.stages - 1) before after events end →
         end ≡ Fault fault → fault ≢ Memory → IsStoppedRun events fault
-    source_stops bytes lawful sixteen honest events end fault h end_is other = go h.staged
+    source_stops bytes lawful sixteen events end fault h end_is other = go h.staged
       where
         stage : Closing → List Pair → List Chunk
         stage = pipeline_events (settings.stages - 1) (sha512_cut settings.bits) settings.version
@@ -194,5 +194,5 @@ module _ {S : Type 0} (seen : S → SourceView) (settings : Settings) (before af
         go (inr s) = absurd (other (same_fault fault Memory (sym end_is ∙ s.0)))
         go (inl s) =
             let pairs_end : h.pairs_end ≡ Fault fault = sym s.1 ∙ end_is in
-            gathered_stops bytes lawful sixteen honest h.pairs h.pairs_end fault h.gathered pairs_end
+            gathered_stops bytes lawful sixteen h.pairs h.pairs_end fault h.gathered pairs_end
             other events (s.0 ∙ ap (λ (x : End). stage (closing_of x) h.pairs) pairs_end)

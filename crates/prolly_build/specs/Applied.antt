@@ -16,7 +16,7 @@ use Rattle.prolly_tree.specs.File.{header, root_reference}
 use Rattle.prolly_tree.specs.Merge.{Input, stop, stop_fault, merged_part}
 use Rattle.prolly_tree.specs.Passing.{map_input}
 use Rattle.prolly_io.specs.Sink.{SinkView, TakesPrefix}
-use Rattle.prolly_io.specs.Source.{AreHonest, SourceView}
+use Rattle.prolly_io.specs.Source.{SourceView}
 use Rattle.prolly_link.specs.declared.fault.RunFault.{RunFault}
 use Rattle.prolly_link.specs.declared.fault.RunFault.TheVariants.{Memory, Write, NoThread, Lost}
 use Rattle.prolly_root.specs.ChunkFile.{ChunkFile, IsLawful, chunk_file}
@@ -158,10 +158,10 @@ pub record IsApplyOutcome {S : Type 0} (seen : S → SourceView) (goes_over : Ch
   -- left it.
   pub left_behind : IfErr result (λ fault. fault ≢ answers.Run NoThread →
       fault ≢ answers.Run Lost → AreKept seen before after)
-  -- A fault of an input, over honest sources: of any map of the root, it is the one that the old tree
-  -- and the files decide, the tree being the input before file 0, and the sink took the chunks that
-  -- the pairs before it close.
-  pub stopped : IfErr result (λ fault. IsFileFault (fault_told fault) → AreHonest seen before →
+  -- A fault of an input: of any map of the root, it is the one that the old tree and the files decide,
+  -- the tree being the input before file 0, and the sink took the chunks that the pairs before it
+  -- close.
+  pub stopped : IfErr result (λ fault. IsFileFault (fault_told fault) →
       OfMaps goes_over settings root
       (IsStoppedOver seen settings before after old new (fault_told fault)))
   -- A fault of the old tree is never told as one of a file.
@@ -174,9 +174,9 @@ pub record IsApplyOutcome {S : Type 0} (seen : S → SourceView) (goes_over : Ch
   -- Of the old tree's file what is wrong first is told.
   pub of_old : IfErr result (λ fault. (told : RootFault) → fault ≡ answers.Old told →
       MayRefuseOld goes_over settings.version root told)
-  -- Want of memory, over honest sources: of any map of the root, the sink took a prefix of the file,
-  -- without its end record, of the first pairs of the overlay of the map and all good records.
-  pub refused : IfErr result (λ fault. fault ≡ answers.Run Memory → AreHonest seen before →
+  -- Want of memory: of any map of the root, the sink took a prefix of the file, without its end
+  -- record, of the first pairs of the overlay of the map and all good records.
+  pub refused : IfErr result (λ fault. fault ≡ answers.Run Memory →
       OfMaps goes_over settings root (IsRefusedOver seen settings before old new))
   -- The sink keeps what it takes, if it did.
   pub keeps : old.is_keeping ≡ true → new.is_keeping ≡ true

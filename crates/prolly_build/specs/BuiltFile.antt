@@ -18,6 +18,7 @@ use Rattle.prolly_link.specs.declared.message.End.{End}
 use Rattle.prolly_link.specs.declared.message.End.TheVariants.{Clean, Fault}
 use Rattle.prolly_link.specs.declared.fault.RunFault.{RunFault}
 use Rattle.prolly_link.specs.declared.fault.RunFault.TheVariants as faults
+use Rattle.prolly_load.specs.Reader.{StaysAsItWas}
 use Rattle.prolly_report.specs.declared.report.Report.{Report}
 use Rattle.prolly_build.specs.Config.{Settings}
 use Rattle.prolly_build.specs.WriterState.{AreSmall, frames_of}
@@ -100,10 +101,12 @@ abbrev pub IsRunOf : Settings → List Pair → List Chunk → End → Type 0
 IsRunOf settings m events end = end ≡ Clean → IsCleanRun settings m events
 
 module _ {S : Type 0} (seen : S → SourceView) where
-  -- No read of the source failed, and the bytes that it had left are these records, one after
-  -- another, and nothing else.
+  -- No read of the source failed, and its bytes are these records, one after another, and nothing
+  -- else. Where it is honest they are all that it had left.
   pub record IsRead (limit : ℕ) (before after : S) (good : List Record) : Type 0 where
-    pub reading : (seen before).is_honest ≡ true → IsReading (seen before).left limit good None
+    pub bytes : List ℕ
+    pub left : (seen before).is_honest ≡ true → bytes ≡ (seen before).left
+    pub reading : IsReading bytes limit good None
     pub unfailed : (seen after).failures ≡ (seen before).failures
 
   -- So it is with each source, in its place.
@@ -112,10 +115,11 @@ module _ {S : Type 0} (seen : S → SourceView) where
   AreRead limit (s ∷ ss) (t ∷ ts) (g ∷ gs) = IsRead limit s t g × AreRead limit ss ts gs
   AreRead limit _ _ _ = ⊥
 
-  -- The source is there as its loader left it: behind some bytes that it handed out are those that
-  -- it has left.
+  -- The source is there as its loader left it, and it stayed what it was: an honest one is honest, and
+  -- a steady one is steady, of which no read failed. Behind some bytes that an honest one handed out
+  -- are those that it has left.
   pub record IsKept (before after : S) : Type 0 where
-    pub honest : (seen before).is_honest ≡ true → (seen after).is_honest ≡ true
+    pub stays : StaysAsItWas (seen before) (seen after)
     pub handed : List ℕ
     pub rest : (seen before).is_honest ≡ true → (seen before).left ≡ handed ++ (seen after).left
 

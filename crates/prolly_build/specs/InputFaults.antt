@@ -35,19 +35,22 @@ IsFileFault (faults.TooManyRecords f) = Unit {0}
 IsFileFault _ = ⊥
 
 module _ {S : Type 0} (seen : S → SourceView) where
-  -- No read failed: the reading of the bytes that the source had left, with what it ends in.
+  -- No read failed: the reading of some bytes, with what it ends in. Where the source is honest they
+  -- are those that it had left.
   pub record IsReadingOf (file limit : ℕ) (before after : S) (input : Input RunFault) : Type 0 where
     pub unfailed : (seen after).failures ≡ (seen before).failures
+    pub bytes : List ℕ
+    pub left : (seen before).is_honest ≡ true → bytes ≡ (seen before).left
     pub ending : Option Flaw
-    pub reading : IsReading (seen before).left limit input.records ending
+    pub reading : IsReading bytes limit input.records ending
     pub told : input.fault ≡ ending_told file (length input.records) ending
 
   -- The source failed: the records of the bytes that it had handed out till then, with a failed
-  -- read.
+  -- read. Where it is honest they stand before those that it has left.
   pub record IsFailureOf (file limit : ℕ) (before after : S) (input : Input RunFault) : Type 0 where
     pub failed : (seen after).failures ≢ (seen before).failures
     pub handed : List ℕ
-    pub kept : (seen before).left ≡ handed ++ (seen after).left
+    pub kept : (seen before).is_honest ≡ true → (seen before).left ≡ handed ++ (seen after).left
     pub read : IsReadTo handed limit input.records
     pub told : input.fault ≡ Some (faults.Read file)
 

@@ -1,7 +1,7 @@
 -- What a build has answered, and what it has made of its sources and of the sink then.
 use Rattle.std.specs.Prelude.{◌≡◌, ◌≢◌, true, List, Result, IfOk, IfErr, OnOk}
 use Rattle.prolly_io.specs.Sink.{SinkView}
-use Rattle.prolly_io.specs.Source.{AreHonest, SourceView}
+use Rattle.prolly_io.specs.Source.{SourceView}
 use Rattle.prolly_link.specs.declared.fault.RunFault.{RunFault}
 use Rattle.prolly_link.specs.declared.fault.RunFault.TheVariants.{Memory, Write, NoThread, Lost}
 use Rattle.prolly_build.specs.BuiltFile.{IsBegun, IsBuilt, IsUnmade, IsStartFault, IsWriterFault}
@@ -26,13 +26,13 @@ pub record IsOutcome {S : Type 0} (seen : S → SourceView) (settings : Settings
   -- made, for this fault.
   pub unmade : IfErr result (λ fault. IsWriterFault fault →
       IsUnmade seen settings before after old new fault)
-  -- A fault of a record file, over honest sources: it is the one that the files decide, and the
-  -- sink took the chunks that the pairs before it close.
-  pub stopped : IfErr result (λ fault. IsFileFault fault → AreHonest seen before →
+  -- A fault of a record file: it is the one that the files decide, and the sink took the chunks that
+  -- the pairs before it close.
+  pub stopped : IfErr result (λ fault. IsFileFault fault →
       IsStopped seen settings before after old new fault)
-  -- Want of memory, over honest sources: the sink took a prefix of the file, without its end
-  -- record, of the first pairs of the overlay of all good records.
-  pub refused : IfErr result (λ fault. fault ≡ Memory → AreHonest seen before →
+  -- Want of memory: the sink took a prefix of the file, without its end record, of the first pairs of
+  -- the overlay of all good records.
+  pub refused : IfErr result (λ fault. fault ≡ Memory →
       IsRefused seen settings before old new)
   -- Every fault but a failed write: no end record is begun.
   pub begun : IfErr result (λ fault. fault ≢ Write → IsBegun settings old new)

@@ -15,10 +15,13 @@ use Rattle.prolly_build.specs.Config.{Settings}
 use Rattle.prolly_build.specs.WriterState.{frames_of}
 
 module _ {S : Type 0} (seen : S → SourceView) where
-  -- The records are the good ones of the bytes that the source had left, whatever follows them.
+  -- The records are the good ones of some bytes, whatever follows them. Where the source is honest
+  -- these are the bytes that it had left.
   pub record AreGoodOf (limit : ℕ) (before : S) (good : List Record) : Type 0 where
+    pub bytes : List ℕ
+    pub left : (seen before).is_honest ≡ true → bytes ≡ (seen before).left
     pub ending : Option Flaw
-    pub reading : IsReading (seen before).left limit good ending
+    pub reading : IsReading bytes limit good ending
 
   -- So it is with each source, in its place.
   abbrev pub AreGood : ℕ → List S → List (List Record) → Type 0

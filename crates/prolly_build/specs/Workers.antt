@@ -10,6 +10,7 @@ use Rattle.prolly_link.specs.declared.message.End.TheVariants.{Fault}
 use Rattle.prolly_link.specs.declared.fault.RunFault.TheVariants.{Read}
 use Rattle.prolly_entry.specs.Record.{Record}
 use Rattle.prolly_load.specs.Loaded.{IsLoaded}
+use Rattle.prolly_load.specs.Reader.{StaysAsItWas}
 use Rattle.prolly_stage.specs.Sends.{Sends}
 
 -- The stage's input has ended, and what the stage makes of it was sent, on the links that it was
@@ -22,8 +23,8 @@ pub record IsStaged {A : Type 0} (stage : Closing → List A → List Chunk) (in
   pub sends : Sends stage ended.items (end_given ended.progress) [] closed.items closed.end
 
 -- The source was loaded into the output of this link: what was sent and the end are what the bytes
--- come to, and the end tells a failed read exactly where a read failed. An honest source
--- stays honest.
+-- come to, and the end tells a failed read exactly where a read failed. The source stayed what it
+-- was.
 pub record IsLoadedFrom {S : Type 0} (seen : S → SourceView) (file limit : ℕ) (source : S)
     (link : LinkId) (source' : S) (closed : Whole Record) : Type 0 where
   pub writes : closed.link ≡ link
@@ -31,4 +32,4 @@ pub record IsLoadedFrom {S : Type 0} (seen : S → SourceView) (file limit : ℕ
       closed.items closed.end
   pub read : (closed.end ≡ Fault (Read file)) ↔ ((seen source').failures ≢ (seen source).failures)
   pub unfailed : closed.end ≢ Fault (Read file) → (seen source').failures ≡ (seen source).failures
-  pub honest : (seen source).is_honest ≡ true → (seen source').is_honest ≡ true
+  pub stays : StaysAsItWas (seen source) (seen source')

@@ -71,6 +71,7 @@ impl Config {
     pub fn new(bits: u8, stages: u8, capacity: u32, max_records: u32) -> Result<Config, ConfigFault>
         ensures ok { IfOk result
             (λ config. config ≡ first_settings bits stages capacity max_records) }
+        ensures lawful { IfOk result AreLawful }
         ensures err { IfErr result (IsConfigFault bits stages capacity max_records) }
     {
         if bits > 24 {
@@ -98,6 +99,7 @@ impl Config {
     /// These settings with messages of at most so many items (1 to 1,024).
     pub fn with_batch(self, batch: u32) -> Result<Config, ConfigFault>
         ensures ok { IfOk result (λ config. config ≡ record self { batch = batch }) }
+        ensures lawful { IfOk result AreLawful }
         ensures err { IfErr result (λ fault. (fault ≡ BadBatch) × IsOutside 1024 batch) }
     {
         if !(1..=1_024).contains(&batch) {
@@ -110,6 +112,7 @@ impl Config {
     pub fn with_version(self, version: u8) -> Result<Config, ConfigFault>
         ensures ok { IfOk result (λ config. (config ≡ record self { version = config.version }) ×
             (version_byte config.version ≡ version)) }
+        ensures lawful { IfOk result AreLawful }
         ensures err { IfErr result (λ fault. (fault ≡ BadVersion) × (version ≢ 1) × (version ≢ 2)) }
     {
         match Version::of(version) {

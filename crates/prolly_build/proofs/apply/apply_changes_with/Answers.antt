@@ -25,5 +25,5 @@ returns-in_default-clause-outcome g c =
     ) in
     unstarted_outcome _ _ _ _ _ _ _ _ _ Memory (λ w. w) (λ f. f) refl
     (same_kept g.S.Source.seen c.args.sources.now.items) (nothing_begun _ _)
-    (λ e honest. untouched_refused g.S.Source.seen source.left_are_bytes _ _ _
-    c.args.sources.now.items _ honest)
+    (λ e. untouched_refused g.S.Source.seen source.left_are_bytes _ _ _
+    c.args.sources.now.items _)

@@ -35,8 +35,8 @@ returns-in_default-clause-outcome g c =
       kept = tt;
       unmade = λ w. absurd w;
       stopped = λ file. absurd file;
-      refused = λ memory honest. untouched_refused g.S.Source.seen source.left_are_bytes _
-          c.args.sources.now.items _ honest;
+      refused = λ memory. untouched_refused g.S.Source.seen source.left_are_bytes _
+          c.args.sources.now.items _;
       begun = λ n. nothing_begun _ _;
       unstarted = λ s. refl;
       left_behind = λ a b. same_kept g.S.Source.seen c.args.sources.now.items;
