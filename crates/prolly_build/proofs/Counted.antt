@@ -137,8 +137,8 @@ module _ {S : Type 0} (seen : S → SourceView) (limit : ℕ) where
       let h = all (λ e. cc) in whole file s t records bytes (Some flaws.KeyTooLong)
       (Fault (faults.KeyTooLong f place)) left h.2
       (same_file f file place records faults.KeyTooLong h.0 h.1) (unfailed (λ e. cc))
-  one_fault law file s t records handed bytes (faults.ValueTooLong f place) kept left ends all failed
-      unfailed =
+  one_fault law file s t records handed bytes (faults.ValueTooLong f place) kept left ends all
+      failed unfailed =
       let h = all (λ e. cc) in whole file s t records bytes (Some flaws.ValueTooLong)
       (Fault (faults.ValueTooLong f place)) left h.2
       (same_file f file place records faults.ValueTooLong h.0 h.1) (unfailed (λ e. cc))
@@ -160,8 +160,8 @@ module _ {S : Type 0} (seen : S → SourceView) (limit : ℕ) where
       absurd ends
   one_fault law file s t records handed bytes faults.Lost kept left ends all failed unfailed =
       absurd ends
-  one_fault law file s t records handed bytes faults.TooManyFiles kept left ends all failed unfailed =
-      absurd ends
+  one_fault law file s t records handed bytes faults.TooManyFiles kept left ends all failed
+      unfailed = absurd ends
 
   one_end : LeftAreBytes seen → (file : ℕ) (s t : S) (records : List Record)
       (handed bytes : List ℕ) (end : End) →
@@ -178,7 +178,8 @@ module _ {S : Type 0} (seen : S → SourceView) (limit : ℕ) where
       one_fault law file s t records handed bytes fault kept left ends all failed unfailed
 
   one_counts : LeftAreBytes seen → (file : ℕ) (s : S) (o : Batching Record) (t : S)
-      (c : Whole Record) → IsLoadedFrom seen file limit s o.link t c → Counts file s t (sent_input c)
+      (c : Whole Record) → IsLoadedFrom seen file limit s o.link t c →
+      Counts file s t (sent_input c)
   one_counts law file s o t c h =
       let comes = comes_of seen limit file s o t c h in
       one_end law file s t c.items h.loaded.handed comes.bytes c.end h.loaded.kept comes.left

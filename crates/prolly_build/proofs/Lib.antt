@@ -42,3 +42,5 @@ pub mod Applying
 pub mod ApplyOutcomes
 -- What is told of the reads of an old tree whose source is given back.
 pub mod GivenBack
+-- Which failed reads of files are told.
+pub mod FailedReads

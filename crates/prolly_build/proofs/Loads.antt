@@ -59,8 +59,8 @@ end_told file limit bytes records (Fault fault) h = fault_told file limit bytes 
 pub own_reading : {bytes : List ℕ} {limit : ℕ} {records : List Record} {rest : List ℕ} →
     Begins bytes limit records rest →
     IsReading (flat_map record_spelling records) limit records None
-own_reading {bytes} {limit} {records} h = ends_clean (flat_map record_spelling records) limit records
-    (record {
+own_reading {bytes} {limit} {records} h =
+    ends_clean (flat_map record_spelling records) limit records (record {
       spelled = sym (append-nil (flat_map record_spelling records));
       lawful = h.lawful;
       rising = h.rising;
@@ -88,8 +88,8 @@ module _ {S : Type 0} (seen : S → SourceView) (limit : ℕ) where
   not_read : (file : ℕ) (end : End) → end ≡ Clean → end ≡ Fault (faults.Read file) → ⊥
   not_read file end e f = cc
 
-  -- bytes that come to what was sent: all that an honest source had left, or what another one handed
-  -- out
+  -- bytes that come to what was sent: all that an honest source had left, or what another one
+  -- handed out
   pub record ComesOf (file : ℕ) (s : S) (records : List Record) (end : End) : Type 0 where
     pub bytes : List ℕ
     pub left : (seen s).is_honest ≡ true → bytes ≡ (seen s).left

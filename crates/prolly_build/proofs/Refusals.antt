@@ -1,7 +1,7 @@
 -- What the workers of a build sent where one of them was refused memory.
 use Rattle.std.proofs.Common.{◌≡◌, ◌≤◌, ◌<◌, ◌-◌, ◌*◌, ◌^◌, ℕ, zero, suc, Bool, true, false, List}
-use Rattle.std.proofs.Common.{[], ◌∷◌, ◌++◌, map, length, Option, Some, None, inl, inr, refl, ap, sym, subst}
-use Rattle.std.proofs.Common.{◌∙◌, arith}
+use Rattle.std.proofs.Common.{[], ◌∷◌, ◌++◌, map, length, Option, Some, None, inl, inr, refl, ap}
+use Rattle.std.proofs.Common.{sym, subst, ◌∙◌, arith}
 use Rattle.std.specs.List.{flat_map}
 use Rattle.std.proofs.lemmas.List.{append-nil, length-append}
 use Rattle.std.proofs.lemmas.List.Concat.{flat_map-append}
@@ -224,8 +224,8 @@ module _ {S : Type 0} (seen : S → SourceView) (limit : ℕ) where
             good = has.good;
             is_good = left_good is has.reading;
             front = record {
-              first = first_are_good (seen s).left limit c.items (sent.rest ++ (seen t).left) has.good
-                  has.ending
+              first = first_are_good (seen s).left limit c.items (sent.rest ++ (seen t).left)
+                  has.good has.ending
                   (begins_all (seen s).left h.loaded.handed (seen t).left limit c.items sent.rest
                   sent.begins (h.loaded.kept is)) has.reading;
               all = λ e.
@@ -285,7 +285,8 @@ module _ {S : Type 0} (seen : S → SourceView) (limit : ℕ) where
       unread : (honest : Bool) → (seen s).is_honest ≡ honest →
           (good : List Record) × AreGoodOf seen limit s good
       unread true is =
-          let has = reading_is (seen s).left limit (bytes s is) in (has.good, left_good is has.reading)
+          let has = reading_is (seen s).left limit (bytes s is) in
+          (has.good, left_good is has.reading)
       unread false is = (
         [],
         record {

@@ -158,9 +158,9 @@ pub record IsApplyOutcome {S : Type 0} (seen : S → SourceView) (goes_over : Ch
   -- left it.
   pub left_behind : IfErr result (λ fault. fault ≢ answers.Run NoThread →
       fault ≢ answers.Run Lost → AreKept seen before after)
-  -- A fault of an input: of any map of the root, it is the one that the old tree and the files decide,
-  -- the tree being the input before file 0, and the sink took the chunks that the pairs before it
-  -- close.
+  -- A fault of an input: of any map of the root, it is the one that the old tree and the files
+  -- decide, the tree being the input before file 0, and the sink took the chunks that the pairs
+  -- before it close.
   pub stopped : IfErr result (λ fault. IsFileFault (fault_told fault) →
       OfMaps goes_over settings root
       (IsStoppedOver seen settings before after old new (fault_told fault)))

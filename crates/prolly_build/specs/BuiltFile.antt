@@ -115,9 +115,9 @@ module _ {S : Type 0} (seen : S → SourceView) where
   AreRead limit (s ∷ ss) (t ∷ ts) (g ∷ gs) = IsRead limit s t g × AreRead limit ss ts gs
   AreRead limit _ _ _ = ⊥
 
-  -- The source is there as its loader left it, and it stayed what it was: an honest one is honest, and
-  -- a steady one is steady, of which no read failed. Behind some bytes that an honest one handed out
-  -- are those that it has left.
+  -- The source is there as its loader left it, and it stayed what it was: an honest one is honest,
+  -- and a steady one is steady, of which no read failed. Behind some bytes that an honest one
+  -- handed out are those that it has left.
   pub record IsKept (before after : S) : Type 0 where
     pub stays : StaysAsItWas (seen before) (seen after)
     pub handed : List ℕ

@@ -35,8 +35,8 @@ IsFileFault (faults.TooManyRecords f) = Unit {0}
 IsFileFault _ = ⊥
 
 module _ {S : Type 0} (seen : S → SourceView) where
-  -- No read failed: the reading of some bytes, with what it ends in. Where the source is honest they
-  -- are those that it had left.
+  -- No read failed: the reading of some bytes, with what it ends in. Where the source is honest
+  -- they are those that it had left.
   pub record IsReadingOf (file limit : ℕ) (before after : S) (input : Input RunFault) : Type 0 where
     pub unfailed : (seen after).failures ≡ (seen before).failures
     pub bytes : List ℕ

@@ -39,3 +39,5 @@ pub mod Applied
 pub mod OldEnd
 -- What becomes of the source of an old tree, and what is told of its reads.
 pub mod GivenBack
+-- Which failed reads of files are told.
+pub mod FailedReads

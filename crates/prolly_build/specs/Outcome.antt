@@ -26,12 +26,12 @@ pub record IsOutcome {S : Type 0} (seen : S → SourceView) (settings : Settings
   -- made, for this fault.
   pub unmade : IfErr result (λ fault. IsWriterFault fault →
       IsUnmade seen settings before after old new fault)
-  -- A fault of a record file: it is the one that the files decide, and the sink took the chunks that
-  -- the pairs before it close.
+  -- A fault of a record file: it is the one that the files decide, and the sink took the chunks
+  -- that the pairs before it close.
   pub stopped : IfErr result (λ fault. IsFileFault fault →
       IsStopped seen settings before after old new fault)
-  -- Want of memory: the sink took a prefix of the file, without its end record, of the first pairs of
-  -- the overlay of all good records.
+  -- Want of memory: the sink took a prefix of the file, without its end record, of the first pairs
+  -- of the overlay of all good records.
   pub refused : IfErr result (λ fault. fault ≡ Memory →
       IsRefused seen settings before old new)
   -- Every fault but a failed write: no end record is begun.
