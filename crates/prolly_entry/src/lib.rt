@@ -24,5 +24,7 @@ pub use pair::{EntryFault, KEY_LIMIT, Pair, VALUE_LIMIT, key_order, key_rises};
 pub use record::Record;
 pub use record_file::{RecordFault, records};
 pub use reference::{REFERENCE_SIZE, Ref};
-pub use spelling::{KEY_START, LENGTHS_SIZE, append_pair, append_record, split_key};
+pub use spelling::{
+    KEY_START, LENGTHS_SIZE, append_pair, append_record, append_record_of, split_key,
+};
 pub use version::Version;

@@ -2,7 +2,9 @@
 ghost use Rattle.std.specs.Prelude.{◌≡◌, ◌++◌, OnOk, OnErr, ◌+◌, ◌^◌, ◌<◌, ◌≤◌, length, take, drop};
 ghost use Rattle.std.specs.Int.{w16, w32, w64, to_be_bytes, from_be_bytes};
 ghost use Rattle.std.specs.Prelude.{IfSome, IfNone};
+ghost use Rattle.std.specs.Option.{option_copied};
 ghost use Rattle.prolly_entry.specs.Reading.{key_length};
+ghost use Rattle.prolly_entry.specs.Record.{IsRecord};
 ghost use Rattle.prolly_entry.specs.Spelling.{pair_spelling, record_spelling};
 
 use crate::pair::Pair;
@@ -48,11 +50,34 @@ pub fn append_record(out: &mut Vec<u8>, record: &Record) -> Result<(), AllocErro
 {
     match record.pair() {
         Some(pair) => append_pair(out, pair),
-        None => {
-            let key = record.key();
-            let key_length = two_bytes(key.len() as u16);
-            append_parts(out, &key_length, key, &four_bytes(REMOVAL), &[])
-        }
+        None => append_record_of(out, record.key(), None),
+    }
+}
+
+/// Appends the spelling of the record that puts this value at the key, or that removes the key. An
+/// `Err` leaves `out` as it was.
+///
+/// Takes time in the record's size, and makes room at most once.
+pub fn append_record_of(
+    out: &mut Vec<u8>,
+    key: &[u8],
+    value: Option<&[u8]>,
+) -> Result<(), AllocError>
+    requires { IsRecord (record { key = key.now; value = option_copied value }) }
+    ensures ok { OnOk result (out.new.items ≡ out.old.items ++ record_spelling
+        (record { key = key.now; value = option_copied value.entry })) }
+    ensures err { OnErr result (out.new.items ≡ out.old.items) }
+{
+    let key_length = two_bytes(key.len() as u16);
+    match value {
+        Some(value) => append_parts(
+            out,
+            &key_length,
+            key,
+            &four_bytes(value.len() as u32),
+            value,
+        ),
+        None => append_parts(out, &key_length, key, &four_bytes(REMOVAL), &[]),
     }
 }
 

@@ -181,7 +181,7 @@ fn write_changes<W: Sink>(
         counts.count(change.before, change.after);
         // Without a form the spelling stays empty, and the sink is not called.
         spelling.clear();
-        append_change(alloc, &mut spelling, form, change.key, change.after)?;
+        append_change(&mut spelling, form, change.key, change.after)?;
         write_all(sink, &spelling)?;
     }
     let Some(_) = form else {

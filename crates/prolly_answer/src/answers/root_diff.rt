@@ -156,7 +156,7 @@ fn write_changes<S: ChunkSource, R: ChunkSource, W: Sink>(
         if let Err(fault) = count(diff.stat, &mut counts, &change) {
             return Err(fault);
         }
-        if let Err(fault) = write_change(alloc, &mut spelling, diff.form, change, sink) {
+        if let Err(fault) = write_change(&mut spelling, diff.form, change, sink) {
             return Err(Fault::from(fault));
         }
         changed = true;
@@ -237,7 +237,6 @@ fn fault_of(fault: RootDiffFault) -> Fault
 
 /// Writes a change in this form, where one is given. What the spelling held is let go.
 fn write_change<W: Sink>(
-    alloc: Global,
     spelling: &mut Vec<u8>,
     form: Option<RecordForm>,
     change: RootChange,
@@ -247,13 +246,12 @@ fn write_change<W: Sink>(
 {
     match form {
         None => Ok(()),
-        Some(form) => write_own(alloc, spelling, form, change, sink),
+        Some(form) => write_own(spelling, form, change, sink),
     }
 }
 
 /// Writes a change in this form.
 fn write_own<W: Sink>(
-    alloc: Global,
     spelling: &mut Vec<u8>,
     form: RecordForm,
     change: RootChange,
@@ -262,14 +260,13 @@ fn write_own<W: Sink>(
     ensures { WroteOwn W.seen (spelled form (record_of change)) sink.old sink.new result }
 {
     spelling.clear();
-    append(alloc, spelling, form, &change)?;
+    append(spelling, form, &change)?;
     write_all(sink, spelling)?;
     Ok(())
 }
 
 /// Appends the change in this form.
 fn append(
-    alloc: Global,
     out: &mut Vec<u8>,
     form: RecordForm,
     change: &RootChange,
@@ -277,9 +274,9 @@ fn append(
     ensures { OnOk result (out.new.items ≡ out.old.items ++ spelled form (record_of change.now)) }
 {
     match change {
-        RootChange::Removed(pair) => append_change(alloc, out, Some(form), pair.key(), None),
+        RootChange::Removed(pair) => append_change(out, Some(form), pair.key(), None),
         RootChange::Added(pair) | RootChange::Changed(_, pair) => {
-            append_change(alloc, out, Some(form), pair.key(), Some(pair.value()))
+            append_change(out, Some(form), pair.key(), Some(pair.value()))
         }
     }
 }

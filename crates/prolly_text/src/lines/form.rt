@@ -12,8 +12,8 @@ ghost use Rattle.prolly_entry.specs.Spelling.{record_spelling};
 ghost use Rattle.prolly_text.specs.RecordForms.{change_text, record_line, removal_mark, spelled_in};
 
 use crate::notation::Notation;
-use prolly_entry::{Pair, Record, append_record};
-use std::alloc::{AllocError, Global};
+use prolly_entry::append_record_of;
+use std::alloc::AllocError;
 
 /// How lines are written: `HEXKEY HEXVALUE`, or `HEXKEY -` for a removal; or in text a key, a tab
 /// and a value, or a key alone for a removal.
@@ -60,7 +60,6 @@ pub enum RecordForm {
 
 /// Appends a change in this form, or nothing where there is none.
 pub fn append_change(
-    alloc: Global,
     out: &mut Vec<u8>,
     form: Option<RecordForm>,
     key: &[u8],
@@ -75,7 +74,7 @@ pub fn append_change(
     match form {
         None => Ok(()),
         Some(RecordForm::Lines(notation)) => append_line(out, notation, key, value),
-        Some(RecordForm::Records) => append_record(out, &record_of(alloc, key, value)?),
+        Some(RecordForm::Records) => append_record_of(out, key, value),
     }
 }
 
@@ -119,16 +118,5 @@ fn removal_mark(notation: Notation) -> &'static [u8]
     match notation {
         Notation::Hex => b" -",
         Notation::Text => b"",
-    }
-}
-
-/// The record of a change.
-fn record_of(alloc: Global, key: &[u8], value: Option<&[u8]>) -> Result<Record, AllocError>
-    requires { IsRecord (record { key = key.now; value = option_copied value }) }
-    ensures { IfOk result (λ r. r ≡ record { key = key.now; value = option_copied value.entry }) }
-{
-    match value {
-        Some(value) => Ok(Record::put(Pair::copy_of(alloc, key, value)?)),
-        None => Record::removal_of(alloc, key),
     }
 }
