@@ -22,11 +22,7 @@ use std::alloc::{AllocError, Global};
 ///
 /// One pass, in time linear in the bytes. Copies three keys at most, and holds one buffer of 130
 /// KiB, however long the file is.
-pub fn survey<S: Source>(
-    alloc: Global,
-    source: &mut S,
-    limit: u32,
-) -> Result<Survey, ReadFault>
+pub fn survey<S: Source>(alloc: Global, source: &mut S, limit: u32) -> Result<Survey, ReadFault>
     ensures ok { (S.seen source.old).is_honest ≡ true → IfOk result (λ survey.
         IsSurvey (S.seen source.old).left limit survey) }
 

@@ -266,11 +266,7 @@ fn write_own<W: Sink>(
 }
 
 /// Appends the change in this form.
-fn append(
-    out: &mut Vec<u8>,
-    form: RecordForm,
-    change: &RootChange,
-) -> Result<(), AllocError>
+fn append(out: &mut Vec<u8>, form: RecordForm, change: &RootChange) -> Result<(), AllocError>
     ensures { OnOk result (out.new.items ≡ out.old.items ++ spelled form (record_of change.now)) }
 {
     match change {

@@ -1,14 +1,12 @@
 //! How lines are written and read, and how records are written.
 #![tactic(auto, using(crate::proofs::Appended::front_kept))]
 
-ghost use Rattle.std.specs.Prelude.{◌≡◌};
-ghost use Rattle.prolly_text.specs.Appending.{Appends};
-ghost use Rattle.prolly_text.specs.Lines.{hex_lines, reads_bare_keys};
-ghost use Rattle.std.specs.Prelude.{◌≡◌, ◌≢◌, ◌++◌, None, OnOk, IfOk, OnErr};
+ghost use Rattle.std.specs.Prelude.{◌≡◌, ◌≢◌, ◌++◌, None, OnOk, OnErr};
 ghost use Rattle.std.specs.Io.{StartsWith};
 ghost use Rattle.std.specs.Option.{option_copied};
 ghost use Rattle.prolly_entry.specs.Record.{IsRecord};
-ghost use Rattle.prolly_entry.specs.Spelling.{record_spelling};
+ghost use Rattle.prolly_text.specs.Appending.{Appends};
+ghost use Rattle.prolly_text.specs.Lines.{hex_lines, reads_bare_keys};
 ghost use Rattle.prolly_text.specs.RecordForms.{change_text, record_line, removal_mark, spelled_in};
 
 use crate::notation::Notation;
