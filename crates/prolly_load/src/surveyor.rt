@@ -30,6 +30,8 @@ pub fn survey<S: Source>(alloc: Global, source: &mut S, limit: u32) -> Result<Su
     // where the bytes that came before it show no flaw.
     ensures read { IsErrOf result Read ↔
         ((S.seen source.new).failures ≢ (S.seen source.old).failures) }
+    ensures unfailed { OnOk result
+        ((S.seen source.new).failures ≡ (S.seen source.old).failures) }
     ensures no_flaw { (S.seen source.old).is_honest ≡ true → IsErrOf result Read →
         ShowsNoFlaw limit (S.seen source.old).left (S.seen source.new).left }
     ensures honest { (S.seen source.old).is_honest ≡ true → (S.seen source.new).is_honest ≡ true }

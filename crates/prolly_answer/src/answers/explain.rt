@@ -6,7 +6,7 @@ ghost use Rattle.prolly_answer.specs.Surveys.{ShowsFlaw, good_text};
 use crate::answers::stat::numbers_of;
 use crate::input::RECORD_LIMIT;
 use prolly_fault::{Answer, Fault, append_number};
-use prolly_io::{Source, SourceFault};
+use prolly_io::{ReadFault, Source};
 use prolly_load::{FlawedRecord, Survey, survey};
 use prolly_text::{Notation, append_flaw};
 use std::alloc::{AllocError, Global};
@@ -25,9 +25,10 @@ pub fn answer_explain<S: Source>(
     ensures shown { AnswersSurvey S.seen source.old source.new (ShowsExplanation notation) result }
     ensures read { AnswersUnread S.seen source.old source.new result }
 {
-    match survey(alloc, source, RECORD_LIMIT)? {
+    match survey(alloc, source, RECORD_LIMIT) {
         Ok(survey) => reason(alloc, notation, &survey),
-        Err(SourceFault) => Answer::of_fault(alloc, Fault::Read),
+        Err(ReadFault::Memory) => Err(AllocError),
+        Err(ReadFault::Read) => Answer::of_fault(alloc, Fault::Read),
     }
 }
 

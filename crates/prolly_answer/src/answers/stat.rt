@@ -10,7 +10,7 @@ ghost use Rattle.prolly_answer.specs.Surveys.{AreOfSurvey};
 use crate::input::RECORD_LIMIT;
 use prolly_check::{ChunkHasher, Tree, check_by};
 use prolly_fault::{Answer, Fault, INPUT_LIMIT};
-use prolly_io::{Rejoined, Source, SourceFault, take_front};
+use prolly_io::{ReadFault, Rejoined, Source, take_front};
 use prolly_load::{Survey, fault_of, survey};
 use prolly_text::{
     Notation, RecordNumbers, TreeNumbers, append_json, append_records, append_records_json,
@@ -84,9 +84,10 @@ fn whole_answer<H: ChunkHasher, S: Source>(
             Err(fault) => Answer::of_fault(alloc, Fault::Check(fault)),
         };
     }
-    match survey(alloc, source, RECORD_LIMIT)? {
+    match survey(alloc, source, RECORD_LIMIT) {
         Ok(survey) => survey_answer(alloc, &survey, form),
-        Err(SourceFault) => Answer::of_fault(alloc, Fault::Read),
+        Err(ReadFault::Memory) => Err(AllocError),
+        Err(ReadFault::Read) => Answer::of_fault(alloc, Fault::Read),
     }
 }
 
