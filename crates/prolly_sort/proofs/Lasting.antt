@@ -1,4 +1,4 @@
--- The last place of each key, and places whose keys rise, as a loop finds them.
+-- The last place of each key, and places whose keys rise.
 use Rattle.std.proofs.Common.{◌≡◌, ℕ, zero, suc, ◌+◌, ◌-◌, ◌<◌, ◌≤◌, true, false, List, [], ◌∷◌, ◌++◌}
 use Rattle.std.proofs.Common.{length, get_or, take, is_lt, is_eq, refl, sym, ap, ◌∙◌, subst, arith}
 use Rattle.std.proofs.Common.{None, Some, slice_get, All, Bool, cond, nat_eq, ◌&&◌, append-nil}

@@ -2,7 +2,7 @@
 mod Coming
 -- A record more behind those that came, and the last one of each key.
 mod Keeping
--- The last place of each key, and places whose keys rise, as a loop finds them.
+-- The last place of each key, and places whose keys rise.
 mod Lasting
 -- Places in the order of their keys.
 mod Sorting

@@ -1,10 +1,10 @@
 //! Places in the order of their keys.
-ghost use Rattle.std.specs.Prelude.{◌≡◌, All, IfNone, IfSome, if◌then◌else◌, map, zero};
+ghost use Rattle.std.specs.Prelude.{◌≡◌, All, IfNone, IfSome, map, zero};
 ghost use Rattle.std.specs.List.Sorted.{IsStableBy};
 ghost use Rattle.prolly_entry.specs.Keys.{Rising};
 ghost use Rattle.prolly_entry.specs.Record.{keys_of};
 ghost use Rattle.prolly_sort.specs.Overlaid.{overlaid};
-ghost use Rattle.prolly_sort.specs.Place.{AreInOrder, SamePlaces, StandsIn, have_one_key, is_below, records_in, unranked};
+ghost use Rattle.prolly_sort.specs.Place.{AreInOrder, SamePlaces, StandsIn, is_below, records_in, unranked};
 ghost use Rattle.prolly_sort.specs.Run.{AreNeighbours, NumberedFrom};
 
 use crate::group::{LEVELS, sort_group};
@@ -29,19 +29,14 @@ pub(crate) fn keep_last(bytes: &[u8], places: &mut Vec<Place>)
         overlaid (records_in bytes.now places.old.items) }
     ensures stand { All (StandsIn bytes.now) places.new.items }
 {
-    places.dedup_by(|next, last| takes_over(bytes, last, *next));
-}
-
-/// Whether the next place has the key of the last one. Then it is put over that.
-fn takes_over(bytes: &[u8], last: &mut Place, next: Place) -> bool
-    ensures same { result ≡ have_one_key bytes.now last.old next }
-    ensures last { last.new ≡ (if result then next else last.old) }
-{
-    let is_same = have_one_key(bytes, *last, next);
-    if is_same {
-        *last = next;
-    }
-    is_same
+    // The first of two with one key stays, so the next one is put over it.
+    places.dedup_by(|next, last| {
+        let is_same = have_one_key(bytes, *last, *next);
+        if is_same {
+            *last = *next;
+        }
+        is_same
+    });
 }
 
 /// The first two neighbours with one key among places in the order of their keys, if there are two.
