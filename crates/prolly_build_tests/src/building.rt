@@ -20,6 +20,7 @@ mod merging;
 mod old_sources;
 mod ranges;
 mod refusals;
+mod steady;
 mod whole;
 
 /// The settings of most tests: each entry closes its chunk.
