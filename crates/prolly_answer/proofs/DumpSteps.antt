@@ -1,6 +1,8 @@
 -- Writing the pairs of leaves as lines, leaf by leaf.
-use Rattle.std.proofs.Common.{◌≡◌, ℕ, true, List, [], ◌∷◌, ◌++◌, Some, Ok, Err, refl, sym, ap}
+use Rattle.std.proofs.Common.{◌≡◌, true, List, [], ◌++◌, Some, Ok, Err, refl, sym, ap}
 use Rattle.std.proofs.Common.{◌∙◌, subst, append_assoc, append-nil}
+use Rattle.std.proofs.lemmas.List.{map-append}
+use Rattle.std.proofs.lemmas.List.Concat.{flat_map-append}
 use Rattle.std.proofs.lemmas.List.Folds.{flat_map-map}
 use Rattle.prolly_entry.specs.Pair.{Pair}
 use Rattle.prolly_entry.specs.Record.{Record}
@@ -14,8 +16,9 @@ use Rattle.prolly_fault.specs.declared.output_fault.OutputFault.TheVariants.{Wri
 use Rattle.prolly_text.specs.declared.lines.form.RecordForm.{RecordForm}
 use Rattle.prolly_text.specs.declared.lines.form.RecordForm.TheVariants.{Lines, Records}
 use Rattle.prolly_answer.specs.Dump.{IsStoppedDump, MayStop, RecordFilesAreDumped}
+use Rattle.prolly_answer.specs.LookUps.{pair_lines}
 use Rattle.prolly_answer.specs.Outputs.{TookAll, TookPart, TookPrefix, TookUntil}
-use Rattle.prolly_text.specs.RecordForms.{record_line, spelled, written_records}
+use Rattle.prolly_text.specs.RecordForms.{spelled, written_records}
 use Rattle.prolly_answer.proofs.Writing.{TookSoFar, took_none, took_more, took_front, took_until}
 use Rattle.prolly_answer.proofs.Writing.{flushed, unflushed, wrote_all, wrote_part}
 
@@ -25,6 +28,13 @@ put_of p = record { key = p.key; value = Some p.value }
 
 pub record_files_are_dumped : RecordFilesAreDumped
 record_files_are_dumped m = flat_map-map (spelled Records) put_of m
+
+-- What is written of more pairs stands behind the rest.
+pub written_append : (form : RecordForm) (ps qs : List Pair) →
+    written_records form (puts (ps ++ qs)) ≡
+    written_records form (puts ps) ++ written_records form (puts qs)
+written_append form ps qs = ap (written_records form) (map-append put_of ps qs) ∙
+    flat_map-append (spelled form) (puts ps) (puts qs)
 
 -- ---- a record file
 
@@ -49,20 +59,6 @@ module _ {W : Type 0} (seen : W → SinkView) (form : RecordForm) (is : form ≡
         (wrote_part seen x (record_file m) old new w),
   )
 
--- ---- lines
-
--- A line for each pair.
-abbrev pub lines_file : Notation → List Pair → List ℕ
-lines_file notation ps = written_records (Lines notation) (puts ps)
-
-lines_append : (notation : Notation) (ps qs : List Pair) →
-    lines_file notation (ps ++ qs) ≡ lines_file notation ps ++ lines_file notation qs
-lines_append notation [] qs = refl
-lines_append notation (p ∷ ps) qs =
-    ap (λ bytes. record_line notation (put_of p) ++ bytes) (lines_append notation ps qs) ∙ sym
-    (append_assoc (record_line notation (put_of p)) (lines_file notation ps)
-    (lines_file notation qs))
-
 -- ---- leaf by leaf
 
 -- Of all pairs these are left, and a line was written for each of those before them.
@@ -70,7 +66,7 @@ pub record AreListed {W : Type 0} (seen : W → SinkView) (notation : Notation)
     (pairs left : List Pair) (old new : W) : Type 0 where
   pub done : List Pair
   pub all : pairs ≡ done ++ left
-  pub took : TookSoFar seen (lines_file notation done) old new
+  pub took : TookSoFar seen (pair_lines notation done) old new
 
 module _ {W : Type 0} (seen : W → SinkView) (notation : Notation) where
   pub none_listed : (pairs : List Pair) (old : W) → AreListed seen notation pairs pairs old old
@@ -78,53 +74,53 @@ module _ {W : Type 0} (seen : W → SinkView) (notation : Notation) where
 
   module _ (pairs left : List Pair) (old mid : W) (l : AreListed seen notation pairs left old mid)
     where
-      all_lines : lines_file notation pairs ≡ lines_file notation l.done ++ lines_file notation left
-      all_lines = ap (lines_file notation) l.all ∙ lines_append notation l.done left
+      all_lines : pair_lines notation pairs ≡ pair_lines notation l.done ++ pair_lines notation left
+      all_lines = ap (pair_lines notation) l.all ∙ written_append (Lines notation) l.done left
 
-      pub leaf_stopped : TookPrefix seen (lines_file notation pairs) old mid
-      leaf_stopped = took_front seen (lines_file notation l.done) old mid l.took
-          (lines_file notation pairs)
-          (lines_file notation left) all_lines
+      pub leaf_stopped : TookPrefix seen (pair_lines notation pairs) old mid
+      leaf_stopped = took_front seen (pair_lines notation l.done) old mid l.took
+          (pair_lines notation pairs)
+          (pair_lines notation left) all_lines
 
       -- One leaf more.
       module _ (leaf rest : List Pair) (split : left ≡ leaf ++ rest) (new : W) where
         pub one_listed : {T E : Type 0} (x : T) →
-            Writes {T = T} {E = E} (lines_file notation leaf) (seen mid) (seen new) (Ok x) →
+            Writes {T = T} {E = E} (pair_lines notation leaf) (seen mid) (seen new) (Ok x) →
             AreListed seen notation pairs rest old new
         one_listed x w = record {
           done = l.done ++ leaf;
           all = l.all ∙ ap (λ ps. l.done ++ ps) split ∙ sym (append_assoc l.done leaf rest);
           took = subst (λ bytes. TookSoFar seen bytes old new)
-              (sym (lines_append notation l.done leaf))
-              (took_more seen (lines_file notation l.done) old mid l.took x
-              (lines_file notation leaf)
+              (sym (written_append (Lines notation) l.done leaf))
+              (took_more seen (pair_lines notation l.done) old mid l.took x
+              (pair_lines notation leaf)
               new w);
         }
 
         pub leaf_failed : {T E : Type 0} (x : E) →
-            Writes {T = T} {E = E} (lines_file notation leaf) (seen mid) (seen new) (Err x) →
-            TookPart seen (lines_file notation pairs) old new
-        leaf_failed x w = took_until seen (lines_file notation l.done) old mid l.took x
-            (lines_file notation pairs)
-            (lines_file notation leaf) (lines_file notation rest) new
-            (all_lines ∙ ap (λ bytes. lines_file notation l.done ++ bytes)
-            (ap (lines_file notation) split ∙ lines_append notation leaf rest)) w
+            Writes {T = T} {E = E} (pair_lines notation leaf) (seen mid) (seen new) (Err x) →
+            TookPart seen (pair_lines notation pairs) old new
+        leaf_failed x w = took_until seen (pair_lines notation l.done) old mid l.took x
+            (pair_lines notation pairs)
+            (pair_lines notation leaf) (pair_lines notation rest) new
+            (all_lines ∙ ap (λ bytes. pair_lines notation l.done ++ bytes)
+            (ap (pair_lines notation) split ∙ written_append (Lines notation) leaf rest)) w
 
       -- The end.
       module _ (none : left ≡ []) (new : W) (same : (seen mid).is_keeping ≡ true →
           (seen new).taken ≡ (seen mid).taken) where
-        done_all : lines_file notation l.done ≡ lines_file notation pairs
-        done_all = ap (lines_file notation) (sym (append-nil l.done) ∙ ap (λ ps. l.done ++ ps)
+        done_all : pair_lines notation l.done ≡ pair_lines notation pairs
+        done_all = ap (pair_lines notation) (sym (append-nil l.done) ∙ ap (λ ps. l.done ++ ps)
             (sym none) ∙
             sym l.all)
 
         pub all_listed : (seen new).failures ≡ (seen mid).failures → IsSettled (seen new) →
             ((seen mid).is_keeping ≡ true → (seen new).is_keeping ≡ true) →
-            TookAll seen (lines_file notation pairs) old new
+            TookAll seen (pair_lines notation pairs) old new
         all_listed counted settled still = subst (λ bytes. TookAll seen bytes old new) done_all
-            (flushed seen (lines_file notation l.done) old mid l.took new same counted settled still)
+            (flushed seen (pair_lines notation l.done) old mid l.took new same counted settled still)
 
         pub list_unflushed : (seen new).failures ≡ after_failure (seen mid).failures →
-            TookPart seen (lines_file notation pairs) old new
+            TookPart seen (pair_lines notation pairs) old new
         list_unflushed counted = subst (λ bytes. TookPart seen bytes old new) done_all
-            (unflushed seen (lines_file notation l.done) old mid l.took new same counted)
+            (unflushed seen (pair_lines notation l.done) old mid l.took new same counted)

@@ -1,14 +1,16 @@
 -- Lines that are made of the first pairs of leaves.
 use Rattle.std.proofs.Common.{◌≡◌, ℕ, zero, suc, ◌-◌, ◌<◌, List, [], ◌∷◌, ◌++◌, length, take, refl}
 use Rattle.std.proofs.Common.{sym, ap, ◌∙◌, arith, append_assoc, append-nil}
-use Rattle.std.proofs.lemmas.List.Concat.{flat_map-append}
 use Rattle.prolly_entry.specs.Pair.{Pair}
 use Rattle.prolly_text.specs.declared.notation.Notation.{Notation}
-use Rattle.prolly_answer.specs.LookUps.{pair_lines, pair_text}
+use Rattle.prolly_text.specs.RecordForms.{record_line}
+use Rattle.prolly_text.specs.declared.lines.form.RecordForm.TheVariants.{Lines}
+use Rattle.prolly_answer.specs.LookUps.{pair_lines}
+use Rattle.prolly_answer.proofs.DumpSteps.{put_of, written_append}
 
 -- ---- the first of some pairs
 
-none_of : (n : ℕ) → take {A = Pair} n [] ≡ []
+pub none_of : (n : ℕ) → take {A = Pair} n [] ≡ []
 none_of zero = refl
 none_of (suc n) = refl
 
@@ -16,7 +18,7 @@ one_of : (n : ℕ) (p : Pair) (ps : List Pair) → 0 < n → take n (p ∷ ps) �
 one_of zero p ps some = absurd (omega arith)
 one_of (suc n) p ps some = let e : n ≡ suc n - 1 = omega arith in ap (λ m. p ∷ take m ps) e
 
-parts_of : (n : ℕ) (ps qs : List Pair) →
+pub parts_of : (n : ℕ) (ps qs : List Pair) →
     take n (ps ++ qs) ≡ take n ps ++ take (n - length ps) qs
 parts_of n [] qs =
     let e : n ≡ n - 0 = omega arith in
@@ -34,16 +36,13 @@ module _ (notation : Notation) where
   -- ---- pair by pair
 
   -- the line of the next pair is there
-  pub one_line : (p : Pair) (pairs rest : List Pair) (left : ℕ) (old mid new : List ℕ) →
-      0 < left → pairs ≡ p ∷ rest → mid ≡ old ++ pair_text notation p →
-      new ≡ mid ++ 0x0A ∷ [] → new ++ text (take (left - 1) rest) ≡ old ++ text (take left pairs)
-  one_line p pairs rest left old mid new some is told ended =
-      ap (λ l. l ++ text (take (left - 1) rest)) (ended ∙ ap (λ l. l ++ 0x0A ∷ []) told)
-      ∙ regroup (pair_text notation p) (0x0A ∷ []) (text (take (left - 1) rest))
+  pub one_line : (p : Pair) (pairs rest : List Pair) (left : ℕ) (old new : List ℕ) → 0 < left →
+      pairs ≡ p ∷ rest → new ≡ old ++ record_line notation (put_of p) →
+      new ++ text (take (left - 1) rest) ≡ old ++ text (take left pairs)
+  one_line p pairs rest left old new some is told =
+      ap (λ l. l ++ text (take (left - 1) rest)) told
+      ∙ append_assoc old (record_line notation (put_of p)) (text (take (left - 1) rest))
       ∙ ap (λ ps. old ++ text ps) (sym (ap (take left) is ∙ one_of left p rest some))
-    where
-      regroup : (xs ys zs : List ℕ) → ((old ++ xs) ++ ys) ++ zs ≡ old ++ ((xs ++ ys) ++ zs)
-      regroup xs ys zs = simp append_assoc
 
   -- no pair is left
   pub no_more : (pairs : List Pair) (left : ℕ) (lines : List ℕ) → pairs ≡ [] →
@@ -66,7 +65,7 @@ module _ (notation : Notation) where
   leaf_lines pairs leaf rest left behind old new is told count =
       ap (λ l. l ++ text (take behind rest)) told
       ∙ append_assoc old (text (take left leaf)) (text (take behind rest))
-      ∙ ap (λ l. old ++ l) (sym (flat_map-append (λ p. pair_text notation p ++ 0x0A ∷ [])
-      (take left leaf) (take behind rest)))
+      ∙ ap (λ l. old ++ l) (sym (written_append (Lines notation) (take left leaf)
+      (take behind rest)))
       ∙ ap (λ ps. old ++ text ps) (ap (λ n. take left leaf ++ take n rest) count ∙
       sym (parts_of left leaf rest) ∙ ap (take left) (sym is))

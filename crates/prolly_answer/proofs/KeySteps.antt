@@ -21,6 +21,7 @@ use Rattle.prolly_tree.specs.LookUp.{find}
 use Rattle.prolly_tree.specs.lemmas.Trees.{in_back, in_front}
 use Rattle.prolly_answer.specs.KeyLookUps.{AreFoundByRoot, AreWays, FitsKeys, KeysByRootAreRight}
 use Rattle.prolly_answer.specs.KeyLookUps.{found_at, found_line, found_lines}
+use Rattle.prolly_answer.specs.RootLookUps.{IsFoundByRoot}
 use Rattle.prolly_answer.specs.RootOutcomes.{Outcome, TakesAllFor, TakesFor}
 use Rattle.prolly_answer.specs.Outputs.{IsSettledAs, TookBytes, TookSoFar, TookUntil}
 use Rattle.prolly_fault.specs.declared.output_fault.OutputFault.{OutputFault}
@@ -210,8 +211,8 @@ module _ {W : Type 0} (seen : W → SinkView) (there : List ℕ → Type 0) (ver
     }
 
     module _ (x : X) (within : i < length xs) (is : x ≡ get_or xs i x) (key : List ℕ)
-        (key_is : key ≡ f x) (value : Option (List ℕ)) (way : List (List ℕ))
-        (one : IsWay version root key way value) (stand : AllByRecursion there way) (new : W) where
+        (key_is : key ≡ f x) (value : Option (List ℕ))
+        (one : IsFoundByRoot there (IsWay version root key) value) (new : W) where
       abbrev one_found : Record
       one_found = record { key = key; value = value }
 
@@ -220,20 +221,20 @@ module _ {W : Type 0} (seen : W → SinkView) (there : List ℕ → Type 0) (ver
           ap (λ ks. ks ++ key ∷ []) a.keys_are ∙
           ap (λ k. map f (take i xs) ++ k ∷ []) key_is ∙ sym (keys_more f xs i x within is)
 
-      ways_more : AreWays version root (a.records ++ one_found ∷ []) (a.ways ++ way ∷ [])
+      ways_more : AreWays version root (a.records ++ one_found ∷ []) (a.ways ++ one.way ∷ [])
       ways_more = zip_snoc (λ found way. IsWay version root found.key way found.value) a.records
-          a.ways one_found way a.found one
+          a.ways one_found one.way a.found one.is
 
-      stand_more : AllByRecursion there (joined (a.ways ++ way ∷ []))
-      stand_more = subst (AllByRecursion there) (sym (joined_more a.ways way))
-          (all_append there (joined a.ways) way a.stand stand)
+      stand_more : AllByRecursion there (joined (a.ways ++ one.way ∷ []))
+      stand_more = subst (AllByRecursion there) (sym (joined_more a.ways one.way))
+          (all_append there (joined a.ways) one.way a.stand one.stand)
 
       pub asks_on : TookBytes seen (found_line notation one_found) mid new →
           ((seen mid).is_keeping ≡ true → (seen new).is_keeping ≡ true) →
           IsAsking (i + 1) old new
       asks_on t keeping = record {
         records = a.records ++ one_found ∷ [];
-        ways = a.ways ++ way ∷ [];
+        ways = a.ways ++ one.way ∷ [];
         found = ways_more;
         stand = stand_more;
         keys_are = one_more;
@@ -245,7 +246,7 @@ module _ {W : Type 0} (seen : W → SinkView) (there : List ℕ → Type 0) (ver
           Told new (Err (Output fault))
       asking_cut_off fault t = record {
         records = a.records ++ one_found ∷ [];
-        ways = a.ways ++ way ∷ [];
+        ways = a.ways ++ one.way ∷ [];
         found = ways_more;
         stand = stand_more;
         left = map f (drop (i + 1) xs);
@@ -253,15 +254,6 @@ module _ {W : Type 0} (seen : W → SinkView) (there : List ℕ → Type 0) (ver
         fits = tt;
         took = one_cut_off seen notation a.records one_found old mid new a.took fault t;
       }
-
--- what a reader found of a key is of the tree that it was opened for
-pub way_found : (now begun : Version) (at root : List ℕ) (key again : List ℕ)
-    (way : List (List ℕ)) (value shown : Option (List ℕ)) → now ≡ begun → at ≡ root → key ≡ again →
-    value ≡ shown → IsWay now at key way value → IsWay begun root again way shown
-way_found now begun at root key again way value shown v r k s found =
-    subst (λ x. IsWay x root again way shown) v
-    (subst (λ x. IsWay now x again way shown) r
-    (subst (λ x. IsWay now at x way shown) k (subst (IsWay now at key way) s found)))
 
 -- what fits by one account of faults does by another
 fits_may : (may also : List (List ℕ) → RootFault → Type 0) (left : List (List ℕ))

@@ -20,8 +20,12 @@ mod WaysStand
 mod FoundByRoot
 -- The status of several files, of which one more was answered.
 mod Statuses
--- Scans by a root, leaf by leaf.
+-- Look-ups by a root one after another, and the sink that what they find is written to.
 pub mod ScanSteps
+-- What is written of a portion of the pairs of a tree, and what is left of it, list by list.
+mod Portions
+-- A reader that looks up again and again, in one source.
+mod Readers
 -- Going over the pairs of a tree by its root, leaf by leaf.
 pub mod RootSteps
 -- How far a key is below the greatest one that there may be, by which a loop over rising keys ends.

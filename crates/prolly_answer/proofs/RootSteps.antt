@@ -1,16 +1,12 @@
 -- Going over the pairs of a tree by its root, leaf by leaf.
 use Rattle.std.proofs.Common.{◌≡◌, ◌≢◌, ℕ, ◌<◌, ◌≤◌, inl, inr, true, false, Bool, List, [], ◌∷◌}
 use Rattle.std.proofs.Common.{◌++◌, length, Ok, Err, refl, sym, ap, ◌∙◌, subst, arith, append-nil}
-use Rattle.std.proofs.lemmas.List.{map-append}
-use Rattle.std.proofs.lemmas.List.Concat.{flat_map-append}
 use Rattle.std.specs.List.{AllByRecursion}
 use Rattle.std.specs.Ordering.{is_lt}
 use Rattle.prolly_look_up.specs.HeldPairs.{pairs_held}
 use Rattle.prolly_look_up.specs.PairsFrom.{pairs_from}
-use Rattle.prolly_look_up.specs.ScanWay.{AreScanned, EndsEmpty, IsScanWay, from_behind, joined}
+use Rattle.prolly_look_up.specs.ScanWay.{EndsEmpty, IsScanWay, from_behind, joined}
 use Rattle.prolly_look_up.specs.ScanWay.{next_key}
-use Rattle.prolly_look_up.specs.Sought.Sought.{Key}
-use Rattle.prolly_look_up.specs.Way.{IsWayTo}
 use Rattle.prolly_entry.specs.Keys.{key_order}
 use Rattle.prolly_entry.specs.Pair.{Pair}
 use Rattle.prolly_entry.specs.lemmas.Lists.{all_append}
@@ -18,24 +14,25 @@ use Rattle.prolly_entry.specs.declared.version.Version.{Version}
 use Rattle.prolly_io.specs.Failures.{after_failure}
 use Rattle.prolly_io.specs.Sink.{IsSettled, SinkView}
 use Rattle.prolly_io.specs.Writes.{Writes}
-use Rattle.prolly_root.specs.Reader.{ReaderView}
 use Rattle.prolly_root.specs.declared.root_fault.RootFault.{RootFault}
-use Rattle.prolly_text.specs.RecordForms.{spelled, written_records}
-use Rattle.prolly_text.specs.declared.lines.form.RecordForm.{RecordForm}
 use Rattle.prolly_text.specs.declared.lines.form.RecordForm.TheVariants.{Records}
-use Rattle.prolly_tree.specs.Difference.{puts}
 use Rattle.prolly_tree.specs.RecordFile.{record_file}
 use Rattle.prolly_tree.specs.Tree.{last_key}
 use Rattle.prolly_answer.specs.Outputs.{IsSettledAs, TookAll, TookBytes, TookPart, TookUntil}
-use Rattle.prolly_answer.specs.RootDumps.{written_pairs}
-use Rattle.prolly_answer.specs.RootOutcomes.{FitsOutcome, IsWrittenByRoot, Outcome}
-use Rattle.prolly_answer.specs.RootOutcomes.{Scanned, TakesAllFor, TakesFor, behind}
+use Rattle.prolly_answer.specs.RootLookUps.{IsFoundByRoot}
+use Rattle.prolly_answer.specs.RootOutcomes.{AreEnough, FitsOutcome, IsWrittenByRoot, Outcome}
+use Rattle.prolly_answer.specs.RootOutcomes.{Scanned, TakesAllFor, TakesFor, behind, left_of}
+use Rattle.prolly_answer.specs.RootOutcomes.{portion_bytes}
+use Rattle.prolly_answer.specs.declared.answers.root_pairs.Portion.{Portion}
+use Rattle.prolly_answer.specs.declared.answers.root_pairs.Portion.TheVariants.{Whole}
 use Rattle.prolly_fault.specs.declared.output_fault.OutputFault.{OutputFault}
 use Rattle.prolly_fault.specs.declared.output_fault.OutputFault.TheVariants.{Memory, Write}
 use Rattle.prolly_fault.specs.declared.root_output_fault.RootOutputFault.TheVariants.{Output}
 use Rattle.prolly_fault.specs.declared.root_output_fault.RootOutputFault.TheVariants.{Root}
-use Rattle.prolly_answer.proofs.DumpSteps.{put_of, record_files_are_dumped}
+use Rattle.prolly_answer.proofs.DumpSteps.{record_files_are_dumped}
 use Rattle.prolly_answer.proofs.KeyRanks.{AreBytes, less_room_above, room_above}
+use Rattle.prolly_answer.proofs.Portions.{all_left, bytes_more, bytes_none, enough_at_end}
+use Rattle.prolly_answer.proofs.Portions.{enough_found, left_more, more_wanted}
 use Rattle.prolly_answer.proofs.ScanSteps.{all_flushed, all_unflushed, behind_more}
 use Rattle.prolly_answer.proofs.ScanSteps.{ends_empty, ends_full, joined_more, prefix_flushed}
 use Rattle.prolly_answer.proofs.ScanSteps.{prefix_unflushed, scanned_more, so_told, took_also}
@@ -79,67 +76,35 @@ from_least (p ∷ ps) = rw (not_under_least p.key) (ap (λ qs. p ∷ qs) (from_l
 
 -- ---- what a look-up finds
 
--- The pairs from where it began on, of the leaf at which it ended.
-pub leaf_found : {T : Type 0} (begun now : ReaderView T) (next from again : List ℕ)
-    (way : List (List ℕ)) (leaf : List Pair) → now.version ≡ begun.version →
-    now.root ≡ begun.root → from ≡ next → again ≡ next →
-    IsWayTo now.version now.root (Key from) way →
-    ((above : List (List ℕ)) (last : List ℕ) → way ≡ above ++ last ∷ [] →
-    leaf ≡ pairs_from again (pairs_held last)) →
-    IsScanWay begun.version begun.root next way leaf
-leaf_found begun now next from again way leaf version root sought same found held =
-    let is = subst (λ key. IsWayTo begun.version begun.root (Key key) way) sought
-    (subst (λ v. IsWayTo v begun.root (Key from) way) version
-    (subst (λ r. IsWayTo now.version r (Key from) way) root found)) in
-    record {
-      way = is;
-      found_is = held is.before is.last is.are ∙
-          ap (λ key. pairs_from key (pairs_held is.last)) same;
-    }
-
--- Behind them there is less room.
-pub less_room_behind : {version : Version} {root : List ℕ} (next last key : List ℕ)
-    (way : List (List ℕ)) (leaf : List Pair) → IsScanWay version root next way leaf →
-    0 < length leaf → last ≡ last_key leaf → length last ≤ 1024 → AreBytes next → AreBytes last →
-    key ≡ next_key last → room_above key < room_above next
-less_room_behind next last key way leaf s some is short bytes own behind =
+-- Behind the pairs that it finds there is less room.
+pub less_room_behind : {there : List ℕ → Type 0} {version : Version} {root next last key : List ℕ}
+    {leaf : List Pair} → IsFoundByRoot there (IsScanWay version root next) leaf →
+    (0 < length leaf) × (last ≡ last_key leaf) → length last ≤ 1024 → AreBytes next →
+    AreBytes last → key ≡ next_key last → room_above key < room_above next
+less_room_behind {next = next} {last = last} found is short bytes own behind =
     let over = subst (λ ps. 0 < length ps → is_lt (key_order (last_key ps) next) ≡ false)
-    (sym s.found_is) (last_over next (pairs_held s.way.last)) some in
+    (sym found.is.found_is) (last_over next (pairs_held found.is.way.last)) is.0 in
     subst (λ key. room_above key < room_above next) (sym behind)
     (less_room_above next last bytes own short
-    (subst (λ key. is_lt (key_order key next) ≡ false) (sym is) over))
-
--- ---- bytes of leaves
-
-puts_append : (ps qs : List Pair) → puts (ps ++ qs) ≡ puts ps ++ puts qs
-puts_append ps qs = map-append put_of ps qs
-
--- Those of one more leaf stand behind the others.
-pub bytes_more : (form : RecordForm) (lists : List (List Pair)) (found : List Pair) →
-    written_pairs form (lists ++ found ∷ []) ≡
-    written_pairs form lists ++ written_records form (puts found)
-bytes_more form lists found =
-    ap (λ ps. written_records form (puts ps)) (joined_more lists found) ∙
-    ap (written_records form) (puts_append (joined lists) found) ∙
-    flat_map-append (spelled form) (puts (joined lists)) (puts found)
+    (subst (λ key. is_lt (key_order key next) ≡ false) (sym is.1) over))
 
 -- A leaf is written from where its pairs lie.
-module _ {W : Type 0} (seen : W → SinkView) (form : RecordForm) (is : form ≡ Records)
-    (m : List Pair) (bytes : List ℕ) (are : bytes ≡ record_file m) (old new : W) where
-  same_bytes : bytes ≡ written_records form (puts m)
-  same_bytes = are ∙ sym (record_files_are_dumped m) ∙
-      ap (λ f. written_records f (puts m)) (sym is)
+same_bytes : {portion : Portion} {bytes : List ℕ} (m : List Pair) → portion ≡ Whole Records →
+    bytes ≡ record_file m → bytes ≡ portion_bytes portion m
+same_bytes m is are = are ∙ sym (record_files_are_dumped m) ∙ ap (λ p. portion_bytes p m) (sym is)
 
-  pub leaf_spelled : {T E : Type 0} (x : T) →
+module _ {W : Type 0} {seen : W → SinkView} {portion : Portion} {bytes : List ℕ} {old new : W}
+    (m : List Pair) (is : portion ≡ Whole Records) (are : bytes ≡ record_file m) where
+  pub leaf_spelled : {T E : Type 0} {x : T} →
       Writes {T = T} {E = E} bytes (seen old) (seen new) (Ok x) →
-      TookBytes seen (written_records form (puts m)) old new
-  leaf_spelled x w = subst (λ b. TookBytes seen b old new) same_bytes
+      TookBytes seen (portion_bytes portion m) old new
+  leaf_spelled w = subst (λ b. TookBytes seen b old new) (same_bytes m is are)
       (record { unfailed = w.failures; took = w.written })
 
-  pub leaf_cut_off : {T E : Type 0} (x : E) →
+  pub leaf_cut_off : {T E : Type 0} {x : E} →
       Writes {T = T} {E = E} bytes (seen old) (seen new) (Err x) →
-      TookPart seen (written_records form (puts m)) old new
-  leaf_cut_off x w = subst (λ b. TookPart seen b old new) same_bytes
+      TookPart seen (portion_bytes portion m) old new
+  leaf_cut_off {x = x} w = subst (λ b. TookPart seen b old new) (same_bytes m is are)
       (wrote_part seen x bytes old new w)
 
 -- ---- a command on its way
@@ -157,137 +122,167 @@ some_behind lists [] some = absurd (omega arith)
 some_behind lists (p ∷ ps) some = ends_full lists (p ∷ ps) (λ e. cc)
 
 module _ {W : Type 0} (seen : W → SinkView) (there : List ℕ → Type 0) (version : Version)
-    (root from : List ℕ) (enough : List (List Pair) → Type 0)
-    (bytes : List (List Pair) → List ℕ) where
-  -- What was found is not enough, and the next look-up is that of this key.
-  pub record IsUnderWay (next : List ℕ) (old new : W) : Type 0 where
-    pub lists : List (List Pair)
-    pub ways : List (List (List ℕ))
-    pub are : AreScanned version root from lists ways
-    pub stand : AllByRecursion there (joined ways)
-    pub few : ¬ (enough lists)
-    pub next_is : next ≡ behind from lists
-    pub took : TookSoFar seen (bytes lists) old new
+    (root from : List ℕ) (portion : Portion) where
+  -- What was found is not enough: this is wanted behind it, and the next look-up is that of this key.
+  pub record IsUnderWay (left : Portion) (next : List ℕ) (old new : W) : Type 0 where
+    pub found : Scanned there version root from
+    pub few : ¬ (AreEnough portion found.lists)
+    pub left_is : left ≡ left_of portion (joined found.lists)
+    pub next_is : next ≡ behind from found.lists
+    pub took : TookSoFar seen (portion_bytes portion (joined found.lists)) old new
 
-  abbrev pub begins : (next : List ℕ) (old : W) → next ≡ from → ¬ (enough []) → bytes [] ≡ [] →
-      IsUnderWay next old old
-  begins next old is few none = record {
-    lists = [];
-    ways = [];
-    are = tt;
-    stand = tt;
+abbrev nothing_found : {there : List ℕ → Type 0} {version : Version} {root from : List ℕ} →
+    Scanned there version root from
+nothing_found = record { lists = []; ways = []; are = tt; stand = tt }
+
+took_nothing : {W : Type 0} (seen : W → SinkView) (portion : Portion) (old : W) →
+    TookSoFar seen (portion_bytes portion []) old old
+took_nothing seen portion old = subst (λ b. TookSoFar seen b old old) (sym (bytes_none portion))
+    (took_none seen old)
+
+module _ {W : Type 0} {seen : W → SinkView} {there : List ℕ → Type 0} {version : Version}
+    {root from : List ℕ} {portion : Portion} where
+  pub begins : {next : List ℕ} {old : W} → next ≡ from → ¬ (AreEnough portion []) →
+      IsUnderWay seen there version root from portion portion next old old
+  begins {old = old} is few = record {
+    found = nothing_found;
     few = few;
+    left_is = all_left portion;
     next_is = is;
-    took = subst (λ b. TookSoFar seen b old old) (sym none) (took_none seen old);
+    took = took_nothing seen portion old;
   }
+
+  -- Memory is wanted behind what was written.
+  wants : {may : List ℕ → RootFault → Type 0} {old new : W}
+      (found : Scanned there version root from) →
+      TookSoFar seen (portion_bytes portion (joined found.lists)) old new →
+      IsWrittenByRoot there may version root from portion (TakesFor seen old new)
+      (Err (Output Memory))
+  wants {old = old} {new = new} found took =
+      let bytes = portion_bytes portion (joined found.lists) in
+      record {
+        found = found;
+        fits = tt;
+        took = took_front seen bytes old new took bytes [] (sym (append-nil bytes));
+      }
 
   -- Memory is wanted before anything is sought.
-  pub wants_first : (may : List ℕ → RootFault → Type 0) (old : W) → bytes [] ≡ [] →
-      IsWrittenByRoot there may version root from enough bytes (TakesFor seen old old)
-      (Err (Output Memory))
-  wants_first may old none = record {
-    found = record { lists = []; ways = []; are = tt; stand = tt };
-    fits = tt;
-    took = took_front seen (bytes []) old old
-        (subst (λ b. TookSoFar seen b old old) (sym none) (took_none seen old)) (bytes []) []
-        (sym (append-nil (bytes [])));
-  }
+  pub wants_first : {may : List ℕ → RootFault → Type 0} {old : W} → IsWrittenByRoot there may
+      version root from portion (TakesFor seen old old) (Err (Output Memory))
+  wants_first {old = old} = wants nothing_found (took_nothing seen portion old)
 
-  module _ (next : List ℕ) (old mid : W) (d : IsUnderWay next old mid) where
+  module _ {left : Portion} {next : List ℕ} {old mid : W}
+      (d : IsUnderWay seen there version root from portion left next old mid) where
     -- A look-up has a fault.
-    pub seek_fails : (may : List ℕ → RootFault → Type 0) (fault : RootFault) → may next fault →
-        IsWrittenByRoot there may version root from enough bytes (TakesFor seen old mid)
+    pub seek_fails : {may : List ℕ → RootFault → Type 0} {fault : RootFault} → may next fault →
+        IsWrittenByRoot there may version root from portion (TakesFor seen old mid)
         (Err (Root fault))
-    seek_fails may fault lawful = record {
-      found = record { lists = d.lists; ways = d.ways; are = d.are; stand = d.stand };
+    seek_fails {may = may} {fault = fault} lawful = record {
+      found = d.found;
       fits = (d.few, subst (λ key. may key fault) d.next_is lawful);
       took = d.took.all;
     }
 
-    module _ (may : List ℕ → RootFault → Type 0) (way : List (List ℕ)) (found : List Pair)
-        (more : IsScanWay version root next way found) (stand : AllByRecursion there way)
-        (own : List ℕ) (text : bytes (d.lists ++ found ∷ []) ≡ bytes d.lists ++ own) where
-      abbrev with_more : Scanned there version root from
-      with_more = record {
-        lists = d.lists ++ found ∷ [];
-        ways = d.ways ++ way ∷ [];
-        are = scanned_more version root from d.lists d.ways found way d.are
-            (subst (λ key. IsScanWay version root key way found) d.next_is more);
-        stand = subst (AllByRecursion there) (sym (joined_more d.ways way))
-            (all_append there (joined d.ways) way d.stand stand);
-      }
-
-      -- It finds that there are no more.
-      pub seek_ends : enough (d.lists ++ found ∷ []) → own ≡ [] →
-          IsWrittenByRoot there may version root from enough bytes (TakesFor seen old mid) (Ok tt)
-      seek_ends all none = record {
-        found = with_more;
-        fits = all;
-        took = subst (λ b. TookBytes seen b old mid) (sym (text ∙
-            ap (λ b. bytes d.lists ++ b) none ∙ append-nil (bytes d.lists))) d.took.all;
-      }
-
-      module _ (new : W) where
-        -- What is to be written of its leaf is not written whole.
-        pub leaf_unwritten : (fault : OutputFault) → TookUntil seen fault own mid new →
-            IsWrittenByRoot there may version root from enough bytes (TakesFor seen old new)
-            (Err (Output fault))
-        leaf_unwritten fault t = record {
-          found = with_more;
-          fits = tt;
-          took = subst (λ b. TookUntil seen fault b old new) (sym text)
-              (until_also seen (bytes d.lists) own old mid new d.took fault t);
+    module _ {leaf : List Pair} (more : IsFoundByRoot there (IsScanWay version root next) leaf)
+      where
+        abbrev with_more : Scanned there version root from
+        with_more = record {
+          lists = d.found.lists ++ leaf ∷ [];
+          ways = d.found.ways ++ more.way ∷ [];
+          are = scanned_more version root from d.found.lists d.found.ways leaf more.way
+              d.found.are (subst (λ key. IsScanWay version root key more.way leaf) d.next_is
+              more.is);
+          stand = subst (AllByRecursion there) (sym (joined_more d.found.ways more.way))
+              (all_append there (joined d.found.ways) more.way d.found.stand more.stand);
         }
 
-        module _ (t : TookBytes seen own mid new)
-            (keeping : (seen mid).is_keeping ≡ true → (seen new).is_keeping ≡ true) where
-          abbrev took_leaf : TookSoFar seen (bytes (d.lists ++ found ∷ [])) old new
-          took_leaf = subst (λ b. TookSoFar seen b old new) (sym text)
-              (took_also seen (bytes d.lists) own old mid new d.took t keeping)
+        text : portion_bytes portion (joined with_more.lists) ≡
+            portion_bytes portion (joined d.found.lists) ++ portion_bytes left leaf
+        text = ap (portion_bytes portion) (joined_more d.found.lists leaf) ∙
+            bytes_more portion (joined d.found.lists) leaf ∙
+            ap (λ p. portion_bytes portion (joined d.found.lists) ++ portion_bytes p leaf)
+            (sym d.left_is)
 
-          -- It is written, and that is enough.
-          pub leaf_fills : enough (d.lists ++ found ∷ []) →
-              IsWrittenByRoot there may version root from enough bytes (TakesFor seen old new)
-              (Ok tt)
-          leaf_fills all = record { found = with_more; fits = all; took = took_leaf.all }
+        -- It finds that there are no more.
+        pub seek_ends : {may : List ℕ → RootFault → Type 0} → leaf ≡ [] →
+            IsWrittenByRoot there may version root from portion (TakesFor seen old mid) (Ok tt)
+        seek_ends none = record {
+          found = with_more;
+          fits = enough_at_end portion with_more.lists (none_behind d.found.lists leaf none);
+          took = subst (λ b. TookBytes seen b old mid) (sym (text ∙
+              ap (λ ps. portion_bytes portion (joined d.found.lists) ++ portion_bytes left ps) none ∙
+              ap (λ b. portion_bytes portion (joined d.found.lists) ++ b) (bytes_none left) ∙
+              append-nil (portion_bytes portion (joined d.found.lists)))) d.took.all;
+        }
 
-          -- It is written, and memory is wanted before more is sought.
-          pub leaf_wants : IsWrittenByRoot there may version root from enough bytes
-              (TakesFor seen old new) (Err (Output Memory))
-          leaf_wants = record {
+        module _ {new : W} where
+          -- What is to be written of its leaf is not written whole.
+          pub leaf_unwritten : {may : List ℕ → RootFault → Type 0} {fault : OutputFault} →
+              TookUntil seen fault (portion_bytes left leaf) mid new →
+              IsWrittenByRoot there may version root from portion (TakesFor seen old new)
+              (Err (Output fault))
+          leaf_unwritten {fault = fault} t = record {
             found = with_more;
             fits = tt;
-            took = took_front seen (bytes with_more.lists) old new took_leaf
-                (bytes with_more.lists) [] (sym (append-nil (bytes with_more.lists)));
+            took = subst (λ b. TookUntil seen fault b old new) (sym text)
+                (until_also seen _ (portion_bytes left leaf) old mid new d.took fault t);
           }
 
-          abbrev pub goes_on : (key : List ℕ) → ¬ (enough (d.lists ++ found ∷ [])) →
-              0 < length found → key ≡ next_key (last_key found) → IsUnderWay key old new
-          goes_on key few some is = record {
-            lists = with_more.lists;
-            ways = with_more.ways;
-            are = with_more.are;
-            stand = with_more.stand;
-            few = few;
-            next_is = is ∙ sym (behind_more from d.lists found ∙ behind_some found some);
-            took = took_leaf;
-          }
-            where
-              behind_some : (ps : List Pair) → 0 < length ps →
-                  from_behind (behind from d.lists) ps ≡ next_key (last_key ps)
-              behind_some [] some = absurd (omega arith)
-              behind_some (p ∷ ps) some = refl
+          module _ (t : TookBytes seen (portion_bytes left leaf) mid new)
+              (keeping : (seen mid).is_keeping ≡ true → (seen new).is_keeping ≡ true) where
+            took_leaf : TookSoFar seen (portion_bytes portion (joined with_more.lists)) old new
+            took_leaf = subst (λ b. TookSoFar seen b old new) (sym text)
+                (took_also seen _ (portion_bytes left leaf) old mid new d.took t keeping)
+
+            -- It is written, and memory is wanted before more is sought.
+            pub leaf_wants : {may : List ℕ → RootFault → Type 0} → IsWrittenByRoot there may
+                version root from portion (TakesFor seen old new) (Err (Output Memory))
+            leaf_wants = wants with_more took_leaf
+
+            module _ {rest : Portion} (is : rest ≡ left_of left leaf) where
+              rest_is : rest ≡ left_of portion (joined with_more.lists)
+              rest_is = is ∙ ap (λ p. left_of p leaf) d.left_is ∙
+                  left_more portion (joined d.found.lists) leaf ∙
+                  ap (left_of portion) (sym (joined_more d.found.lists leaf))
+
+              -- It is written, and that is enough.
+              pub leaf_fills : {may : List ℕ → RootFault → Type 0} → AreEnough rest [] →
+                  IsWrittenByRoot there may version root from portion (TakesFor seen old new)
+                  (Ok tt)
+              leaf_fills none = record {
+                found = with_more;
+                fits = enough_found portion with_more.lists
+                    (subst (λ p. AreEnough p []) rest_is none);
+                took = took_leaf.all;
+              }
+
+              pub goes_on : {key : List ℕ} → ¬ (AreEnough rest []) → 0 < length leaf →
+                  key ≡ next_key (last_key leaf) →
+                  IsUnderWay seen there version root from portion rest key old new
+              goes_on {key = key} wanted some is = record {
+                found = with_more;
+                few = more_wanted portion with_more.lists
+                    (subst (λ p. ¬ (AreEnough p [])) rest_is wanted)
+                    (some_behind d.found.lists leaf some);
+                left_is = rest_is;
+                next_is = is ∙ sym (behind_more from d.found.lists leaf ∙ behind_some leaf some);
+                took = took_leaf;
+              }
+                where
+                  behind_some : (ps : List Pair) → 0 < length ps →
+                      from_behind (behind from d.found.lists) ps ≡ next_key (last_key ps)
+                  behind_some [] some = absurd (omega arith)
+                  behind_some (p ∷ ps) some = refl
 
 -- ---- the end
 
 -- What fits by one account of faults does by another.
-fits_may : (enough : List (List Pair) → Type 0) (may also : RootFault → Type 0)
-    (lists : List (List Pair)) (outcome : Outcome) →
-    ((fault : RootFault) → may fault → also fault) → FitsOutcome enough may lists outcome →
-    FitsOutcome enough also lists outcome
-fits_may enough may also lists (Ok done) so fits = fits
-fits_may enough may also lists (Err (Root fault)) so fits = (fits.0, so fault fits.1)
-fits_may enough may also lists (Err (Output fault)) so fits = tt
+fits_may : (portion : Portion) (may also : RootFault → Type 0) (lists : List (List Pair))
+    (outcome : Outcome) → ((fault : RootFault) → may fault → also fault) →
+    FitsOutcome portion may lists outcome → FitsOutcome portion also lists outcome
+fits_may portion may also lists (Ok done) so fits = fits
+fits_may portion may also lists (Err (Root fault)) so fits = (fits.0, so fault fits.1)
+fits_may portion may also lists (Err (Output fault)) so fits = tt
 
 module _ {W : Type 0} (seen : W → SinkView) (old mid new : W)
     (keeping : (seen old).is_keeping ≡ true → (seen mid).is_keeping ≡ true) (bytes : List ℕ) where
@@ -329,52 +324,53 @@ module _ {W : Type 0} (seen : W → SinkView) (old mid new : W)
         (part_taken outcome is.0 is.1.same s.1 t)
   ]
 
-module _ {W : Type 0} (seen : W → SinkView) (there : List ℕ → Type 0) (version : Version)
-    (root from : List ℕ) (enough : List (List Pair) → Type 0)
-    (bytes : List (List Pair) → List ℕ) (may : List ℕ → RootFault → Type 0) where
-  module _ (old : W) (none : bytes [] ≡ []) where
-    nothing_taken : TookAll seen (bytes []) old old
-    nothing_taken = subst (λ b. TookAll seen b old old) (sym none) (record {
+nothing_taken : {W : Type 0} (seen : W → SinkView) (portion : Portion) (old : W) →
+    TookAll seen (portion_bytes portion []) old old
+nothing_taken seen portion old = subst (λ b. TookAll seen b old old) (sym (bytes_none portion))
+    (record {
       unfailed = refl;
       took = λ k. sym (append-nil (seen old).taken);
       keeping = λ k. k;
       settled = λ before. before;
     })
 
-    -- Nothing is sought.
-    pub nothing_sought : enough [] →
-        IsWrittenByRoot there may version root from enough bytes (TakesAllFor seen old old) (Ok tt)
-    nothing_sought all = record {
-      found = record { lists = []; ways = []; are = tt; stand = tt };
-      fits = all;
-      took = nothing_taken;
-    }
+module _ {W : Type 0} {seen : W → SinkView} {there : List ℕ → Type 0}
+    {may : List ℕ → RootFault → Type 0} {version : Version} {root from : List ℕ}
+    {portion : Portion} where
+  -- Nothing is sought.
+  pub nothing_sought : {old : W} → AreEnough portion [] →
+      IsWrittenByRoot there may version root from portion (TakesAllFor seen old old) (Ok tt)
+  nothing_sought {old = old} all = record {
+    found = nothing_found;
+    fits = all;
+    took = nothing_taken seen portion old;
+  }
 
-    -- The root is not found.
-    pub root_refused : (fault : RootFault) → ¬ (enough []) → may from fault →
-        IsWrittenByRoot there may version root from enough bytes (TakesAllFor seen old old)
-        (Err (Root fault))
-    root_refused fault few lawful = record {
-      found = record { lists = []; ways = []; are = tt; stand = tt };
-      fits = (few, lawful);
-      took = nothing_taken;
-    }
+  -- The root is not found.
+  pub root_refused : {old : W} {fault : RootFault} → ¬ (AreEnough portion []) → may from fault →
+      IsWrittenByRoot there may version root from portion (TakesAllFor seen old old)
+      (Err (Root fault))
+  root_refused {old = old} few lawful = record {
+    found = nothing_found;
+    fits = (few, lawful);
+    took = nothing_taken seen portion old;
+  }
 
   -- What was written is flushed, and told of the version and the root of the reader.
-  pub flushed_told : (near : List ℕ → Type 0) (by : List ℕ → RootFault → Type 0) (v : Version)
-      (r : List ℕ) (old mid new : W) (outcome told : Outcome) →
-      IsWrittenByRoot near by v r from enough bytes (TakesFor seen old mid) outcome →
+  pub flushed_told : {near : List ℕ → Type 0} {by : List ℕ → RootFault → Type 0} {v : Version}
+      {r : List ℕ} {old mid new : W} {outcome told : Outcome} →
+      IsWrittenByRoot near by v r from portion (TakesFor seen old mid) outcome →
       (v ≡ version) × (r ≡ root) →
       ((seen old).is_keeping ≡ true → (seen mid).is_keeping ≡ true) →
       IsSettledAs seen (Output Write) mid new outcome told →
       ((chunk : List ℕ) → near chunk → there chunk) →
       ((key : List ℕ) (fault : RootFault) → by key fault → may key fault) →
-      IsWrittenByRoot there may version root from enough bytes (TakesAllFor seen old new) told
-  flushed_told near by v r old mid new outcome told d is keeping settled stands so =
-      subst (λ v. IsWrittenByRoot there may v root from enough bytes (TakesAllFor seen old new)
-      told) is.0
-      (subst (λ r. IsWrittenByRoot there may v r from enough bytes (TakesAllFor seen old new)
-      told) is.1
+      IsWrittenByRoot there may version root from portion (TakesAllFor seen old new) told
+  flushed_told {near = near} {by = by} {v = v} {old = old} {mid = mid} {new = new}
+      {outcome = outcome} {told = told} d is keeping settled stands so =
+      let next = behind from d.found.lists in
+      subst (λ v. IsWrittenByRoot there may v root from portion (TakesAllFor seen old new) told) is.0
+      (subst (λ r. IsWrittenByRoot there may v r from portion (TakesAllFor seen old new) told) is.1
       (record {
         found = record {
           lists = d.found.lists;
@@ -383,8 +379,8 @@ module _ {W : Type 0} (seen : W → SinkView) (there : List ℕ → Type 0) (ver
           stand = all_also near there stands (joined d.found.ways) d.found.stand;
         };
         fits = so_told seen (Output Write) mid new outcome told settled
-            (FitsOutcome enough (may (behind from d.found.lists)) d.found.lists)
-            (fits_may enough (by (behind from d.found.lists)) (may (behind from d.found.lists))
-            d.found.lists outcome (so (behind from d.found.lists)) d.fits) tt;
-        took = taken_told seen old mid new keeping (bytes d.found.lists) outcome told settled d.took;
+            (FitsOutcome portion (may next) d.found.lists)
+            (fits_may portion (by next) (may next) d.found.lists outcome (so next) d.fits) tt;
+        took = taken_told seen old mid new keeping
+            (portion_bytes portion (joined d.found.lists)) outcome told settled d.took;
       }))

@@ -1,9 +1,7 @@
--- Scans by a root, leaf by leaf.
-use Rattle.std.proofs.Common.{◌≡◌, ◌≢◌, ℕ, suc, zero, ◌-◌, ◌<◌, inl, inr, ◌⊎◌, true, List, [], ◌∷◌}
-use Rattle.std.proofs.Common.{◌++◌, length, take, refl, sym, ap, ◌∙◌, ◌+◌, subst, arith}
+-- Look-ups by a root one after another, and the sink that what they find is written to.
+use Rattle.std.proofs.Common.{◌≡◌, ◌≢◌, ℕ, inl, inr, ◌⊎◌, true, List, [], ◌∷◌}
+use Rattle.std.proofs.Common.{◌++◌, refl, sym, ap, ◌∙◌, subst}
 use Rattle.std.proofs.Common.{append_assoc, Err, Result, append-nil}
-use Rattle.std.proofs.Math.Seq.{take-append-add}
-use Rattle.std.proofs.lemmas.List.{length-append, take_all}
 use Rattle.std.proofs.lemmas.List.Concat.{flat_map-append}
 use Rattle.prolly_look_up.specs.ScanWay.{AreScanned, EndsEmpty, IsScanWay, from_behind, joined}
 use Rattle.prolly_entry.specs.Pair.{Pair}
@@ -11,12 +9,9 @@ use Rattle.prolly_entry.specs.declared.version.Version.{Version}
 use Rattle.prolly_io.specs.Failures.{after_failure}
 use Rattle.prolly_io.specs.Sink.{IsSettled, SinkView}
 use Rattle.prolly_range.specs.lemmas.Unfailed.{other_failures}
-use Rattle.prolly_text.specs.declared.notation.Notation.{Notation}
-use Rattle.prolly_answer.specs.LookUps.{pair_lines, pair_text}
 use Rattle.prolly_answer.specs.Outputs.{IsSettledAs, TookAll, TookBytes, TookPart, TookPrefix}
 use Rattle.prolly_answer.specs.Outputs.{TookUntil}
 use Rattle.prolly_answer.specs.RootOutcomes.{behind}
-use Rattle.prolly_answer.specs.RootScans.{AreEnough, limited_lines}
 use Rattle.prolly_fault.specs.declared.output_fault.OutputFault.{OutputFault}
 use Rattle.prolly_fault.specs.declared.output_fault.OutputFault.TheVariants as outputs
 use Rattle.prolly_answer.proofs.Writing.{TookSoFar, flushed, unflushed}
@@ -54,53 +49,6 @@ pub ends_full : (lists : List (List Pair)) (found : List Pair) → found ≢ [] 
 ends_full [] found some ends = some ends
 ends_full (one ∷ []) found some ends = some ends
 ends_full (one ∷ two ∷ lists) found some ends = ends_full (two ∷ lists) found some ends
-
--- ---- lines
-
--- The lines of what one more look-up found stand behind the others.
-pub lines_more : (notation : Notation) (limit left : ℕ) (lists : List (List Pair)) (found : List Pair) →
-    left ≡ limit - length (joined lists) → 0 < left →
-    limited_lines notation limit (lists ++ found ∷ []) ≡
-    limited_lines notation limit lists ++ pair_lines notation (take left found)
-lines_more notation limit left lists found is some =
-    let all = joined lists in
-    let room : limit ≡ length all + left = omega (arith, is) in
-    let whole : take limit all ≡ all = take_all limit all (omega (arith, is)) in
-    ap (λ ps. pair_lines notation (take limit ps)) (joined_more lists found) ∙
-    ap (λ n. pair_lines notation (take n (all ++ found))) room ∙
-    ap (pair_lines notation) (take-append-add all found left) ∙
-    flat_map-append (λ p. pair_text notation p ++ 0x0A ∷ []) all (take left found) ∙
-    ap (λ ps. pair_lines notation ps ++ pair_lines notation (take left found)) (sym whole)
-
-pub take_none : (notation : Notation) (n : ℕ) → pair_lines notation (take n []) ≡ []
-take_none notation zero = refl
-take_none notation (suc n) = refl
-
--- ---- the limit
-
-pub none_yet : (limit : ℕ) → 0 < limit → ¬ (AreEnough limit [])
-none_yet limit some (inl many) = omega (arith, some, many)
-none_yet limit some (inr ends) = ends
-
-pub all_left : (limit : ℕ) → limit ≡ limit - 0
-all_left limit = omega arith
-
--- So many are wanted behind what the lists have, and one more look-up found these.
-module _ (limit left : ℕ) (lists : List (List Pair)) (found : List Pair)
-    (is : left ≡ limit - length (joined lists)) where
-  total : length (joined (lists ++ found ∷ [])) ≡ length (joined lists) + length found
-  total = ap length (joined_more lists found) ∙ length-append (joined lists) found
-
-  pub are_left : left - length found ≡ limit - length (joined (lists ++ found ∷ []))
-  are_left = omega (arith, is, total)
-
-  pub are_enough : left - length found ≡ 0 → AreEnough limit (lists ++ found ∷ [])
-  are_enough none = inl (omega (arith, is, total, none))
-
-  pub are_wanted : 0 < left - length found → ¬ (EndsEmpty (lists ++ found ∷ [])) →
-      ¬ (AreEnough limit (lists ++ found ∷ []))
-  are_wanted some more (inl many) = omega (arith, is, total, some, many)
-  are_wanted some more (inr ends) = more ends
 
 -- ---- the sink
 

@@ -21,16 +21,18 @@ use Rattle.prolly_range.specs.SetProof.{AreTaken, Due, TakenAreRight, root_due}
 use Rattle.prolly_range.specs.SortedKeys.{is_one_of, keys_above, keys_up_to}
 use Rattle.prolly_range.specs.lemmas.Splits.{all_behind, is_less, none_up_to, rising_above}
 use Rattle.prolly_range.specs.lemmas.Splits.{rising_tail, split_keys}
+use Rattle.prolly_text.specs.declared.lines.form.RecordForm.TheVariants.{Lines}
 use Rattle.prolly_text.specs.declared.notation.Notation.{Notation}
 use Rattle.prolly_tree.specs.Difference.{IsMap}
 use Rattle.prolly_tree.specs.LookUp.{find}
 use Rattle.prolly_tree.specs.lemmas.Maps.{Above, above_more, find_above}
 use Rattle.prolly_answer.specs.KeyLookUps.{found_at, found_line, found_lines}
-use Rattle.prolly_answer.specs.LookUps.{pair_lines, pair_text}
+use Rattle.prolly_answer.specs.LookUps.{pair_lines}
 use Rattle.prolly_answer.specs.SetLines.{FitsLeft, RisesIn, alone_lines, is_past, keys_left, keys_past}
 use Rattle.prolly_answer.specs.SetLines.{left_at_first, left_behind, lines_at_end, lines_so_far}
 use Rattle.prolly_answer.specs.SetLines.{more_lines}
 use Rattle.prolly_answer.specs.SetProofs.{ShownKeysAreRight}
+use Rattle.prolly_answer.proofs.DumpSteps.{written_append}
 
 -- ---- where nothing was shown
 
@@ -300,7 +302,7 @@ module _ (notation : Notation) where
       lines_so_far notation set (pairs ++ shown) ≡
       lines_so_far notation set pairs ++ more_lines notation set left shown
   lines_more (Range from to) pairs shown left h s is =
-      flat_map-append (λ p. pair_text notation p ++ 0x0A ∷ []) pairs shown
+      written_append (Lines notation) pairs shown
   lines_more (Keys keys) pairs shown left h s is =
       ap (found_lines notation) (found_more pairs shown keys h s) ∙
       flat_map-append (found_line notation) (found_at pairs (keys_past pairs keys))

@@ -36,9 +36,7 @@ pub mod RootFaults
 pub mod RootOutcomes
 -- What `get` and `nth` answer to who names the root.
 pub mod RootLookUps
--- What `scan` answers to who names the root.
-pub mod RootScans
--- What `dump` answers to who names the root.
+-- What a dump by the root has of the map with that root.
 pub mod RootDumps
 -- Lists of keys, out of files.
 pub mod KeyLists

@@ -1,7 +1,6 @@
 -- What the commands that read a chunk file print.
 use Rattle.std.specs.Fmt.{decimal}
 use Rattle.std.specs.Global.{Vec}
-use Rattle.std.specs.List.{flat_map}
 use Rattle.std.specs.Prelude.{◌≡◌, ◌↔◌, ◌⊎◌, ℕ, List, [], ◌∷◌, ◌++◌, length, Option, Some, None}
 use Rattle.std.specs.Prelude.{codes, option_map, Result, Ok, Err, IfOk, ◌≢◌, true}
 use Rattle.std.specs.declared.alloc.AllocError.{AllocError}
@@ -11,6 +10,7 @@ use Rattle.prolly_entry.specs.Reference.{reference_text}
 use Rattle.prolly_entry.specs.declared.version.Version.{Version}
 use Rattle.prolly_entry.specs.declared.version.Version.TheVariants.{One, Two}
 use Rattle.prolly_tree.specs.Chunk.{chunks}
+use Rattle.prolly_tree.specs.Difference.{puts}
 use Rattle.prolly_tree.specs.File.{root_reference}
 use Rattle.prolly_tree.specs.LookUp.{find, nth, scan}
 use Rattle.prolly_io.specs.Source.{SourceView}
@@ -24,6 +24,8 @@ use Rattle.prolly_check.specs.declared.verdict.fault.CheckFault.{CheckFault}
 use Rattle.prolly_check.specs.declared.verdict.fault.CheckFault.TheVariants.{Read}
 use Rattle.prolly_root.specs.declared.root_fault.RootFault.{RootFault}
 use Rattle.prolly_text.specs.Notations.{separator, written}
+use Rattle.prolly_text.specs.RecordForms.{written_records}
+use Rattle.prolly_text.specs.declared.lines.form.RecordForm.TheVariants.{Lines}
 use Rattle.prolly_text.specs.declared.notation.Notation.{Notation}
 use Rattle.prolly_fault.specs.Answers.{Shows, ShowsLine, ShowsNothing, ShowsFault}
 use Rattle.prolly_answer.specs.Input.{IsReadWhole}
@@ -75,7 +77,7 @@ ShowsPair notation answer (Some p) = ShowsLine answer (pair_text notation p)
 
 -- A line for each pair.
 abbrev pub pair_lines : Notation → List Pair → List ℕ
-pair_lines notation pairs = flat_map (λ p. pair_text notation p ++ 0x0A ∷ []) pairs
+pair_lines notation pairs = written_records (Lines notation) (puts pairs)
 
 abbrev pub ShowsPairs : Notation → Answer → List Pair → Type 0
 ShowsPairs notation answer pairs = Shows answer 0 (pair_lines notation pairs) []

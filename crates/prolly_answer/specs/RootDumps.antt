@@ -1,4 +1,4 @@
--- What `dump` answers to who names the root.
+-- What a dump by the root has of the map with that root.
 use Rattle.std.specs.Prelude.{◌≡◌, ◌⊎◌, ℕ, List, [], ◌++◌}
 use Rattle.std.specs.List.{AllByRecursion}
 use Rattle.prolly_look_up.specs.Content.{chunk_bytes}
@@ -7,26 +7,8 @@ use Rattle.prolly_look_up.specs.Way.{Clash}
 use Rattle.prolly_entry.specs.Cut.{sha512_cut}
 use Rattle.prolly_entry.specs.Pair.{Pair, IsPair}
 use Rattle.prolly_entry.specs.declared.version.Version.{Version}
-use Rattle.prolly_root.specs.declared.root_fault.RootFault.{RootFault}
-use Rattle.prolly_tree.specs.Difference.{IsMap, puts}
+use Rattle.prolly_tree.specs.Difference.{IsMap}
 use Rattle.prolly_tree.specs.File.{root_reference}
-use Rattle.prolly_text.specs.RecordForms.{written_records}
-use Rattle.prolly_text.specs.declared.lines.form.RecordForm.{RecordForm}
-use Rattle.prolly_answer.specs.RootOutcomes.{IsWrittenByRoot, Outcome}
-
--- The pairs of the lists, in this form.
-abbrev pub written_pairs : RecordForm → List (List Pair) → List ℕ
-written_pairs form lists = written_records form (puts (joined lists))
-
--- Look-ups by the root, one after another from the least key on, found lists of pairs, with which
--- this outcome fits; and of their bytes in this form, `takes` says what the sink took. They are
--- enough where the tree has no more pairs.
-abbrev pub IsDumpedByRoot : (List ℕ → Type 0) → (List ℕ → RootFault → Type 0) → Version → List ℕ →
-    RecordForm → (List ℕ → Outcome → Type 0) → Outcome → Type 0
-IsDumpedByRoot there may version root form takes outcome =
-    IsWrittenByRoot there may version root [] EndsEmpty (written_pairs form) takes outcome
-
--- ---- what it proves
 
 -- The lists have the first pairs of the map, and all of them where the last is empty.
 pub record HaveFirst (m : List Pair) (lists : List (List Pair)) : Type 0 where

@@ -16,6 +16,7 @@ mod proof;
 mod root_diff;
 mod root_dump;
 mod root_get_keys;
+mod root_pairs;
 mod root_scan;
 mod scan;
 mod scratch;

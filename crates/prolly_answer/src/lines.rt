@@ -1,10 +1,8 @@
 //! Lines that are written.
 ghost use Rattle.std.specs.Prelude.{◌≡◌, ◌++◌, ◌∷◌, OnOk, IfErr};
 ghost use Rattle.prolly_text.specs.Notations.{separator, written};
-ghost use Rattle.prolly_tree.specs.Difference.{puts};
+ghost use Rattle.prolly_answer.specs.LookUps.{pair_lines};
 ghost use Rattle.prolly_answer.specs.Outputs.{TookAll, TookUntil};
-ghost use Rattle.prolly_text.specs.RecordForms.{written_records};
-ghost use Rattle.prolly_text.specs.declared.lines.form.RecordForm.TheVariants.{Lines};
 
 use prolly_check::Leaves;
 use prolly_fault::OutputFault;
@@ -37,10 +35,10 @@ pub(crate) fn write_lines<W: Sink>(
     mut leaves: Leaves,
     sink: &mut W,
 ) -> Result<(), OutputFault>
-    ensures ok { OnOk result (TookAll W.seen (written_records (Lines notation) (puts leaves.entry))
-        sink.old sink.new) }
-    ensures err { IfErr result (λ fault. TookUntil W.seen fault
-        (written_records (Lines notation) (puts leaves.entry)) sink.old sink.new) }
+    ensures ok { OnOk result
+        (TookAll W.seen (pair_lines notation leaves.entry) sink.old sink.new) }
+    ensures err { IfErr result (λ fault.
+        TookUntil W.seen fault (pair_lines notation leaves.entry) sink.old sink.new) }
 {
     let mut lines = Vec::new(alloc);
     while let Some(leaf) = leaves.next() {
@@ -58,8 +56,7 @@ pub(crate) fn append_lines(
     notation: Notation,
     mut pairs: Pairs,
 ) -> Result<(), AllocError>
-    ensures { OnOk result (lines.new.items ≡ lines.old.items ++
-        written_records (Lines notation) (puts pairs.entry)) }
+    ensures { OnOk result (lines.new.items ≡ lines.old.items ++ pair_lines notation pairs.entry) }
 {
     while let Some((key, value)) = pairs.next() {
         append_line(lines, notation, key, Some(value))?;

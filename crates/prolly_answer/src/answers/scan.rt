@@ -4,12 +4,11 @@ ghost use Rattle.prolly_text.specs.declared.notation.Notation.TheVariants.{Hex};
 ghost use Rattle.prolly_answer.specs.LookUps.{AnswersFailedRead, AnswersLookUp, ShowsScan};
 ghost use Rattle.prolly_answer.specs.LookUps.{pair_lines};
 
-use crate::lines::append_pair_text;
 use prolly_check::{ChunkHasher, Leaves, OneThread, check_by};
 use prolly_fault::{Answer, Fault, INPUT_LIMIT};
 use prolly_io::Source;
 use prolly_look_up::Pairs;
-use prolly_text::Notation;
+use prolly_text::{Notation, append_line};
 use std::alloc::{AllocError, Global};
 
 /// What `scan` answers: a line of key and value in this notation for each of the first `limit`
@@ -91,8 +90,7 @@ pub(crate) fn append_first(
         let Some((key, value)) = leaf.next() else {
             return Ok(left);
         };
-        append_pair_text(lines, notation, key, value)?;
-        lines.extend_from_slice(b"\n")?;
+        append_line(lines, notation, key, Some(value))?;
         left -= 1;
     }
     Ok(left)

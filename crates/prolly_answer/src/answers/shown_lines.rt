@@ -10,10 +10,9 @@ ghost use Rattle.prolly_answer.specs.SetLines.{FitsLeft, alone_lines, keys_left,
 ghost use Rattle.prolly_answer.specs.SetLines.{left_behind, more_lines};
 
 use crate::answers::get_keys::append_found;
-use crate::lines::append_pair_text;
 use prolly_entry::key_order;
 use prolly_range::{KeySet, PairsWanted};
-use prolly_text::Notation;
+use prolly_text::{Notation, append_line};
 use std::alloc::{AllocError, Global};
 
 /// Appends the lines that are told of these pairs, where these keys of a list are left: of a range one
@@ -50,8 +49,7 @@ fn append_wanted(
     ensures { OnOk result (lines.new.items ≡ lines.old.items ++ pair_lines notation pairs.entry) }
 {
     while let Some((key, value)) = pairs.next() {
-        append_pair_text(lines, notation, key, value)?;
-        lines.extend_from_slice(b"\n")?;
+        append_line(lines, notation, key, Some(value))?;
     }
     Ok(())
 }

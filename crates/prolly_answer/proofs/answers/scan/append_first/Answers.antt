@@ -1,5 +1,4 @@
-use Rattle.std.proofs.Common.{◌∷◌, length, sym, ap, ◌∙◌, arith, append_assoc}
-use Rattle.prolly_text.specs.Notations.{separator, written}
+use Rattle.std.proofs.Common.{length, sym, ap, ◌∙◌, arith}
 use Rattle.prolly_answer.proofs.FirstLines.{no_more, none_within, one_line}
 use Rattle.prolly_answer.proofs.answers.scan.append_first.Goals as goal
 
@@ -8,11 +7,8 @@ loop-left-preserved c =
     let next = c.in-Some.ensures.next in
     let left = c.loop-left.invariant.left in record {
       lines = one_line c.args.notation _ c.loop-left.leaf c.next.new.self c.loop-left.left
-          c.loop-left.lines.items _ _ (omega arith) next
-          (c.in_ok-append_pair_text.ensures ∙ append_assoc c.loop-left.lines.items
-          (written c.args.notation c.in-Some.key.now)
-          (separator c.args.notation ∷ written c.args.notation c.in-Some.value.now))
-          c.in_ok-extend_from_slice.ensures.items ∙ c.loop-left.invariant.lines;
+          c.loop-left.lines.items _ (omega arith) next c.in_ok-append_line.ensures ∙
+          c.loop-left.invariant.lines;
       left = omega (arith, left, ap length next);
     }
 
