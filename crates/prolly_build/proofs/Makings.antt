@@ -36,7 +36,7 @@ use Rattle.prolly_build.specs.Config.{Settings}
 use Rattle.prolly_build.specs.End.{IsUnmadeRun}
 use Rattle.prolly_build.specs.WriterState.{IsEndWritten, IsEndFault}
 use Rattle.prolly_build.specs.WriterState.{IsTall, IsFailed}
-use Rattle.prolly_build.specs.WriterState.{IsUnended, tops_counted, frames_of}
+use Rattle.prolly_build.specs.WriterState.{IsUnended, count_told, frames_of}
 use Rattle.prolly_build.proofs.Tops.{frames_front}
 use Rattle.prolly_build.proofs.WritingSteps.{prefix_on, failed_part}
 
@@ -56,7 +56,7 @@ frames_are_first settings m first h =
           append_assoc (frames_of head first) front.0 ending,
     )
 
-pub at_most_one : (b : Bool) → tops_counted b ≤ 1
+pub at_most_one : (b : Bool) → count_told b ≤ 1
 at_most_one true = omega arith
 at_most_one false = omega arith
 

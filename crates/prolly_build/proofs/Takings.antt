@@ -57,7 +57,7 @@ module _ (settings : Settings) (some : 1 ≤ settings.stages) (p : List Pair)
   pub took_begun : (written : WriterState) → HasWritten file_head level events old new written →
       TookBegun settings p old new
   took_begun (Writing begun) h =
-      let one = at_most_one begun.has_top in
+      let one = at_most_one begun.has_last_level in
       let count = h.few in
       let few : length (filter (has_level level) events) ≤ 1 = omega (arith, one, count) in
       took_all (λ k. h.taken_is k ∙ ap (λ (es : List Chunk). old.taken ++ frames_of file_head es)
@@ -76,7 +76,7 @@ took_events : (head : List ℕ) (level : ℕ) (events : List Chunk) (old new : S
     old.is_keeping ≡ true → TakesPrefix old.taken new.taken
     (frames_of head (before_second level events))
 took_events head level events old new (Writing begun) h keeps =
-    let one = at_most_one begun.has_top in
+    let one = at_most_one begun.has_last_level in
     let count = h.few in
     let few : length (filter (has_level level) events) ≤ 1 = omega (arith, one, count) in
     all_taken (h.taken_is keeps ∙ ap (λ (es : List Chunk). old.taken ++ frames_of head es)

@@ -15,7 +15,7 @@ use Rattle.prolly_io.specs.Sink.{SinkView, TakesPrefix}
 use Rattle.prolly_build.specs.declared.run.writer.OpenFile.{OpenFile}
 use Rattle.prolly_build.specs.declared.run.writer.LastChunk.{LastChunk}
 use Rattle.prolly_build.specs.declared.run.writer.WriterState.{WriterState}
-use Rattle.prolly_build.specs.WriterState.{AreSmall, frames_of, tops_counted, IsTopOf}
+use Rattle.prolly_build.specs.WriterState.{AreSmall, frames_of, count_told, IsLastOf}
 use Rattle.prolly_build.specs.WriterState.{AreAllWritten, IsTall}
 use Rattle.prolly_build.specs.WriterState.{IsFailed, IsUnended, HasWritten}
 use Rattle.prolly_build.proofs.Tops.{one_more, second_all, second_last, second_stays, frames_front}
@@ -75,9 +75,9 @@ small_more events e h k = all_append (λ c. length c.bytes < 2 ^ 64) events (e �
 -- the second event of the last stage's level
 pub tall_now : {head : List ℕ} {level : ℕ} {events : List Chunk} {old new : SinkView}
     {begun : OpenFile} (e : Chunk) → AreAllWritten head level events old new begun →
-    begun.has_top ≡ true → has_level level e ≡ true → IsTall head level (events ++ e ∷ []) old new
+    begun.has_last_level ≡ true → has_level level e ≡ true → IsTall head level (events ++ e ∷ []) old new
 tall_now {head} {level} {events} {old} e h top t =
-    let one : count level events ≡ 1 = h.few ∙ ap tops_counted top in
+    let one : count level events ≡ 1 = h.few ∙ ap count_told top in
     let more = one_more level events e in
     let its : count level (e ∷ []) ≡ suc (count level []) = count_true level e [] t in record {
       second = omega (arith, one, more, its);
@@ -90,10 +90,10 @@ tall_now {head} {level} {events} {old} e h top t =
 
 -- no second one of the last stage's level is there with one event more
 abbrev pub IsFew : ℕ → List Chunk → Bool → Bool → Chunk → Type 0
-IsFew level events has_top is_top e = (has_level level e ≡ is_top) ×
-    (is_top ≡ true → has_top ≡ false)
+IsFew level events has_last_level is_top e = (has_level level e ≡ is_top) ×
+    (is_top ≡ true → has_last_level ≡ false)
 
-one_at_most : (b : Bool) → tops_counted b ≤ 1
+one_at_most : (b : Bool) → count_told b ≤ 1
 one_at_most true = omega arith
 one_at_most false = omega arith
 
@@ -112,7 +112,7 @@ part_behind old mid new before wanted e h = record {
 -- a frame fails
 pub failed_now : {head : List ℕ} {level : ℕ} {events : List Chunk} {old mid new : SinkView}
     {begun : OpenFile} (e : Chunk) (is_top : Bool) →
-    AreAllWritten head level events old mid begun → IsFew level events begun.has_top is_top e →
+    AreAllWritten head level events old mid begun → IsFew level events begun.has_last_level is_top e →
     length e.bytes < 2 ^ 64 →
     (mid.is_keeping ≡ true → TakesPrefix mid.taken new.taken (frame e)) →
     new.failures ≢ mid.failures → (mid.is_keeping ≡ true → new.is_keeping ≡ true) →
@@ -124,7 +124,7 @@ failed_now {head} {level} {events} {old} {mid} {new} {begun} e is_top h few shor
       small = small_more events e h.small short;
       first = (
         [],
-        second_all level (events ++ e ∷ []) (low begun.has_top is_top h.few few) ∙
+        second_all level (events ++ e ∷ []) (low begun.has_last_level is_top h.few few) ∙
             sym (append-nil (events ++ e ∷ [])),
       );
       taken_is = λ k. subst (TakesPrefix old.taken new.taken) (sym (frames_more head events e))
@@ -134,7 +134,7 @@ failed_now {head} {level} {events} {old} {mid} {new} {begun} e is_top h few shor
       keeps = λ k. keeps (h.keeps k);
     }
   where
-    low : (b c : Bool) → count level events ≡ tops_counted b → IsFew level events b c e →
+    low : (b c : Bool) → count level events ≡ count_told b → IsFew level events b c e →
         count level (events ++ e ∷ []) ≤ 1
     low true true h k = absurd (let f : true ≡ false = k.1 refl in cc)
     low true false h k = let more = one_more level events e in let its =
@@ -147,15 +147,15 @@ failed_now {head} {level} {events} {old} {mid} {new} {begun} e is_top h few shor
 -- the end record fails
 pub unended : {head : List ℕ} {level : ℕ} {events : List Chunk} {old mid new : SinkView}
     {begun : OpenFile} (top : LastChunk) → AreAllWritten head level events old mid begun →
-    begun.top ≡ Some top → begun.file.chunks < greatest_count →
+    begun.last ≡ Some top → begun.file.chunks < greatest_count →
     (mid.is_keeping ≡ true → TakesPrefix mid.taken new.taken
-    (end_record top.root.0 begun.file.chunks)) → new.failures ≢ mid.failures →
+    (end_record top.reference.0 begun.file.chunks)) → new.failures ≢ mid.failures →
     (mid.is_keeping ≡ true → new.is_keeping ≡ true) → IsUnended head level events old new
 unended {head} {level} {events} {old} {mid} {new} {begun} top h top_is few part failed keeps =
-    let last = subst (λ (t : Option LastChunk). IsTopOf events t) top_is h.top_is in
+    let last = subst (λ (t : Option LastChunk). IsLastOf events t) top_is h.last_is in
     let count_is = h.count_is in
     let chunks_are : begun.file.chunks ≡ length events = omega (arith, count_is, few) in
-    let one = one_at_most begun.has_top in
+    let one = one_at_most begun.has_last_level in
     let some = h.few in
     record {
       before = last.0;
@@ -166,10 +166,10 @@ unended {head} {level} {events} {old} {mid} {new} {begun} top h top_is few part 
       taken_is = λ k.
           subst (λ (bytes : List ℕ). TakesPrefix old.taken new.taken
           (frames_of head events ++ bytes))
-          (ap (λ (n : ℕ). end_record top.root.0 n) chunks_are ∙
+          (ap (λ (n : ℕ). end_record top.reference.0 n) chunks_are ∙
           ap (λ (r : List ℕ). end_record r (length events)) last.3)
           (part_behind old.taken mid.taken new.taken (frames_of head events)
-          (end_record top.root.0 begun.file.chunks) (h.taken_is k) (part (h.keeps k)));
+          (end_record top.reference.0 begun.file.chunks) (h.taken_is k) (part (h.keeps k)));
       keeps = λ k. keeps (h.keeps k);
     }
 

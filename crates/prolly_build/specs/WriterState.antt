@@ -30,28 +30,29 @@ abbrev pub AreSmall : List Chunk → Type 0
 AreSmall chunks = AllByRecursion (λ c. length c.bytes < 2 ^ 64) chunks
 
 -- How many of the events have the level: none, or one.
-abbrev pub tops_counted : Bool → ℕ
-tops_counted true = 1
-tops_counted false = 0
+abbrev pub count_told : Bool → ℕ
+count_told true = 1
+count_told false = 0
 
 -- The reference, the level and the count of the last event, if there is one.
-abbrev pub IsTopOf : List Chunk → Option LastChunk → Type 0
-IsTopOf events None = events ≡ []
-IsTopOf events (Some top) =
+abbrev pub IsLastOf : List Chunk → Option LastChunk → Type 0
+IsLastOf events None = events ≡ []
+IsLastOf events (Some told) =
     (before : List Chunk) × (last : Chunk) × (events ≡ before ++ last ∷ []) ×
-    (top.root.0 ≡ reference_of last.bytes) × (top.level ≡ last.level) × (top.count ≡ last.count)
+    (told.reference.0 ≡ reference_of last.bytes) × (told.level ≡ last.level) ×
+    (told.count ≡ last.count)
 
 -- All events are written, of which at most one is of the last stage's level.
 pub record AreAllWritten (head : List ℕ) (level : ℕ) (events : List Chunk) (old new : SinkView)
     (begun : OpenFile) : Type 0 where
-  pub few : length (filter (has_level level) events) ≡ tops_counted begun.has_top
+  pub few : length (filter (has_level level) events) ≡ count_told begun.has_last_level
   pub small : AreSmall events
   pub unfailed : new.failures ≡ old.failures
   pub taken_is : old.is_keeping ≡ true → new.taken ≡ old.taken ++ frames_of head events
   pub keeps : old.is_keeping ≡ true → new.is_keeping ≡ true
   pub count_is : begun.file.chunks ≡ min greatest_count (length events)
   pub goes_on : begun.file.has_failed ≡ false
-  pub top_is : IsTopOf events begun.top
+  pub last_is : IsLastOf events begun.last
 
 -- The events up to, and without, the second one of the last stage's level are written.
 pub record IsTall (head : List ℕ) (level : ℕ) (events : List Chunk) (old new : SinkView) : Type 0

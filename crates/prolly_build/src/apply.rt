@@ -8,6 +8,7 @@ ghost use Rattle.prolly_build.specs.OldBase.{AreChangesPaired};
 ghost use Rattle.prolly_report.specs.declared.apply_fault.ApplyFault.TheVariants.{Run};
 
 use crate::config::Config;
+use crate::driver::FILES_LIMIT;
 use crate::links::{StageLinks, both};
 use crate::old_end::{AppliedChanges, end_old};
 use crate::run::{OldBase, OldLinks, run_scoped};
@@ -24,8 +25,9 @@ use std::mem;
 use std::sync::Wait;
 use std::thread::Threads;
 
-/// The greatest number of files of changes that are laid over a tree: it is an input, too.
-pub const CHANGES_LIMIT: usize = 15;
+/// The greatest number of files of changes that are laid over a tree. The tree is one of the inputs, so
+/// it is one less than [`FILES_LIMIT`].
+pub const CHANGES_LIMIT: usize = FILES_LIMIT - 1;
 
 /// Runs all workers over these links, and the writer on this thread, until all of them have ended;
 /// then ends the file.

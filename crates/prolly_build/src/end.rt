@@ -119,21 +119,21 @@ fn end_file<W: Sink>(sink: &mut W, begun: OpenFile) -> Result<Report, RunFault>
 {
     let OpenFile {
         file,
-        has_top: _,
-        top,
+        has_last_level: _,
+        last,
     } = begun;
-    let Some(top) = top else {
+    let Some(last) = last else {
         return Err(RunFault::Lost);
     };
     if file.chunks() == u64::MAX {
         return Err(RunFault::Lost);
     }
-    match file.end(sink, &top.root) {
+    match file.end(sink, &last.reference) {
         Ok(chunks) => Ok(Report {
-            root: top.root,
+            root: last.reference,
             chunks,
-            pairs: top.count,
-            levels: top.level.saturating_add(1),
+            pairs: last.count,
+            levels: last.level.saturating_add(1),
         }),
         Err(_) => Err(RunFault::Write),
     }

@@ -74,7 +74,7 @@ fn write_events<I: In<ChunkEvent>, W: Sink, R: Wait>(
 /// The reference and the level of a chunk, and how many pairs are below it.
 #[derive(Clone, Copy)]
 pub(crate) struct LastChunk {
-    pub root: Ref,
+    pub reference: Ref,
     pub level: u8,
     pub count: u64,
 }
@@ -84,9 +84,9 @@ pub(crate) struct LastChunk {
 pub(crate) struct OpenFile {
     pub file: FileWriter,
     /// Whether one of the chunks is of the last stage's level.
-    pub has_top: bool,
+    pub has_last_level: bool,
     /// The last chunk.
-    pub top: Option<LastChunk>,
+    pub last: Option<LastChunk>,
 }
 
 /// How far the writer came.
@@ -109,8 +109,8 @@ impl WriterState {
         match FileWriter::begin_as(sink, version, bits) {
             Ok(file) => WriterState::Writing(OpenFile {
                 file,
-                has_top: false,
-                top: None,
+                has_last_level: false,
+                last: None,
             }),
             Err(_) => WriterState::Failed,
         }
@@ -143,20 +143,20 @@ impl OpenFile {
             HasWritten head last_level (events ++ event.now ∷ []) old (W.seen sink.new) result }
     {
         let is_top = event.level() == last_level;
-        if is_top && self.has_top {
+        if is_top && self.has_last_level {
             return WriterState::TooTall;
         }
         let OpenFile {
             mut file,
-            has_top,
-            top: _,
+            has_last_level,
+            last: _,
         } = self;
         match file.chunk(sink, event.bytes()) {
             Ok(()) => WriterState::Writing(OpenFile {
                 file,
-                has_top: has_top || is_top,
-                top: Some(LastChunk {
-                    root: event.reference(),
+                has_last_level: has_last_level || is_top,
+                last: Some(LastChunk {
+                    reference: event.reference(),
                     level: event.level(),
                     count: event.count(),
                 }),

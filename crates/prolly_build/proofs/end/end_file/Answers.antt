@@ -7,7 +7,7 @@ pub returns-in-Err-clause-err : goal.returns-in-Err-clause-err
 returns-in-Err-clause-err g c = λ head level events old h.
     inl (
       refl,
-      inr (unended c.in-Some.top h (c.in-Some.is) (omega (arith, c.if-chunks.false, c.chunks.ensures)) (search rules)
+      inr (unended c.in-Some.last h (c.in-Some.is) (omega (arith, c.if-chunks.false, c.chunks.ensures)) (search rules)
           (search rules) (search rules)),
     )
 

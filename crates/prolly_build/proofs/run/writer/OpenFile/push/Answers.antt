@@ -24,5 +24,5 @@ returns-in-Err g c = λ head events old h. failed_now c.args.event.now
     = ap (λ (bytes : List ℕ). length bytes) c.bytes.ensures in omega (arith, same))
     (search rules) (search rules) (search rules)
 
-pub returns-after-has_top : goal.returns-after-has_top
-returns-after-has_top g c = grind (arith, common_steps) steps 2000000
+pub returns-after-has_last_level : goal.returns-after-has_last_level
+returns-after-has_last_level g c = grind (arith, common_steps) steps 2000000
