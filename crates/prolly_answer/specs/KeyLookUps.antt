@@ -37,6 +37,7 @@ abbrev pub found_line : Notation → Record → List ℕ
 found_line notation found =
     (written notation found.key ++ value_part notation found.value) ++ 0x0A ∷ []
 
+-- A line for each key that was sought.
 abbrev pub found_lines : Notation → List Record → List ℕ
 found_lines notation records = flat_map (found_line notation) records
 

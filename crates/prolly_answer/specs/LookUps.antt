@@ -62,15 +62,17 @@ IsCheckByRoot version root bytes failed answer =
 abbrev pub pair_text : Notation → Pair → List ℕ
 pair_text notation p = written notation p.key ++ separator notation ∷ written notation p.value
 
+-- The value in this notation, or that there is none.
 abbrev pub ShowsValue : Notation → Answer → Option (List ℕ) → Type 0
 ShowsValue notation answer None = ShowsNothing answer
 ShowsValue notation answer (Some value) = ShowsLine answer (written notation value)
 
--- The bytes of the value and nothing else.
+-- The bytes of the value and nothing else, or that there is none.
 abbrev pub ShowsRaw : Answer → Option (List ℕ) → Type 0
 ShowsRaw answer None = ShowsNothing answer
 ShowsRaw answer (Some value) = Shows answer 0 value []
 
+-- The pair in this notation, or that there is none.
 abbrev pub ShowsPair : Notation → Answer → Option Pair → Type 0
 ShowsPair notation answer None = ShowsNothing answer
 ShowsPair notation answer (Some p) = ShowsLine answer (pair_text notation p)
@@ -79,28 +81,33 @@ ShowsPair notation answer (Some p) = ShowsLine answer (pair_text notation p)
 abbrev pub pair_lines : Notation → List Pair → List ℕ
 pair_lines notation pairs = written_records (Lines notation) (puts pairs)
 
+-- A line for each pair, and nothing else.
 abbrev pub ShowsPairs : Notation → Answer → List Pair → Type 0
 ShowsPairs notation answer pairs = Shows answer 0 (pair_lines notation pairs) []
 
--- The files of version One have no counts.
+-- The pair; of a file of version One, that it has no counts.
 abbrev pub ShowsNth : Notation → Answer → Version → Option Pair → Type 0
 ShowsNth notation answer One found = ShowsFault answer NoCounts
 ShowsNth notation answer Two found = ShowsPair notation answer found
 
--- What is shown of a lawful file's content, by the command.
+-- What is shown of a lawful file's content by `check`: its root, its bits and its chunks.
 abbrev pub ShowsCheck : Answer → Content → Type 0
 ShowsCheck answer content = ShowsLine answer (check_text content)
 
+-- By `get`: the value of the key.
 abbrev pub ShowsGet : Notation → List ℕ → Answer → Content → Type 0
 ShowsGet notation key answer content = ShowsValue notation answer (find content.pairs key)
 
+-- By `get --raw`: the bytes of the value.
 abbrev pub ShowsGetRaw : List ℕ → Answer → Content → Type 0
 ShowsGetRaw key answer content = ShowsRaw answer (find content.pairs key)
 
+-- By `scan`: the first pairs from the key on.
 abbrev pub ShowsScan : Notation → List ℕ → ℕ → Answer → Content → Type 0
 ShowsScan notation from limit answer content =
     ShowsPairs notation answer (scan content.pairs from limit)
 
+-- By `nth`: the pair of the number.
 abbrev pub ShowsPlace : Notation → ℕ → Answer → Content → Type 0
 ShowsPlace notation n answer content =
     ShowsNth notation answer content.version (nth content.pairs n)

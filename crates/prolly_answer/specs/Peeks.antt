@@ -42,8 +42,8 @@ module _ {S : Type 0} (seen : S → SourceView) where
     pub failed : (seen after).failures ≢ (seen source).failures
     pub unsteady : (seen source).is_steady ≢ true
 
--- Of each honest source there is one that gives what it gave, in the same order.
 module _ {S T : Type 0} (seen : S → SourceView) (seen' : T → SourceView) where
+  -- Of each honest source there is one that gives what it gave, in the same order.
   abbrev pub ArePutBack : List S → List T → Type 0
   ArePutBack [] [] = Unit {0}
   ArePutBack (s ∷ ss) (t ∷ ts) =

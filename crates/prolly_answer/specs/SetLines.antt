@@ -19,6 +19,7 @@ is_past shown key = list_any (λ p. not (is_lt (key_order p.key key))) shown
 abbrev pub keys_past : List Pair → List (List ℕ) → List (List ℕ)
 keys_past shown keys = filter (is_past shown) keys
 
+-- The other keys of the list.
 abbrev pub keys_left : List Pair → List (List ℕ) → List (List ℕ)
 keys_left shown keys = filter (λ key. not (is_past shown key)) keys
 

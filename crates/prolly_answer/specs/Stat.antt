@@ -69,6 +69,7 @@ ShowsGood form answer survey None = ShowsSurvey form answer survey
 ShowsGood form answer survey (Some flawed) =
     ShowsFault answer (Run (fault_of 0 survey.records flawed.flaw))
 
+-- What is shown of a record file: its numbers, or its flaw.
 abbrev pub ShowsRecords : StatForm → Answer → Survey → Type 0
 ShowsRecords form answer survey = ShowsGood form answer survey survey.flawed
 

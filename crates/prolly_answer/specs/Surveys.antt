@@ -70,5 +70,6 @@ abbrev pub ShowsReason : Notation → Answer → Survey → Option FlawedRecord 
 ShowsReason notation answer survey None = ShowsLine answer (good_text survey)
 ShowsReason notation answer survey (Some flawed) = ShowsFlaw notation answer survey flawed
 
+-- What is shown of a record file: its flaw with the keys, or that there is none.
 abbrev pub ShowsExplanation : Notation → Answer → Survey → Type 0
 ShowsExplanation notation answer survey = ShowsReason notation answer survey survey.flawed

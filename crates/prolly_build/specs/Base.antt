@@ -49,6 +49,8 @@ pub record AreFilesMet (settings : Settings) (pairs : Receiving Pair) (inputs : 
       (pairs.progress ≡ Ended sent.end)
   pub finished : IsFinished settings out old new result
 
+-- All that runs below the stages has ended: files and links met, or a worker was lost and no end
+-- record is begun.
 abbrev pub AreFilesEnded : Settings → Receiving Pair → List (Receiving Record) → Whole Pair →
     List (Whole Record) → Whole Chunk → SinkView → SinkView → Result Report RunFault → Type 0
 AreFilesEnded settings pairs inputs sent closed out old new result =

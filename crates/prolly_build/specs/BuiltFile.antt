@@ -97,6 +97,7 @@ pub record IsCleanRun (settings : Settings) (m : List Pair) (events : List Chunk
   pub sent : events ≡ pipeline_events (settings.stages - 1) (sha512_cut settings.bits)
       settings.version clean m
 
+-- Where the end is clean, the events are those of this map.
 abbrev pub IsRunOf : Settings → List Pair → List Chunk → End → Type 0
 IsRunOf settings m events end = end ≡ Clean → IsCleanRun settings m events
 

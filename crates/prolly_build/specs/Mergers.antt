@@ -13,10 +13,11 @@ use Rattle.prolly_link.specs.declared.fault.RunFault.{RunFault}
 use Rattle.prolly_merge.specs.Inputs.{input_of, lists_of, stop_end}
 use Rattle.prolly_merge.specs.Merged.{SendsAll}
 
--- What went over a link, seen from its receiver and from its sender.
+-- What went over a link, as an input of a merge, seen from the receiver.
 abbrev pub received_input : Receiving Record → Input RunFault
 received_input r = input_of r.items (end_given r.progress)
 
+-- The same, seen from the sender.
 abbrev pub sent_input : Whole Record → Input RunFault
 sent_input c = input_of c.items c.end
 
