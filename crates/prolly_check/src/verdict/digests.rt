@@ -8,7 +8,7 @@ ghost use Rattle.prolly_check.specs.Frames.{IsWithin, chunks_in};
 
 use crate::verdict::frames::chunk_at;
 use crate::verdict::pairs_digest::PairsDigest;
-use prolly_entry::{Ref, Sha512Cut, Version};
+use prolly_entry::{REFERENCE_SIZE, Ref, Sha512Cut, Version};
 use prolly_look_up::ManyThreads;
 use std::alloc::{AllocError, Global};
 use std::ops::Range;
@@ -48,7 +48,7 @@ impl ChunkDigest {
     {
         ChunkDigest {
             is_whole: false,
-            reference: Ref([0; 20]),
+            reference: Ref([0; REFERENCE_SIZE]),
             pairs: PairsDigest::of_none(0),
         }
     }
