@@ -113,7 +113,8 @@ module _ (bytes : List ℕ) where
           (same_key bytes p q k)) ∙
           ap overlaid (append_assoc came (record_in bytes q ∷ []) (records_in bytes places))
       go false k next =
-          sym (append_assoc m (record_in bytes p ∷ []) (records_in bytes (last_from bytes q places))) ∙
+          sym (append_assoc m (record_in bytes p ∷ [])
+          (records_in bytes (last_from bytes q places))) ∙
           next (m ++ record_in bytes p ∷ []) (kept_with_next came m (record_in bytes p)
           (record_in bytes q) e (below_key bytes p q (h 0 1 p (omega arith) (omega arith)) k)) ∙
           ap overlaid (append_assoc came (record_in bytes q ∷ []) (records_in bytes places))
@@ -153,7 +154,8 @@ module _ (bytes : List ℕ) (places : List Place) (n : ℕ) (last place : Place)
       (all (n - 1) n place (omega arith) within))
 
   one_more : (k : ℕ) (p : Place) → k < length places → get_or places k p ≡ p →
-      records_in bytes (take (k + 1) places) ≡ records_in bytes (take k places) ++ record_in bytes p ∷ []
+      records_in bytes (take (k + 1) places) ≡
+      records_in bytes (take k places) ++ record_in bytes p ∷ []
   one_more k p l e = ap (records_in bytes) (take_more places k p l ∙
       ap (λ q. take k places ++ q ∷ []) e) ∙ map_push (record_in bytes) (take k places) p
 
@@ -168,7 +170,8 @@ module _ (bytes : List ℕ) (places : List Place) (n : ℕ) (last place : Place)
       ap (λ k. records_in bytes (take k places)) (sym e) ∙
       one_more (n - 1) last (omega arith) (was last) in
       subst (λ rs. Rising (keys_of rs))
-      (sym (one_more n place within (there place) ∙ ap (λ rs. rs ++ record_in bytes place ∷ []) up_to))
+      (sym (one_more n place within (there place) ∙
+      ap (λ rs. rs ++ record_in bytes place ∷ []) up_to))
       (rises_behind (records_in bytes (take (n - 1) places)) (record_in bytes last)
       (record_in bytes place) (subst (λ rs. Rising (keys_of rs)) up_to rising)
       (below_key bytes last place (in_order all) differ))

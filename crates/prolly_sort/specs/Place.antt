@@ -1,5 +1,6 @@
 -- Where a record lies among the bytes of a run.
-use Rattle.std.specs.Prelude.{◌≡◌, ℕ, zero, suc, ◌+◌, ◌*◌, ◌^◌, ◌<◌, ◌≤◌, nat_eq, nat_lt, Bool, ◌&&◌, false, List, []}
+use Rattle.std.specs.Prelude.{◌≡◌, ℕ, zero, suc, ◌+◌, ◌*◌, ◌^◌, ◌<◌, ◌≤◌, nat_eq, nat_lt, List, []}
+use Rattle.std.specs.Prelude.{Bool, ◌&&◌, false}
 use Rattle.std.specs.Prelude.{◌∷◌, All, drop, length, map, Option, Some, None, is_some, slice_range}
 use Rattle.std.specs.Prelude.{if◌then◌else◌, IsPermutation, slice_index_or}
 use Rattle.std.specs.List.{AllPairs}

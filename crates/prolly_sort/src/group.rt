@@ -44,7 +44,7 @@ pub(crate) fn sort_group(bytes: &[u8], places: &mut [Place], levels: u32)
 }
 
 /// Puts places in that order by their whole keys. Many places are put in the order of their numbers
-/// first: where all of them have one key, they are in order then, and the other sort sees it at once.
+/// first: where all of them have one key, they are in order then, and one pass over the keys sees it.
 fn sort_by_keys(bytes: &[u8], places: &mut [Place])
     ensures same { IsPermutation places.old places.new }
     ensures sorted { IsSortedBy (comes_before bytes.now) places.new }

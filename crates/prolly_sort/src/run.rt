@@ -103,8 +103,8 @@ impl Run {
     /// Puts the records in the order of their keys, each key once: of records with one key the last
     /// one counts.
     ///
-    /// It takes no memory, and no time where the keys rise ([`Run::is_rising`]). Else it takes O(n log
-    /// n) comparisons, of eight bytes where these tell keys apart and else of keys.
+    /// It takes no memory, and no time where the keys rise ([`Run::is_rising`]). Else it takes
+    /// O(n log n) comparisons, of eight bytes where these tell keys apart and else of keys.
     pub fn sort(self) -> SortedRun
         ensures records { result ≡ overlaid self.records }
         ensures rising { Rising (keys_of result) }
