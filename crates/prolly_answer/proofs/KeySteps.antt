@@ -1,9 +1,9 @@
 -- Looking up key after key, and writing the line of each.
-use Rattle.std.proofs.Common.{◌≡◌, ℕ, ◌+◌, ◌<◌, ◌≤◌, inl, inr, true, List, [], ◌∷◌, ◌++◌, length}
+use Rattle.std.proofs.Common.{◌≡◌, ℕ, ◌+◌, ◌<◌, inl, inr, true, List, [], ◌∷◌, ◌++◌, length}
 use Rattle.std.proofs.Common.{map, take, drop, Option, Ok, Err, refl, sym, ap, ◌∙◌, subst}
 use Rattle.std.proofs.Common.{append_assoc, append-nil, get_or, suc}
 use Rattle.std.proofs.Math.Seq.{drop-cons}
-use Rattle.std.proofs.lemmas.List.{drop_all, map-append, take-append-drop, take_more}
+use Rattle.std.proofs.lemmas.List.{map-append, take-append-drop, take_more}
 use Rattle.std.proofs.lemmas.List.Concat.{flat_map-append}
 use Rattle.prolly_entry.specs.Pair.{Pair}
 use Rattle.prolly_entry.specs.lemmas.Lists.{all_append}
@@ -162,8 +162,10 @@ module _ {W : Type 0} (seen : W → SinkView) (there : List ℕ → Type 0) (ver
     pub keys_are : keys_of records ≡ map f (take i xs)
     pub took : HasWritten seen notation records old new
 
-  pub asking_begins : (old : W) → IsAsking 0 old old
-  asking_begins old = record {
+module _ {W : Type 0} {seen : W → SinkView} {there : List ℕ → Type 0} {version : Version}
+    {root : List ℕ} {notation : Notation} {X : Type 0} {f : X → List ℕ} {xs : List X} where
+  pub asking_begins : {old : W} → IsAsking seen there version root notation f xs 0 old old
+  asking_begins {old = old} = record {
     records = [];
     ways = [];
     found = tt;
@@ -172,88 +174,75 @@ module _ {W : Type 0} (seen : W → SinkView) (there : List ℕ → Type 0) (ver
     took = took_none seen old;
   }
 
-  module _ (may : List (List ℕ) → RootFault → Type 0) (i : ℕ) (old mid : W)
-      (a : IsAsking i old mid) where
-    abbrev Told : W → Outcome → Type 0
-    Told new outcome =
-        AreFoundByRoot there may version root notation (map f xs) (TakesFor seen old new) outcome
+  module _ {i : ℕ} {old mid : W} (a : IsAsking seen there version root notation f xs i old mid)
+    where
+      behind_first : map f xs ≡ keys_of a.records ++ map f (drop i xs)
+      behind_first = keys_split f xs i ∙ ap (λ ks. ks ++ map f (drop i xs)) (sym a.keys_are)
 
-    behind_first : map f xs ≡ keys_of a.records ++ map f (drop i xs)
-    behind_first = keys_split f xs i ∙ ap (λ ks. ks ++ map f (drop i xs)) (sym a.keys_are)
-
-    -- the look-up of the next key has a fault
-    pub asking_fails : (x : X) → i < length xs → x ≡ get_or xs i x → (key : List ℕ) → key ≡ f x →
-        (fault : RootFault) → ((left : List (List ℕ)) → may (key ∷ left) fault) →
-        Told mid (Err (Root fault))
-    asking_fails x within is key key_is fault lawful = record {
-      records = a.records;
-      ways = a.ways;
-      found = a.found;
-      stand = a.stand;
-      left = map f (drop i xs);
-      keys_are = behind_first;
-      fits = subst (λ keys. may keys fault) (ap (λ k. k ∷ map f (drop (suc i) xs))
-          (key_is ∙ ap f is) ∙ ap (map f) (sym (drop-cons xs i x within)))
-          (lawful (map f (drop (suc i) xs)));
-      took = a.took.all;
-    }
-
-    pub asking_ends : length xs ≤ i → Told mid (Ok tt)
-    asking_ends all = record {
-      records = a.records;
-      ways = a.ways;
-      found = a.found;
-      stand = a.stand;
-      left = map f (drop i xs);
-      keys_are = behind_first;
-      fits = ap (map f) (drop_all i xs all);
-      took = a.took.all;
-    }
-
-    module _ (x : X) (within : i < length xs) (is : x ≡ get_or xs i x) (key : List ℕ)
-        (key_is : key ≡ f x) (value : Option (List ℕ))
-        (one : IsFoundByRoot there (IsWay version root key) value) (new : W) where
-      abbrev one_found : Record
-      one_found = record { key = key; value = value }
-
-      one_more : keys_of (a.records ++ one_found ∷ []) ≡ map f (take (i + 1) xs)
-      one_more = map-append (λ r. r.key) a.records (one_found ∷ []) ∙
-          ap (λ ks. ks ++ key ∷ []) a.keys_are ∙
-          ap (λ k. map f (take i xs) ++ k ∷ []) key_is ∙ sym (keys_more f xs i x within is)
-
-      ways_more : AreWays version root (a.records ++ one_found ∷ []) (a.ways ++ one.way ∷ [])
-      ways_more = zip_snoc (λ found way. IsWay version root found.key way found.value) a.records
-          a.ways one_found one.way a.found one.is
-
-      stand_more : AllByRecursion there (joined (a.ways ++ one.way ∷ []))
-      stand_more = subst (AllByRecursion there) (sym (joined_more a.ways one.way))
-          (all_append there (joined a.ways) one.way a.stand one.stand)
-
-      pub asks_on : TookBytes seen (found_line notation one_found) mid new →
-          ((seen mid).is_keeping ≡ true → (seen new).is_keeping ≡ true) →
-          IsAsking (i + 1) old new
-      asks_on t keeping = record {
-        records = a.records ++ one_found ∷ [];
-        ways = a.ways ++ one.way ∷ [];
-        found = ways_more;
-        stand = stand_more;
-        keys_are = one_more;
-        took = one_written seen notation a.records one_found old mid new a.took t keeping;
+      -- the look-up of the next key has a fault
+      pub asking_fails : {may : List (List ℕ) → RootFault → Type 0} {x : X} {key : List ℕ}
+          {fault : RootFault} → i < length xs → x ≡ get_or xs i x → key ≡ f x →
+          ((left : List (List ℕ)) → may (key ∷ left) fault) → AreFoundByRoot there may version root
+          notation (map f xs) (TakesFor seen old mid) (Err (Root fault))
+      asking_fails {may = may} {x = x} {fault = fault} within is key_is lawful = record {
+        records = a.records;
+        ways = a.ways;
+        found = a.found;
+        stand = a.stand;
+        left = map f (drop i xs);
+        keys_are = behind_first;
+        fits = subst (λ keys. may keys fault) (ap (λ k. k ∷ map f (drop (suc i) xs))
+            (key_is ∙ ap f is) ∙ ap (map f) (sym (drop-cons xs i x within)))
+            (lawful (map f (drop (suc i) xs)));
+        took = a.took.all;
       }
 
-      pub asking_cut_off : (fault : OutputFault) →
-          TookUntil seen fault (found_line notation one_found) mid new →
-          Told new (Err (Output fault))
-      asking_cut_off fault t = record {
-        records = a.records ++ one_found ∷ [];
-        ways = a.ways ++ one.way ∷ [];
-        found = ways_more;
-        stand = stand_more;
-        left = map f (drop (i + 1) xs);
-        keys_are = keys_split f xs (i + 1) ∙ ap (λ ks. ks ++ map f (drop (i + 1) xs)) (sym one_more);
-        fits = tt;
-        took = one_cut_off seen notation a.records one_found old mid new a.took fault t;
-      }
+      module _ {x : X} {key : List ℕ} {value : Option (List ℕ)} (within : i < length xs)
+          (is : x ≡ get_or xs i x) (key_is : key ≡ f x)
+          (one : IsFoundByRoot there (IsWay version root key) value) where
+        abbrev one_found : Record
+        one_found = record { key = key; value = value }
+
+        one_more : keys_of (a.records ++ one_found ∷ []) ≡ map f (take (i + 1) xs)
+        one_more = map-append (λ r. r.key) a.records (one_found ∷ []) ∙
+            ap (λ ks. ks ++ key ∷ []) a.keys_are ∙
+            ap (λ k. map f (take i xs) ++ k ∷ []) key_is ∙ sym (keys_more f xs i x within is)
+
+        ways_more : AreWays version root (a.records ++ one_found ∷ []) (a.ways ++ one.way ∷ [])
+        ways_more = zip_snoc (λ found way. IsWay version root found.key way found.value) a.records
+            a.ways one_found one.way a.found one.is
+
+        stand_more : AllByRecursion there (joined (a.ways ++ one.way ∷ []))
+        stand_more = subst (AllByRecursion there) (sym (joined_more a.ways one.way))
+            (all_append there (joined a.ways) one.way a.stand one.stand)
+
+        pub asks_on : {new : W} → TookBytes seen (found_line notation one_found) mid new →
+            ((seen mid).is_keeping ≡ true → (seen new).is_keeping ≡ true) →
+            IsAsking seen there version root notation f xs (i + 1) old new
+        asks_on {new = new} t keeping = record {
+          records = a.records ++ one_found ∷ [];
+          ways = a.ways ++ one.way ∷ [];
+          found = ways_more;
+          stand = stand_more;
+          keys_are = one_more;
+          took = one_written seen notation a.records one_found old mid new a.took t keeping;
+        }
+
+        pub asking_cut_off : {may : List (List ℕ) → RootFault → Type 0} {new : W}
+            {fault : OutputFault} → TookUntil seen fault (found_line notation one_found) mid new →
+            AreFoundByRoot there may version root notation (map f xs) (TakesFor seen old new)
+            (Err (Output fault))
+        asking_cut_off {new = new} {fault = fault} t = record {
+          records = a.records ++ one_found ∷ [];
+          ways = a.ways ++ one.way ∷ [];
+          found = ways_more;
+          stand = stand_more;
+          left = map f (drop (i + 1) xs);
+          keys_are = keys_split f xs (i + 1) ∙
+              ap (λ ks. ks ++ map f (drop (i + 1) xs)) (sym one_more);
+          fits = tt;
+          took = one_cut_off seen notation a.records one_found old mid new a.took fault t;
+        }
 
 -- what fits by one account of faults does by another
 fits_may : (may also : List (List ℕ) → RootFault → Type 0) (left : List (List ℕ))
@@ -263,14 +252,13 @@ fits_may may also left (Ok done) so fits = fits
 fits_may may also left (Err (Root fault)) so fits = so fault fits
 fits_may may also left (Err (Output fault)) so fits = tt
 
-module _ {W : Type 0} (seen : W → SinkView) (there : List ℕ → Type 0) (version : Version)
-    (root : List ℕ) (notation : Notation) (keys : List (List ℕ))
-    (may : List (List ℕ) → RootFault → Type 0) where
+module _ {W : Type 0} {seen : W → SinkView} {there : List ℕ → Type 0} {version : Version}
+    {root : List ℕ} {notation : Notation} {keys : List (List ℕ)}
+    {may : List (List ℕ) → RootFault → Type 0} where
   -- the root is not found
-  pub keys_refused : (fault : RootFault) (old : W) → may keys fault →
-      AreFoundByRoot there may version root notation keys (TakesAllFor seen old old)
-      (Err (Root fault))
-  keys_refused fault old lawful = record {
+  pub keys_refused : {fault : RootFault} {old : W} → may keys fault → AreFoundByRoot there may
+      version root notation keys (TakesAllFor seen old old) (Err (Root fault))
+  keys_refused {old = old} lawful = record {
     records = [];
     ways = [];
     found = tt;
@@ -287,8 +275,8 @@ module _ {W : Type 0} (seen : W → SinkView) (there : List ℕ → Type 0) (ver
   }
 
   -- what was written is flushed, and told of the version and the root of the reader
-  pub keys_told : (near : List ℕ → Type 0) (by : List (List ℕ) → RootFault → Type 0) (v : Version)
-      (r : List ℕ) (old mid new : W) (outcome told : Outcome) →
+  pub keys_told : {near : List ℕ → Type 0} {by : List (List ℕ) → RootFault → Type 0} {v : Version}
+      {r : List ℕ} {old mid new : W} {outcome told : Outcome} →
       AreFoundByRoot near by v r notation keys (TakesFor seen old mid) outcome →
       (v ≡ version) × (r ≡ root) →
       ((seen old).is_keeping ≡ true → (seen mid).is_keeping ≡ true) →
@@ -296,7 +284,8 @@ module _ {W : Type 0} (seen : W → SinkView) (there : List ℕ → Type 0) (ver
       ((chunk : List ℕ) → near chunk → there chunk) →
       ((left : List (List ℕ)) (fault : RootFault) → by left fault → may left fault) →
       AreFoundByRoot there may version root notation keys (TakesAllFor seen old new) told
-  keys_told near by v r old mid new outcome told d is keeping settled stands so =
+  keys_told {near = near} {by = by} {v = v} {old = old} {mid = mid} {new = new}
+      {outcome = outcome} {told = told} d is keeping settled stands so =
       subst (λ v. AreFoundByRoot there may v root notation keys (TakesAllFor seen old new) told)
       is.0
       (subst (λ r. AreFoundByRoot there may v r notation keys (TakesAllFor seen old new) told) is.1

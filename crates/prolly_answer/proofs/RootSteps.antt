@@ -123,7 +123,7 @@ some_behind lists (p ∷ ps) some = ends_full lists (p ∷ ps) (λ e. cc)
 
 module _ {W : Type 0} (seen : W → SinkView) (there : List ℕ → Type 0) (version : Version)
     (root from : List ℕ) (portion : Portion) where
-  -- What was found is not enough: this is wanted behind it, and the next look-up is that of this key.
+  -- What was found is not enough: this is wanted behind it, and this key is looked up next.
   pub record IsUnderWay (left : Portion) (next : List ℕ) (old new : W) : Type 0 where
     pub found : Scanned there version root from
     pub few : ¬ (AreEnough portion found.lists)
@@ -206,13 +206,12 @@ module _ {W : Type 0} {seen : W → SinkView} {there : List ℕ → Type 0} {ver
         -- It finds that there are no more.
         pub seek_ends : {may : List ℕ → RootFault → Type 0} → leaf ≡ [] →
             IsWrittenByRoot there may version root from portion (TakesFor seen old mid) (Ok tt)
-        seek_ends none = record {
+        seek_ends none = let done = portion_bytes portion (joined d.found.lists) in record {
           found = with_more;
           fits = enough_at_end portion with_more.lists (none_behind d.found.lists leaf none);
           took = subst (λ b. TookBytes seen b old mid) (sym (text ∙
-              ap (λ ps. portion_bytes portion (joined d.found.lists) ++ portion_bytes left ps) none ∙
-              ap (λ b. portion_bytes portion (joined d.found.lists) ++ b) (bytes_none left) ∙
-              append-nil (portion_bytes portion (joined d.found.lists)))) d.took.all;
+              ap (λ ps. done ++ portion_bytes left ps) none ∙
+              ap (λ b. done ++ b) (bytes_none left) ∙ append-nil done)) d.took.all;
         }
 
         module _ {new : W} where
@@ -369,7 +368,8 @@ module _ {W : Type 0} {seen : W → SinkView} {there : List ℕ → Type 0}
   flushed_told {near = near} {by = by} {v = v} {old = old} {mid = mid} {new = new}
       {outcome = outcome} {told = told} d is keeping settled stands so =
       let next = behind from d.found.lists in
-      subst (λ v. IsWrittenByRoot there may v root from portion (TakesAllFor seen old new) told) is.0
+      subst (λ v. IsWrittenByRoot there may v root from portion (TakesAllFor seen old new) told)
+      is.0
       (subst (λ r. IsWrittenByRoot there may v r from portion (TakesAllFor seen old new) told) is.1
       (record {
         found = record {

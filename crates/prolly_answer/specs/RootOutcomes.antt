@@ -2,6 +2,7 @@
 -- ends, what it wrote until then, and what is told of its source.
 use Rattle.std.specs.Prelude.{◌≡◌, ◌⊎◌, ℕ, ◌-◌, ◌≤◌, List, Result, Ok, Err, [], ◌∷◌, length, take}
 use Rattle.std.specs.List.{AllByRecursion}
+use Rattle.std.specs.declared.alloc.AllocError.{AllocError}
 use Rattle.prolly_look_up.specs.ScanWay.{AreScanned, EndsEmpty, from_behind, joined}
 use Rattle.prolly_entry.specs.Pair.{Pair}
 use Rattle.prolly_entry.specs.declared.version.Version.{Version}
@@ -82,9 +83,9 @@ TakesAllFor seen old new bytes (Err (Root fault)) = TookAll seen bytes old new
 TakesAllFor seen old new bytes (Err (Output fault)) = TookUntil seen fault bytes old new
 
 -- Look-ups by the root, one after another from the key on, found lists of pairs, with which this
--- outcome fits, where this portion is wanted; and of the bytes that are to be written of these pairs
--- `takes` says what the sink took. `there` says where each chunk of the ways stands, and `may` why a
--- look-up of a key is refused.
+-- outcome fits, where this portion is wanted; and of the bytes that are to be written of these
+-- pairs `takes` says what the sink took. `there` says where each chunk of the ways stands, and `may`
+-- why a look-up of a key is refused.
 pub record IsWrittenByRoot (there : List ℕ → Type 0) (may : List ℕ → RootFault → Type 0)
     (version : Version) (root from : List ℕ) (portion : Portion)
     (takes : List ℕ → Outcome → Type 0) (outcome : Outcome) : Type 0 where
@@ -112,3 +113,8 @@ pub record AnswersOutcome (is : Outcome → Type 0) (answer : Answer) : Type 0 w
   pub outcome : Outcome
   pub so : is outcome
   pub shows : ShowsOutcome answer outcome
+
+-- That is answered; or a fault stopped the command, and memory for its line is refused.
+abbrev pub IsAnswered : (Outcome → Type 0) → Result Answer AllocError → Type 0
+IsAnswered is (Ok answer) = AnswersOutcome is answer
+IsAnswered is (Err refused) = (stop : RootOutputFault) × is (Err stop)

@@ -1,12 +1,11 @@
 //! The command `dump` of a file of which only the root is believed.
-ghost use Rattle.std.specs.Prelude.{[], Err, IfOk, OnErr};
+ghost use Rattle.std.specs.Prelude.{[]};
 ghost use Rattle.prolly_look_up.specs.Sought.Sought.{Key};
 ghost use Rattle.prolly_root.specs.ChunkSource.{StandsInFile};
 ghost use Rattle.prolly_answer.specs.RootFaults.{MayRefuse};
-ghost use Rattle.prolly_answer.specs.RootOutcomes.{AnswersOutcome, IsWrittenByRoot, TakesAllFor};
+ghost use Rattle.prolly_answer.specs.RootOutcomes.{IsAnswered, IsWrittenByRoot, TakesAllFor};
 ghost use Rattle.prolly_answer.specs.RootOutcomes.{TellsReadsOf};
 ghost use Rattle.prolly_answer.specs.declared.answers.root_pairs.Portion.TheVariants.{Whole};
-ghost use Rattle.prolly_fault.specs.declared.root_output_fault.RootOutputFault.{RootOutputFault as StopValue};
 
 use crate::answers::root_pairs::{Portion, RootPairs, write_pairs};
 use prolly_entry::{Ref, Version};
@@ -38,18 +37,10 @@ pub fn answer_dump_by_root<R: Threads + Sync, S: ReadAhead, W: Sink>(
     form: RecordForm,
     sink: &mut W,
 ) -> Result<Answer, AllocError>
-    ensures ok { IfOk result (AnswersOutcome (λ outcome. IsWrittenByRoot
-        (StandsInFile (S.goes_over source.old))
+    ensures { IsAnswered (λ outcome. IsWrittenByRoot (StandsInFile (S.goes_over source.old))
         (λ key. MayRefuse (S.goes_over source.old) version root.now.0 (Key key))
-        version root.now.0 [] (Whole form)
-        (TakesAllFor W.seen sink.old sink.new) outcome ×
-        TellsReadsOf (S.failures source.old) (S.failures source.new) outcome)) }
-    ensures err { OnErr result ((stop : StopValue) × IsWrittenByRoot
-        (StandsInFile (S.goes_over source.old))
-        (λ key. MayRefuse (S.goes_over source.old) version root.now.0 (Key key))
-        version root.now.0 [] (Whole form)
-        (TakesAllFor W.seen sink.old sink.new) (Err stop) ×
-        TellsReadsOf (S.failures source.old) (S.failures source.new) (Err stop)) }
+        version root.now.0 [] (Whole form) (TakesAllFor W.seen sink.old sink.new) outcome ×
+        TellsReadsOf (S.failures source.old) (S.failures source.new) outcome) result }
 {
     let pairs = RootPairs {
         version,

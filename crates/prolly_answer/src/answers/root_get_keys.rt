@@ -1,10 +1,9 @@
 //! The command `get` of many keys, of a file of which only the root is believed.
-ghost use Rattle.std.specs.Prelude.{◌≡◌, true, map, Err, IfOk, OnErr};
+ghost use Rattle.std.specs.Prelude.{◌≡◌, true, map};
 ghost use Rattle.prolly_root.specs.ChunkSource.{StandsInFile};
 ghost use Rattle.prolly_answer.specs.KeyLookUps.{AreFoundByRoot};
 ghost use Rattle.prolly_answer.specs.RootFaults.{MayRefuseFirst, StandsInFileOf, TellsFirstKeyOf};
-ghost use Rattle.prolly_answer.specs.RootOutcomes.{AnswersOutcome, TakesAllFor, TakesFor, TellsReadsOf};
-ghost use Rattle.prolly_fault.specs.declared.root_output_fault.RootOutputFault.{RootOutputFault as StopValue};
+ghost use Rattle.prolly_answer.specs.RootOutcomes.{IsAnswered, TakesAllFor, TakesFor, TellsReadsOf};
 
 use crate::answers::flushed::settled;
 use crate::answers::get_keys::write_found;
@@ -36,18 +35,10 @@ pub fn answer_get_keys_by_root<S: ChunkSource, W: Sink>(
     notation: Notation,
     sink: &mut W,
 ) -> Result<Answer, AllocError>
-    ensures ok { IfOk result (AnswersOutcome (λ outcome. AreFoundByRoot
-        (StandsInFile (S.goes_over source.old))
-        (MayRefuseFirst (S.goes_over source.old) version root.now.0) version
-        root.now.0 notation
+    ensures { IsAnswered (λ outcome. AreFoundByRoot (StandsInFile (S.goes_over source.old))
+        (MayRefuseFirst (S.goes_over source.old) version root.now.0) version root.now.0 notation
         (map (λ k. k.items) keys.now) (TakesAllFor W.seen sink.old sink.new) outcome ×
-        TellsReadsOf (S.failures source.old) (S.failures source.new) outcome)) }
-    ensures err { OnErr result ((stop : StopValue) × AreFoundByRoot
-        (StandsInFile (S.goes_over source.old))
-        (MayRefuseFirst (S.goes_over source.old) version root.now.0) version
-        root.now.0 notation
-        (map (λ k. k.items) keys.now) (TakesAllFor W.seen sink.old sink.new) (Err stop) ×
-        TellsReadsOf (S.failures source.old) (S.failures source.new) (Err stop)) }
+        TellsReadsOf (S.failures source.old) (S.failures source.new) outcome) result }
 {
     match write_keys(alloc, source, version, root, keys, notation, sink) {
         Ok(()) => Ok(Answer::of_done(alloc)),

@@ -1,12 +1,10 @@
 //! The command `scan` of a file of which only the root is believed.
-ghost use Rattle.std.specs.Prelude.{Err, IfOk, OnErr};
 ghost use Rattle.prolly_look_up.specs.Sought.Sought.{Key};
 ghost use Rattle.prolly_root.specs.ChunkSource.{StandsInFile};
 ghost use Rattle.prolly_answer.specs.RootFaults.{MayRefuse};
-ghost use Rattle.prolly_answer.specs.RootOutcomes.{AnswersOutcome, IsWrittenByRoot, TakesAllFor};
+ghost use Rattle.prolly_answer.specs.RootOutcomes.{IsAnswered, IsWrittenByRoot, TakesAllFor};
 ghost use Rattle.prolly_answer.specs.RootOutcomes.{TellsReadsOf};
 ghost use Rattle.prolly_answer.specs.declared.answers.root_pairs.Portion.TheVariants.{First};
-ghost use Rattle.prolly_fault.specs.declared.root_output_fault.RootOutputFault.{RootOutputFault as StopValue};
 
 use crate::answers::root_pairs::{Portion, RootPairs, write_pairs};
 use prolly_entry::{Ref, Version};
@@ -38,11 +36,11 @@ pub struct RootScan<'a> {
 /// stopped it, and what was found before that was written. An `Err` is want of memory for that
 /// line; the sink then has what was found before.
 ///
-/// It goes on leaf by leaf, and looks each up from the root with one [`Reader`](prolly_root::Reader),
-/// which goes over the frames below a chunk once and reads no chunk twice. It takes memory for one
-/// look-up, for what the source reads ahead, and for the lines of one leaf, or of as many of its
-/// pairs as are still wanted: they are made from where the pairs lie. What the pairs of such
-/// look-ups are of the map with the root is said by
+/// It goes on leaf by leaf, and looks each up from the root with one
+/// [`Reader`](prolly_root::Reader), which goes over the frames below a chunk once and reads no chunk
+/// twice. It takes memory for one look-up, for what the source reads ahead, and for the lines of one
+/// leaf, or of as many of its pairs as are still wanted: they are made from where the pairs lie.
+/// What the pairs of such look-ups are of the map with the root is said by
 /// [`ways_are_right`](prolly_look_up::laws::ways_are_right). Each chunk of their ways stands in the
 /// file that the source goes over. The sink is called once for each leaf, or more often where it
 /// takes only a part, and flushed at the end. Where the limit is 0, nothing is read.
@@ -53,18 +51,11 @@ pub fn answer_scan_by_root<R: Threads + Sync, S: ReadAhead, W: Sink>(
     scan: &RootScan<'_>,
     sink: &mut W,
 ) -> Result<Answer, AllocError>
-    ensures ok { IfOk result (AnswersOutcome (λ outcome. IsWrittenByRoot
-        (StandsInFile (S.goes_over source.old))
+    ensures { IsAnswered (λ outcome. IsWrittenByRoot (StandsInFile (S.goes_over source.old))
         (λ key. MayRefuse (S.goes_over source.old) scan.now.version scan.now.root.now.0 (Key key))
         scan.now.version scan.now.root.now.0 scan.now.from.now
         (First scan.now.notation scan.now.limit) (TakesAllFor W.seen sink.old sink.new) outcome ×
-        TellsReadsOf (S.failures source.old) (S.failures source.new) outcome)) }
-    ensures err { OnErr result ((stop : StopValue) × IsWrittenByRoot
-        (StandsInFile (S.goes_over source.old))
-        (λ key. MayRefuse (S.goes_over source.old) scan.now.version scan.now.root.now.0 (Key key))
-        scan.now.version scan.now.root.now.0 scan.now.from.now
-        (First scan.now.notation scan.now.limit) (TakesAllFor W.seen sink.old sink.new) (Err stop) ×
-        TellsReadsOf (S.failures source.old) (S.failures source.new) (Err stop)) }
+        TellsReadsOf (S.failures source.old) (S.failures source.new) outcome) result }
 {
     let pairs = RootPairs {
         version: scan.version,

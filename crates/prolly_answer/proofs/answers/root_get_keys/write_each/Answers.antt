@@ -1,29 +1,17 @@
 use Rattle.std.proofs.Common.{◌∙◌, arith, refl, sym}
 use Rattle.std.proofs.lemmas.Result.{err_from_is_err_and}
-use Rattle.std.specs.Option.{option_copied}
-use Rattle.prolly_answer.specs.RootFaults.{TellsFirstKeyOf}
 use Rattle.prolly_answer.proofs.KeySteps.{asking_begins, asking_cut_off, asking_fails, asks_on}
 use Rattle.prolly_answer.proofs.Readers.{fault_told, looks_first, looks_on, value_found}
 use Rattle.prolly_answer.proofs.answers.root_get_keys.write_each.Goals as goal
 
 pub loop-key-init : goal.loop-key-init
-loop-key-init g c = record {
-  looks = looks_first;
-  reads = refl;
-  asking = asking_begins g.W.Sink.seen _ c.args.reader.version c.args.reader.root c.args.notation
-      (λ k. k.items) c.args.keys.now c.args.sink.now;
-}
+loop-key-init g c = record { looks = looks_first; reads = refl; asking = asking_begins }
 
 pub returns-in_err-value-clause-found : goal.returns-in_err-value-clause-found
 returns-in_err-value-clause-found g c =
     let inv = c.loop-key.invariant in
     let p = err_from_is_err_and c.from_residual.result c.from_residual.ensures.1 in
-    rw (p.1, p.2) (asking_fails g.W.Sink.seen _ c.args.reader.version c.args.reader.root
-    c.args.notation (λ k. k.items) c.args.keys.now
-    (TellsFirstKeyOf g.S.ChunkSource.stands (g.S.ChunkSource.goes_over c.args.source.now)
-    c.args.reader)
-    c.loop-key.key-index c.args.sink.now c.loop-key.sink inv.asking c.key-item.result (omega arith)
-    c.key-item.is c.deref.result.now c.deref.ensures.value c.in_err-value.field-0.0
+    rw (p.1, p.2) (asking_fails inv.asking (omega arith) c.key-item.is c.deref.ensures.value
     (λ left. fault_told inv.looks c.in_err-value.ensures.looked refl))
 
 pub returns-in_err-write_found-clause-found : goal.returns-in_err-write_found-clause-found
@@ -34,14 +22,8 @@ returns-in_err-write_found-clause-found g c =
     let one = value_found inv.looks c.in_ok-value.ensures.looked
     (c.deref.ensures.value ∙ sym c.deref-in-loop-key.ensures.value) (sym c.as_deref.ensures.value)
     c.in_ok-value.ensures.found in
-    rw (p.1, p.2) (asking_cut_off g.W.Sink.seen _ c.args.reader.version c.args.reader.root
-    c.args.notation (λ k. k.items) c.args.keys.now
-    (TellsFirstKeyOf g.S.ChunkSource.stands (g.S.ChunkSource.goes_over c.args.source.now)
-    c.args.reader)
-    c.loop-key.key-index c.args.sink.now c.loop-key.sink inv.asking c.key-item.result (omega arith)
-    c.key-item.is c.deref-in-loop-key.result.now c.deref-in-loop-key.ensures.value
-    (option_copied c.as_deref.result) one c.write_found.new.sink
-    c.in_err-write_found.field-0.0 c.in_err-write_found.ensures.err)
+    rw (p.1, p.2) (asking_cut_off inv.asking (omega arith) c.key-item.is
+    c.deref-in-loop-key.ensures.value one c.in_err-write_found.ensures.err)
 
 pub loop-key-preserved : goal.loop-key-preserved
 loop-key-preserved g c =
@@ -52,12 +34,6 @@ loop-key-preserved g c =
     record {
       looks = looks_on inv.looks c.in_ok-value.ensures.looked;
       reads = c.in_ok-value.ensures.looked.asked.1 ∙ inv.reads;
-      asking = asks_on g.W.Sink.seen _ c.args.reader.version c.args.reader.root c.args.notation
-          (λ k. k.items) c.args.keys.now
-          (TellsFirstKeyOf g.S.ChunkSource.stands (g.S.ChunkSource.goes_over c.args.source.now)
-          c.args.reader)
-          c.loop-key.key-index c.args.sink.now c.loop-key.sink inv.asking c.key-item.result
-          (omega arith) c.key-item.is c.deref-in-loop-key.result.now
-          c.deref-in-loop-key.ensures.value (option_copied c.as_deref.result) one
-          c.write_found.new.sink c.in_ok-write_found.ensures.ok c.write_found.ensures.keeping;
+      asking = asks_on inv.asking (omega arith) c.key-item.is c.deref-in-loop-key.ensures.value one
+          c.in_ok-write_found.ensures.ok c.write_found.ensures.keeping;
     }

@@ -13,8 +13,9 @@ returns-then-is_empty-clause-written g c =
 pub returns-in_err-reader-clause-written : goal.returns-in_err-reader-clause-written
 returns-in_err-reader-clause-written g c =
     let p = err_from_is_err_and c.from_residual.result c.from_residual.ensures.1 in
-    rw (p.1, p.2) (root_refused (λ enough. absurd (false≢true
-    (sym c.if-is_empty.false ∙ c.is_empty.ensures.1 enough))) (none_refused c.lawful_files_are_read.ensures
+    rw (p.1, p.2) (root_refused
+    (λ enough. absurd (false≢true (sym c.if-is_empty.false ∙ c.is_empty.ensures.1 enough)))
+    (none_refused c.lawful_files_are_read.ensures
     (λ file goes. not_opened file (c.in_err-reader.ensures.tells file goes))))
 
 pub returns-clause-written : goal.returns-clause-written
