@@ -1,12 +1,11 @@
 -- Writing the pairs of leaves as lines, leaf by leaf.
-use Rattle.std.proofs.Common.{◌≡◌, true, List, [], ◌++◌, Some, Ok, Err, refl, sym, ap}
-use Rattle.std.proofs.Common.{◌∙◌, subst, append_assoc, append-nil}
+use Rattle.std.proofs.Common.{◌≡◌, List, [], ◌++◌, Some, Ok, Err, refl, sym, ap}
+use Rattle.std.proofs.Common.{◌∙◌, subst, append_assoc}
 use Rattle.std.proofs.lemmas.List.{map-append}
 use Rattle.std.proofs.lemmas.List.Concat.{flat_map-append}
 use Rattle.std.proofs.lemmas.List.Folds.{flat_map-map}
 use Rattle.prolly_entry.specs.Pair.{Pair}
 use Rattle.prolly_entry.specs.Record.{Record}
-use Rattle.prolly_io.specs.Failures.{after_failure}
 use Rattle.prolly_io.specs.Sink.{IsSettled, SinkView}
 use Rattle.prolly_io.specs.Writes.{Writes}
 use Rattle.prolly_text.specs.declared.notation.Notation.{Notation}
@@ -20,7 +19,7 @@ use Rattle.prolly_answer.specs.LookUps.{pair_lines}
 use Rattle.prolly_answer.specs.Outputs.{TookAll, TookPart, TookPrefix, TookUntil}
 use Rattle.prolly_text.specs.RecordForms.{spelled, written_records}
 use Rattle.prolly_answer.proofs.Writing.{TookSoFar, took_none, took_more, took_front, took_until}
-use Rattle.prolly_answer.proofs.Writing.{flushed, unflushed, wrote_all, wrote_part}
+use Rattle.prolly_answer.proofs.Writing.{wrote_all, wrote_part}
 
 -- The record that puts a pair.
 abbrev pub put_of : Pair → Record
@@ -105,22 +104,3 @@ module _ {W : Type 0} (seen : W → SinkView) (notation : Notation) where
             (pair_lines notation leaf) (pair_lines notation rest) new
             (all_lines ∙ ap (λ bytes. pair_lines notation l.done ++ bytes)
             (ap (pair_lines notation) split ∙ written_append (Lines notation) leaf rest)) w
-
-      -- The end.
-      module _ (none : left ≡ []) (new : W) (same : (seen mid).is_keeping ≡ true →
-          (seen new).taken ≡ (seen mid).taken) where
-        done_all : pair_lines notation l.done ≡ pair_lines notation pairs
-        done_all = ap (pair_lines notation) (sym (append-nil l.done) ∙ ap (λ ps. l.done ++ ps)
-            (sym none) ∙
-            sym l.all)
-
-        pub all_listed : (seen new).failures ≡ (seen mid).failures → IsSettled (seen new) →
-            ((seen mid).is_keeping ≡ true → (seen new).is_keeping ≡ true) →
-            TookAll seen (pair_lines notation pairs) old new
-        all_listed counted settled still = subst (λ bytes. TookAll seen bytes old new) done_all
-            (flushed seen (pair_lines notation l.done) old mid l.took new same counted settled still)
-
-        pub list_unflushed : (seen new).failures ≡ after_failure (seen mid).failures →
-            TookPart seen (pair_lines notation pairs) old new
-        list_unflushed counted = subst (λ bytes. TookPart seen bytes old new) done_all
-            (unflushed seen (pair_lines notation l.done) old mid l.took new same counted)

@@ -1,6 +1,6 @@
 -- How far a key is below the greatest one that there may be, by which a loop over rising keys ends.
 use Rattle.std.proofs.Common.{◌≡◌, ℕ, zero, suc, ◌+◌, ◌*◌, ◌-◌, ◌<◌, ◌≤◌, List, [], ◌∷◌}
-use Rattle.std.proofs.Common.{length, get_or, false, arith, refl, sym, ap, ◌∙◌, subst, Ordering}
+use Rattle.std.proofs.Common.{length, get_or, false, arith, refl, sym, ap, ◌∙◌, Ordering}
 use Rattle.std.proofs.Math.Nat.{mul-le-mul_right, suc-mul}
 use Rattle.std.proofs.lemmas.Bool.{false≢true}
 use Rattle.std.proofs.lemmas.Cmp.{ranked}
@@ -77,13 +77,6 @@ all_bytes [] all zero = omega arith
 all_bytes [] all (suc i) = omega arith
 all_bytes (b ∷ xs) all zero = all 0 0 (omega arith)
 all_bytes (b ∷ xs) all (suc i) = all_bytes xs (λ i d within. all (suc i) d (omega arith)) i
-
-pub no_bytes : (xs : List ℕ) → xs ≡ [] → AreBytes xs
-no_bytes xs none = subst AreBytes (sym none) none_are
-  where
-    none_are : AreBytes []
-    none_are zero = omega arith
-    none_are (suc i) = omega arith
 
 -- Its elements are bytes, too.
 pub next_bytes : (key : List ℕ) → AreBytes key → AreBytes (next_key key)

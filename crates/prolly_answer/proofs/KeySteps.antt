@@ -118,12 +118,6 @@ module _ {W : Type 0} (seen : W → SinkView) (notation : Notation) where
         map-append (λ k. record { key = k; value = find m k }) (map f (take i xs)) (f x ∷ []) ∙
         ap (λ r. found_at m (map f (take i xs)) ++ r ∷ []) (sym this_is)
 
-    pub key_written : TookBytes seen (found_line notation this) mid new →
-        ((seen mid).is_keeping ≡ true → (seen new).is_keeping ≡ true) →
-        HasWritten (found_at m (map f (take (i + 1) xs))) old new
-    key_written t keeping = subst (λ records. HasWritten records old new) (sym more)
-        (one_written (found_at m (map f (take i xs))) this old mid new so_far t keeping)
-
     pub key_cut_off : (fault : OutputFault) →
         TookUntil seen fault (found_line notation this) mid new →
         TookUntil seen fault (found_lines notation (found_at m (map f xs))) old new
