@@ -3,11 +3,8 @@ ghost use Rattle.std.specs.Prelude.{◌≡◌, slice_range};
 ghost use Rattle.std.specs.Option.{option_copied};
 ghost use Rattle.prolly_sort.specs.Place.{StandsIn, have_one_key, key_in, place_order, prefix_of, value_in};
 
-use prolly_entry::{KEY_START, key_order};
+use prolly_entry::{KEY_START, LENGTHS_SIZE, key_order};
 use std::cmp::Ordering;
-
-/// How many bytes the two lengths of a record take, before its key and before its value.
-pub(crate) const LENGTHS_SIZE: usize = 6;
 
 /// How many bytes of a key its place has.
 const PREFIX_SIZE: usize = 8;

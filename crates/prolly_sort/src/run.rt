@@ -7,9 +7,9 @@ ghost use Rattle.prolly_sort.specs.Place.{place_of, records_in};
 
 use crate::fault::{DoubledKey, PushFault};
 use crate::order::{first_doubled, keep_last, sort_places};
-use crate::place::{LENGTHS_SIZE, Place};
+use crate::place::Place;
 use crate::sorted_run::SortedRun;
-use prolly_entry::{Record, append_record, key_order};
+use prolly_entry::{LENGTHS_SIZE, Record, append_record, key_order};
 use std::alloc::Global;
 use std::marker::Model;
 

@@ -97,8 +97,8 @@ fn expect_doubled(
     rt: &impl Abort,
     alloc: Global,
     records: &[(u8, u8)],
-    first: u32,
-    second: u32,
+    first: u64,
+    second: u64,
 ) -> Result<(), Fail> {
     match run_of(alloc, records)?.sort_unique() {
         Ok(_) => Err(Fail::from("no key came twice")),

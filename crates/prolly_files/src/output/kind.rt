@@ -1,5 +1,5 @@
 //! What kind of file a command writes, and whether a file is one.
-use prolly_entry::{KEY_LIMIT, RecordFault, VALUE_LIMIT, records};
+use prolly_entry::{KEY_LIMIT, LENGTHS_SIZE, RecordFault, VALUE_LIMIT, records};
 use prolly_fault::NameFault;
 use prolly_io::{FromRead, take_front};
 use std::alloc::{AllocError, Global};
@@ -13,7 +13,7 @@ const PROOF_LETTERS: &[u8; 4] = b"PRLP";
 
 /// The greatest size of a record: the lengths of key and value, of two and of four bytes, and both of
 /// them as long as they may be.
-const RECORD_BYTES: usize = 2 + KEY_LIMIT + 4 + VALUE_LIMIT;
+const RECORD_BYTES: usize = LENGTHS_SIZE + KEY_LIMIT + VALUE_LIMIT;
 
 /// How much of a file is looked at to tell whether it is one of records: two of the greatest size, and
 /// a byte more.
