@@ -291,7 +291,7 @@ def spelled(chance, change, is_text):
 LARGE = 60_000_000
 """About how many bytes of lines such a table has."""
 
-SHORT_LINES = 170_000
+SHORT_LINES = 180_000
 """How many lines of middling values are as many bytes."""
 
 LONG_VALUE = 60_000

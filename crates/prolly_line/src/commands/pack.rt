@@ -41,8 +41,9 @@ With --sort lines may come in any order, and the input may be of any size;
 without it, it has at most 1,073,741,824 bytes. Of a key that stands in several
 lines the last one counts. With --unique such a key is a fault that names both
 lines, by their numbers counted from 0. About MB megabytes of 1,000,000 bytes
-are used, which --memory gives. Runs of lines that do not fit are written beside
-OUT, and are gone afterwards. OUT has to be a file.
+are used, which --memory gives, and for a moment half as much again. Runs of
+lines that do not fit are written beside OUT, and are gone afterwards. OUT has
+to be a file.
 
 Prints the number of records.
 

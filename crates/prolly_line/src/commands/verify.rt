@@ -51,7 +51,8 @@ The exit status is
   2  where a word is not understood, as where ROOT is not the text of a root
   3  where a line of KEYS is refused
   4  where the proof is refused; a line names the first fault of it
-  5  where the proof cannot be read, or the answer cannot be printed
+  5  where the proof or KEYS cannot be read or is too long, or the answer cannot
+     be printed
   6  where memory was refused, or a chunk of the proof has more than 1 GiB",
     example: "Examples: what the tree of a root has at the key of one byte, 61, and all that
 it has from there on before the key 63
