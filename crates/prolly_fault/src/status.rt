@@ -9,15 +9,15 @@ pub const NOTHING: u8 = 1;
 /// The words are not understood.
 pub const WORDS: u8 = 2;
 
-/// A record file, a line or a list of keys is at fault, there are too many files, or the bits or the
-/// format of an `apply` are wrong.
+/// A record file, a line or a list of keys is at fault, there are too many files, or the bits or
+/// the format of an `apply` are wrong.
 pub const RECORDS: u8 = 3;
 
 /// A chunk file or a proof is refused.
 pub const CHUNKS: u8 = 4;
 
-/// A file can't be opened, read or written, an output may not be written over, or an input that is no
-/// chunk file is too long.
+/// A file can't be opened, read or written, an output may not be written over, or an input that is
+/// no chunk file is too long.
 pub const FILES: u8 = 5;
 
 /// Memory or a thread was refused, or a thread was lost.
