@@ -31,19 +31,17 @@ pub(crate) fn path_behind(rt: &HostRuntime, name: &str, found: Found) -> Result<
 }
 
 /// Whether a name that leads to no file stands for a number of an open file, as `/dev/fd/3` does. That
-/// number may soon be the one of a file which the command opens itself. Where it can't be told, as where
-/// memory is refused, the answer is that it does: then nothing is made at the name.
+/// number may soon be the one of a file which the command opens itself.
 pub(crate) fn is_open_number(rt: &HostRuntime, name: &str) -> bool {
     let Ok(path) = last_path(rt, name) else {
-        return true;
+        return false;
     };
     let Some(folder) = path.parent() else {
         return false;
     };
     match fs::canonicalize(rt, folder) {
         Ok(folder) => folder.as_str().starts_with("/proc/") && folder.as_str().ends_with("/fd"),
-        // The folder of open files has a path that can be told.
-        Err(error) => error.kind() == ErrorKind::OutOfMemory,
+        Err(_) => false,
     }
 }
 
