@@ -121,7 +121,7 @@ impl Record {
         ensures none { IfNone result (self.now.value ≡ None) }
     {
         match &self.change {
-            Change::Put(put) => Some(put),
+            Change::Put(pair) => Some(pair),
             Change::Remove(_) => None,
         }
     }
