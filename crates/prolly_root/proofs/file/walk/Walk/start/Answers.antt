@@ -1,4 +1,4 @@
-use Rattle.std.proofs.Common.{take, drop, ap, subst, ◌∙◌}
+use Rattle.std.proofs.Common.{[], take, drop, ap, subst, ◌∙◌}
 use Rattle.prolly_root.proofs.Starts.{TellsStart, all_bytes}
 use Rattle.prolly_root.proofs.Walking.{begins_there}
 use Rattle.prolly_root.proofs.file.walk.Walk.start.Goals as goal
@@ -13,7 +13,7 @@ returns-clause-is g c file holds at =
     (λ bytes. TellsStart c.args.self.now.number bytes c.start_in.result) read (record {
       are = all_bytes _ c.start_in.ensures.bytes;
       ends = c.start_in.ensures.end;
-      begins = c.start_in.ensures.chunk;
+      begins = λ len level. c.start_in.ensures.chunk len level [];
       empty = c.start_in.ensures.empty;
       cut = c.start_in.ensures.cut;
       other = c.start_in.ensures.other;
