@@ -2,7 +2,7 @@
 """Packs an archive for machines without the Rattle kit: `share/dist.py PROGRAM [FOLDER]`.
 
 The archive `prolly-VERSION-x86_64-linux.tar.gz` has the program, load.py, the manual page, the shells' completions, the
-README, the license, docs/ and examples/, which these name. It is made in FOLDER, or else beside PROGRAM, and its name is
+library for C if it was made, the README, the license, docs/ and examples/, which these name. It is made in FOLDER, or else beside PROGRAM, and its name is
 printed. One that was there stays until the new one is whole. Equal contents give equal bytes, on whatever day: the manual page has the
 day on which PROGRAM was last changed, or that of SOURCE_DATE_EPOCH.
 """

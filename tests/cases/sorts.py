@@ -292,7 +292,7 @@ LARGE = 60_000_000
 """About how many bytes of lines such a table has."""
 
 SHORT_LINES = 180_000
-"""How many lines of middling values are as many bytes."""
+"""How many lines of middling values are as many bytes. They make 17 runs of the least memory, more than are merged at a time."""
 
 LONG_VALUE = 60_000
 """The bytes of values of which some sixty fill a run of the least memory."""

@@ -114,7 +114,8 @@ pub record AnswersOutcome (is : Outcome → Type 0) (answer : Answer) : Type 0 w
   pub so : is outcome
   pub shows : ShowsOutcome answer outcome
 
--- That is answered; or a fault stopped the command, and memory for its line is refused.
+-- An outcome of which `is` holds is answered; or a fault stopped the command, of which it holds, and
+-- memory for the fault's line is refused.
 abbrev pub IsAnswered : (Outcome → Type 0) → Result Answer AllocError → Type 0
 IsAnswered is (Ok answer) = AnswersOutcome is answer
 IsAnswered is (Err refused) = (stop : RootOutputFault) × is (Err stop)

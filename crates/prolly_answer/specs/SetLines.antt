@@ -15,7 +15,7 @@ use Rattle.prolly_answer.specs.LookUps.{pair_lines}
 abbrev pub is_past : List Pair → List ℕ → Bool
 is_past shown key = list_any (λ p. not (is_lt (key_order p.key key))) shown
 
--- Those of the keys that are past, and those that are not.
+-- Those of the keys that are past.
 abbrev pub keys_past : List Pair → List (List ℕ) → List (List ℕ)
 keys_past shown keys = filter (is_past shown) keys
 

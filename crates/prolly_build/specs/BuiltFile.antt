@@ -102,7 +102,7 @@ abbrev pub IsRunOf : Settings → List Pair → List Chunk → End → Type 0
 IsRunOf settings m events end = end ≡ Clean → IsCleanRun settings m events
 
 module _ {S : Type 0} (seen : S → SourceView) where
-  -- No read of the source failed, and its bytes are these records, one after another, and nothing
+  -- No read of the source failed, and some bytes are these records, one after another, and nothing
   -- else. Where it is honest they are all that it had left.
   pub record IsRead (limit : ℕ) (before after : S) (good : List Record) : Type 0 where
     pub bytes : List ℕ

@@ -45,7 +45,7 @@ first_settings bits stages capacity max_records = settings_of bits stages capaci
 abbrev pub IsOutside : ℕ → ℕ → Type 0
 IsOutside most n = (n ≡ 0) ⊎ (most < n)
 
--- The number is in the range from 1 on.
+-- The number is in the range from 1 to `most`.
 abbrev pub IsInRange : ℕ → ℕ → Type 0
 IsInRange most n = (1 ≤ n) × (n ≤ most)
 

@@ -45,8 +45,8 @@ module _ {S : Type 0} (seen : S → SourceView) where
     pub reading : IsReading bytes limit input.records ending
     pub told : input.fault ≡ ending_told file (length input.records) ending
 
-  -- The source failed: the records of the bytes that it had handed out till then, with a failed
-  -- read. Where it is honest they stand before those that it has left.
+  -- The source failed: the records of some bytes, with a failed read. Where it is honest these are
+  -- what it had handed out till then, and stand before those that it has left.
   pub record IsFailureOf (file limit : ℕ) (before after : S) (input : Input RunFault) : Type 0 where
     pub failed : (seen after).failures ≢ (seen before).failures
     pub handed : List ℕ

@@ -25,8 +25,8 @@ use std::mem;
 use std::sync::Wait;
 use std::thread::Threads;
 
-/// The greatest number of files of changes that are laid over a tree. The tree is one of the inputs, so
-/// it is one less than [`FILES_LIMIT`].
+/// The greatest number of files of changes that are laid over a tree: one less than
+/// [`FILES_LIMIT`], since the tree is an input, too.
 pub const CHANGES_LIMIT: usize = FILES_LIMIT - 1;
 
 /// Runs all workers over these links, and the writer on this thread, until all of them have ended;

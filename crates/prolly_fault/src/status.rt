@@ -16,8 +16,8 @@ pub const RECORDS: u8 = 3;
 /// A chunk file or a proof is refused.
 pub const CHUNKS: u8 = 4;
 
-/// A file can't be opened, read or written, an output may not be written over, or an input that is
-/// no chunk file is too long.
+/// A file can't be opened, read, written, replaced or written over, or an input that is no chunk
+/// file is too long.
 pub const FILES: u8 = 5;
 
 /// Memory or a thread was refused, or a thread was lost.

@@ -72,8 +72,8 @@ The exit status is
   3  where a record file, a line or a list of keys is at fault, there are too
      many files, or the bits or the format of an `apply` are wrong
   4  where a chunk file or a proof is refused
-  5  where a file cannot be opened, read or written, an output may not be
-     written over, or an input that is no chunk file is too long
+  5  where a file cannot be opened, read, written, replaced or written over, or
+     an input that is no chunk file is too long
   6  where memory or a thread was refused, or a thread was lost
   7  where the tree has too many levels",
     example: "Example, from two lines of text to a look-up:

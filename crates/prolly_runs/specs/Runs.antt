@@ -19,7 +19,7 @@ use Rattle.prolly_fault.specs.declared.answer.Answer.{Answer}
 use Rattle.prolly_runs.specs.declared.held_back.HeldBack.{HeldBack}
 use Rattle.prolly_runs.specs.declared.held_back.HeldBack.TheVariants.{Lost}
 
--- What a build came to, as a run over an old tree would come to it.
+-- What a build came to, as the outcome of an `apply`.
 abbrev pub of_build : Result Report RunFault → Result Report ApplyFault
 of_build (Ok report) = Ok report
 of_build (Err fault) = Err (Run fault)

@@ -68,8 +68,8 @@ where
     answer_apply(alloc, &told)
 }
 
-/// Flushes the sink behind a run, or leaves it alone, and gives what is told of both. A build is told as
-/// a run over no old tree.
+/// Flushes the sink behind a run, or leaves it alone, and gives what is told of both. The outcome of a
+/// build is given as that of an `apply`.
 fn flush_behind<W: Sink>(
     sink: &mut W,
     outcome: Result<Report, ApplyFault>,
