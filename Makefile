@@ -9,7 +9,8 @@ LIBRARY = library/out
 LIB = $(DESTDIR)$(PREFIX)/lib
 
 # The gate: every proof, the wrong bodies that tell most, the tests of the crates, the programs, and then refused memory, and the
-# program as a user runs it. A crate is proved from nothing, unless an earlier gate on this machine has passed the same files.
+# program as a user runs it. Crates are proved from nothing. Some kits pass over a crate if an earlier gate on this machine has
+# passed the same files.
 test:
 # `rt ci` takes no links, and the library that an earlier run made has one. It is made anew below.
 	rm -f library/out/libprolly.so

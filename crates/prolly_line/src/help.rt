@@ -12,7 +12,7 @@ pub(crate) struct Help<'a> {
 }
 
 /// What `--version` prints behind the program's name: its version, and what has proved it.
-pub(crate) const VERSION: &str = "1.0.0, proved with rattle-kit-13f logic dac8208d650f15bf";
+pub(crate) const VERSION: &str = "1.0.0, proved with rattle-kit-13b logic dac8208d650f15bf";
 
 /// What a key's word says, and behind that when it is left out.
 macro_rules! key_help {
