@@ -33,7 +33,7 @@ pub(crate) fn sync_flag<'a>(alloc: Global) -> Arg<'a>
 pub(crate) fn force_flag<'a>(alloc: Global) -> Arg<'a>
     ensures { IsReadBy force_flag result }
 {
-    flag(alloc, "force").help("Write over the output even where it is a file of another kind")
+    flag(alloc, "force").help("Write over the output even if it is another kind of file")
 }
 
 /// `--text`; `what` says for its help what is text then, and in place of what.
@@ -54,9 +54,7 @@ pub(crate) fn removals_flag<'a>(alloc: Global, what: &'a str) -> Arg<'a>
 pub(crate) fn sort_flag<'a>(alloc: Global) -> Arg<'a>
     ensures { IsReadBy sort_flag result }
 {
-    flag(alloc, "sort").help(
-        "Take lines in any order and of any number; of a key in several lines the last one counts",
-    )
+    flag(alloc, "sort").help("Take lines in any order; the last one of a key counts")
 }
 
 /// `--unique`
@@ -70,37 +68,35 @@ pub(crate) fn unique_flag<'a>(alloc: Global) -> Arg<'a>
 pub(crate) fn lines_flag<'a>(alloc: Global) -> Arg<'a>
     ensures { IsReadBy lines_flag result }
 {
-    flag(alloc, "lines").help(
-        "Explain lines from standard input, as `pack` reads them; FILE is left out",
-    )
+    flag(alloc, "lines").help("Explain lines from standard input, as `pack` reads them")
 }
 
 /// `--all`
 pub(crate) fn all_flag<'a>(alloc: Global) -> Arg<'a>
     ensures { IsReadBy all_flag result }
 {
-    flag(alloc, "all").help("Tell each flawed line, up to a hundred. Needs --lines")
+    flag(alloc, "all").help("Explain each bad line, up to a hundred. Needs --lines")
 }
 
 /// `--raw`
 pub(crate) fn raw_flag<'a>(alloc: Global) -> Arg<'a>
     ensures { IsReadBy raw_flag result }
 {
-    flag(alloc, "raw").help("Print the value's bytes and nothing else, no newline either")
+    flag(alloc, "raw").help("Print only the bytes of the value, without a newline")
 }
 
 /// `--hex`
 pub(crate) fn hex_flag<'a>(alloc: Global) -> Arg<'a>
     ensures { IsReadBy hex_flag result }
 {
-    flag(alloc, "hex").help("Write lines HEXKEY HEXVALUE in place of a record file")
+    flag(alloc, "hex").help("Write lines HEXKEY HEXVALUE, and not a record file")
 }
 
 /// `--stat`
 pub(crate) fn stat_flag<'a>(alloc: Global) -> Arg<'a>
     ensures { IsReadBy stat_flag result }
 {
-    flag(alloc, "stat").help("Print how much has changed in place of the changes")
+    flag(alloc, "stat").help("Print how much has changed, and not the changes")
 }
 
 /// `--json`

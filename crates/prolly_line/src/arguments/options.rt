@@ -62,7 +62,7 @@ pub(crate) fn chunk_bytes_option<'a>(alloc: Global) -> Arg<'a>
     ensures { IsReadBy chunk_bytes_option result }
 {
     optional_number_option(alloc, "chunk-bytes", "N", 1, 1073741824).help(
-        "In place of --bits: take the bits by which a chunk has about N bytes (1 to 1,073,741,824)",
+        "Choose --bits so that a chunk has about N bytes (1 to 1,073,741,824)",
     )
 }
 
@@ -71,7 +71,7 @@ pub(crate) fn memory_option<'a>(alloc: Global) -> Arg<'a>
     ensures { IsReadBy memory_option result }
 {
     optional_number_option(alloc, "memory", "MB", 16, 4000).help(
-        "Use about MB megabytes of 1,000,000 bytes (16 to 4,000). Needs --sort [default: 256]",
+        "Use about MB megabytes (16 to 4,000). Needs --sort [default: 256]",
     )
 }
 
@@ -83,7 +83,7 @@ pub(crate) fn stages_option<'a>(alloc: Global) -> Arg<'a>
     ensures { IsReadBy stages_option result }
 {
     number_option(alloc, "stages", "S", 1, 12, "12").help(
-        "Make at most S levels of the tree (1 to 12)",
+        "Refuse a tree of more than S levels (1 to 12)",
     )
 }
 
@@ -135,7 +135,7 @@ pub(crate) fn old_format_option<'a>(alloc: Global) -> Arg<'a>
     ensures { IsReadBy old_format_option result }
 {
     optional_number_option(alloc, "format", "V", 1, 2).help(
-        "Refuse OLD unless its header says version V (1 or 2)",
+        "Refuse OLD unless its header says format V (1 or 2)",
     )
 }
 
@@ -151,7 +151,7 @@ pub(crate) fn root_option<'a>(alloc: Global) -> Arg<'a>
     ensures { IsReadBy root_option result }
 {
     text_option(alloc, "root", "ROOT").help(
-        "Trust ROOT, the text of the tree's root, in place of the whole file",
+        "Trust only ROOT, the root of the tree, and not the file",
     )
 }
 
@@ -161,25 +161,21 @@ pub(crate) fn required_root_option<'a>(alloc: Global) -> Arg<'a>
 {
     text_option(alloc, "root", "ROOT")
         .required(true)
-        .help("The text of the root of OLD's tree")
+        .help("The root of OLD's tree")
 }
 
 /// `--from KEY`, with which a proof is one of a range.
 pub(crate) fn from_option<'a>(alloc: Global) -> Arg<'a>
     ensures { IsReadBy from_option result }
 {
-    text_option(alloc, "from", "KEY").help(
-        "Take a range in place of a key: from KEY on, written as a key is",
-    )
+    text_option(alloc, "from", "KEY").help("Take a range of keys, from KEY on, in place of one key")
 }
 
 /// `--to KEY`, at which such a range ends.
 pub(crate) fn to_option<'a>(alloc: Global) -> Arg<'a>
     ensures { IsReadBy to_option result }
 {
-    text_option(alloc, "to", "KEY").help(
-        "End the range before KEY; without it, the range has no end. Needs --from",
-    )
+    text_option(alloc, "to", "KEY").help("End the range before KEY. Needs --from")
 }
 
 /// `--keys KEYS`, with which many keys are asked for.
@@ -187,8 +183,7 @@ pub(crate) fn keys_option<'a>(alloc: Global) -> Arg<'a>
     ensures { IsReadBy keys_option result }
 {
     text_option(alloc, "keys", "KEYS").help(
-        "Take the keys of the file KEYS in place of KEY: one in each line, each greater than the \
-         one before",
+        "Take keys from the file KEYS, one a line, in rising order",
     )
 }
 

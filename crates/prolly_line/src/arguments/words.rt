@@ -73,7 +73,7 @@ pub(crate) fn optional_file_word<'a>(alloc: Global) -> Arg<'a>
 {
     Arg::new(alloc, "file")
         .value_name("FILE")
-        .help("The record file. With --lines it is left out")
+        .help("The record file; left out with --lines")
 }
 
 /// `FILE...`
@@ -82,7 +82,7 @@ pub(crate) fn file_words<'a>(alloc: Global) -> Arg<'a>
 {
     required_word(alloc, "file", "FILE")
         .num_args(1..)
-        .help("The chunk files, one or several")
+        .help("One chunk file, or several")
 }
 
 /// `[PROOF]`, the proof that a subcommand reads.
@@ -91,7 +91,7 @@ pub(crate) fn proof_word<'a>(alloc: Global) -> Arg<'a>
 {
     Arg::new(alloc, "proof")
         .value_name("PROOF")
-        .help("The proof; without it, it is read from standard input")
+        .help("The proof; by default standard input")
 }
 
 /// `ROOT`
@@ -99,7 +99,7 @@ pub(crate) fn root_word<'a>(alloc: Global) -> Arg<'a>
     ensures { IsReadBy root_word result }
 {
     required_word(alloc, "root", "ROOT").help(
-        "The text of the tree's root: 32 figures and letters from a to v",
+        "The root of the tree: a text of 32 characters, 0 to 9 and a to v",
     )
 }
 
@@ -132,7 +132,7 @@ pub(crate) fn n_word<'a>(alloc: Global) -> Arg<'a>
     ensures { IsReadBy n_word result }
 {
     number_word(alloc, "n", "N", 0, u32::MAX).help(
-        "The place of the pair in the order of keys, counted from 0 (to 4,294,967,295)",
+        "The place of the pair in the order of the keys (0 to 4,294,967,295)",
     )
 }
 
@@ -148,7 +148,7 @@ pub(crate) fn files_words<'a>(alloc: Global) -> Arg<'a>
     ensures { IsReadBy files_words result }
 {
     any_words(alloc, "files", "FILES").help(
-        "The record files, at most 16; of several, the last one that has a key wins",
+        "The record files, at most 16; the last one that has a key wins",
     )
 }
 
@@ -157,6 +157,6 @@ pub(crate) fn changes_words<'a>(alloc: Global) -> Arg<'a>
     ensures { IsReadBy changes_words result }
 {
     any_words(alloc, "changes", "CHANGES").help(
-        "The record files of changes, at most 15; of several, the last one that has a key wins",
+        "The record files of changes, at most 15; the last one that has a key wins",
     )
 }

@@ -16,26 +16,26 @@ use std::alloc::Global;
 
 const HELP: Help<'static> = Help {
     about: "Make the next chunk file from the last one and its changes",
-    details: "Makes OUT, the chunk file of the tree of ROOT with the changes of up to 15
-record files laid over it: the file that `build` makes of the old pairs and
-CHANGES. Where several files have a key the last of them wins: its pair replaces
-the value, its removal takes the key away.
+    details: "Makes OUT, the chunk file of the tree of ROOT with changes laid over it. The
+changes are those of up to 15 record files. OUT is the file that `build` makes
+of the old pairs and CHANGES. If several files have a key, the last of them
+wins: its pair replaces the value, its removal takes the key away.
 
-OLD has the tree of ROOT. It may be of any size and is not checked first:
-nothing of it is believed but what ROOT vouches for, and each chunk is compared
-with its reference before it counts. What no change touches goes over as it is.
-So a few changes take less than half the processor time of a `build`.
+OLD has the tree of ROOT. It may be of any size and is not checked first. Only
+what ROOT vouches for is believed: each chunk is compared with its reference
+before it counts. What no change touches goes over as it is. So a few changes
+take less than half the processor time of a `build`.
 
 Prints the text of the new root and the numbers of chunks, pairs and levels.
 
-The new tree has the --bits and the --format that the header of OLD says. Where
-these are given and OLD says otherwise, it is refused: `dump` and `build` make a
-tree of other bits. A root does not tell its bits, so a header that lies about
-them is found by the leaves, nearly always, and refused.
+The new tree has the --bits and the --format that the header of OLD says. If you
+give others, OLD is refused. To make a tree of other bits, use `dump` and
+`build`. A root does not tell its bits, so a header may lie about them. The
+leaves nearly always show that, and then OLD is refused.
 
-OUT is written as by `build`: it is emptied once there is something to write,
+OUT is written as by `build`. It is emptied once there is something to write,
 and after a later fault it holds no more than the first part of a chunk file.
-With --atomic it is as it was then.",
+With --atomic it is then as it was.",
     example: "Example: the tree of the day before, and the records of a day
   prolly apply --root nu05v9k058pmjdu7s5312ho13geggue6 old.prl new.prl day.rec",
 };

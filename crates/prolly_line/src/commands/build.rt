@@ -24,16 +24,16 @@ const HELP: Help<'static> = Help {
     about: "Make the chunk file of up to 16 record files",
     details: "Makes one chunk file, OUT, from up to 16 record files.
 
-The files are read side by side, a thread each, and the levels of the tree are
-made in threads too. Where several files have a key the last of them wins: its
-pair replaces the value, its removal takes the key away.
+The files are read side by side, each by a thread of its own. A thread of its
+own makes each level of the tree, too. If several files have a key, the last of
+them wins: its pair replaces the value, its removal takes the key away.
 
 Prints the text of the root and the numbers of chunks, pairs and levels.
 
 OUT comes first: `prolly build *.rec` takes the first of these files for OUT. So
-an OUT that has bytes and does not begin as a chunk file does is refused, and
-where no FILES are given any OUT that has bytes, unless --force is given. An OUT
-that is among FILES is always refused.
+an OUT that has bytes and does not begin as a chunk file does is refused. If no
+FILES are given, any OUT that has bytes is refused. With --force neither is
+refused. An OUT that is among FILES is always refused.
 
 OUT is opened after all files, and emptied once there is something to write.
 After a fault before that, OUT is as it was. After a later fault it holds no
@@ -41,29 +41,30 @@ more than the first part of a chunk file, which `check` calls truncated. It is
 whole only if nothing failed but to make or print the line. With --atomic it is
 as it was, unless only standard output failed.
 
-A chunk file of more than 1,073,741,824 bytes, which about 28,200,000 records of
-38 bytes make, is read by its root alone, by the commands that take --root.
+A chunk file of more than 1,073,741,824 bytes is read only by the commands that
+take --root. About 28,200,000 records of 38 bytes make one.
 
 --bits and --format decide what the chunk file holds. Choose --bits before the
-first build, since another number is another root. The default, 12, suits trees
-that are loaded and scanned; 5 to 7 suit trees that are compared, sent or
+first build, since another number gives another root. The default, 12, suits
+trees that are loaded and scanned; 5 to 7 suit trees that are compared, sent or
 proved. For a million pairs of 38 bytes, --bits give
   4   chunks of 0.6 kB; ten changes make 50 kB new; a proof has 4.8 kB
   6   chunks of 2.5 kB; ten changes make 101 kB new; a proof has 9.5 kB
   8   chunks of 9.7 kB; ten changes make 298 kB new; a proof has 35 kB
   12  chunks of 159 kB; ten changes make 3.2 MB new; a proof has 272 kB
 
---chunk-bytes takes the place of --bits: it takes the bits by which a chunk has
-about N bytes, from the mean size of the records in the first megabyte that is
-read, and prints on standard error which it took. Equal contents have equal
-roots only at equal bits, so a script which compares roots gives --bits.
+--chunk-bytes takes the place of --bits. It chooses the bits by which a chunk
+has about N bytes, from the mean size of the records in the first megabyte that
+is read. A line on standard error says which bits it chose. Equal contents have
+equal roots only at equal bits. So a script that compares roots gives --bits.
 
 --stages and --max-records are limits: a tree of more levels, or a file of more
-records, is refused. --capacity and --batch change only how much memory the
-threads use and how often they wait for one another, never the chunk file.
+records, is refused. --capacity and --batch never change the chunk file. They
+change only how much memory the threads use and how often they wait for one
+another.
 
-Where standard error is a terminal, a build that takes longer than a second
-shows its progress there. With --quiet it does not.",
+If standard error is a terminal, a build that takes longer than a second shows
+its progress there. With --quiet it does not.",
     example: "Example: the records of a day over those of the day before
   prolly build tuesday.prl monday.rec tuesday.rec",
 };

@@ -17,24 +17,25 @@ use clap::ArgMatches;
 use std::alloc::Global;
 
 const HELP: Help<'static> = Help {
-    about: "Say whether chunk files are lawful",
+    about: "Check whether chunk files are lawful",
     details: "Reads a chunk file from end to end and says whether it is lawful: whether it is
 the one chunk file of its contents, to the byte.
 
-Prints `ok`, the text of the root, the number of --bits and that of chunks.
+If it is, this prints `ok`, the text of the root, the number of --bits and the
+number of chunks.
 
 Several files are checked one after another. Each line of output then ends with
-two spaces and the file's name, and a refusal's line names its file. The exit
-status is that of the first refusal. With --quiet nothing is printed of files
-that are lawful.
+two spaces and the file's name, and the line of a refusal names its file. The
+exit status is that of the first refusal. With --quiet nothing is printed of
+files that are lawful.
 
-Without --root the file may have any root. It is held in memory, and no file
-over 1 GiB is read. It is refused if two of its chunks have the same reference.
+Without --root the file may have any root. It is held in memory, and a file over
+1 GiB is refused. So is a file two of whose chunks have the same reference.
 --format is ignored.
 
-With --root the file of another root is refused. FILE may be of any size, and
-may be a pipe: 16 MiB of it are held in memory, or more where a chunk is larger.
-The first fault in the order of the bytes is told.",
+With --root a file with another root is refused. FILE may be of any size, and
+may be a pipe. 16 MiB of it are held in memory, or more if a chunk is larger.
+The fault that is told is the first one in the order of the bytes.",
     example: "Examples: a file, one of any size whose root is known, and several
   prolly check days.prl
   prolly check --root nu05v9k058pmjdu7s5312ho13geggue6 days.prl

@@ -16,39 +16,40 @@ use clap::ArgMatches;
 use std::alloc::Global;
 
 const HELP: Help<'static> = Help {
-    about: "Say what turns the map of a chunk file into that of another",
-    details: "Says what turns the map of OLD into that of NEW. For each key in which the two
-differ, in the order of the keys, it says what NEW has.
+    about: "Print the changes from one chunk file to another",
+    details: "Prints the changes that turn the map of OLD into that of NEW. For each key at
+which the two differ, in the order of the keys, it prints what NEW has.
 
-Without --out these are lines that `pack` reads, `HEXKEY HEXVALUE` or, for a key
-that NEW lacks, `HEXKEY -`; with --text they are the lines that
-`pack --text --removals` reads. Then --atomic, --sync and --force are ignored.
-With --out, FILE is a record file of them, and nothing is printed. So `build` of
-OLD's pairs and of that file makes NEW's tree again, at equal --bits and
---format.
+A change is a line that `pack` reads: HEXKEY HEXVALUE or, if NEW lacks the key,
+HEXKEY and a dash. With --text it is a line that `pack --text --removals` reads.
+Without --out, --atomic, --sync and --force are ignored.
 
-With --stat, one line is printed in place of the changes, with --out too:
+With --out the changes are written to FILE as a record file, and nothing is
+printed. `build` of OLD's pairs and of FILE makes NEW's tree again, at equal
+--bits and --format.
+
+With --stat one line is printed in place of the changes, even with --out:
   added A changed C removed R chunks N bytes B
 A is the number of keys that NEW has and OLD lacks, C that of keys whose value
 is another one, R that of keys that NEW lacks. N is the number of chunks of NEW
 that OLD does not have, and B that of their bytes: what a holder of OLD lacks of
 NEW.
 
-Without roots both files are checked first, as by `check`: longer files take
-longer, none over 1 GiB is read, and --format is ignored.
+Without roots both files are checked first, as by `check`. So longer files take
+longer, a file over 1 GiB is refused, and --format is ignored.
 
-With --old-root and --new-root, which go together, files may be of any size. Of
-each chunk the length and the level are read. Only those chunks are read whole
-that the other tree does not have, and a few beside them. Each of these is
+--old-root and --new-root go together. With them the files may be of any size.
+The length and the level of each chunk are read. Whole chunks are read only if
+the other tree does not have them, and a few beside them. Each of these is
 compared with the reference above it, from the root of its tree down. So what is
-printed is right for these roots, whatever else the files hold; at a chunk that
-does not fit it ends.
+printed is right for these roots, whatever else the files hold. The command ends
+at a chunk that does not fit.
 
-The exit status is 0 where the maps are equal, and 1 where they are not.
+The exit status is 0 if the maps are equal, and 1 if they are not.
 
-FILE is replaced once the record file is whole: after a fault it is as it was. A
-FILE that has bytes and does not begin as a record file does is refused, unless
---force is given.",
+FILE is replaced once the record file is whole. So after a fault it is as it
+was. A FILE that has bytes and does not begin as a record file does is refused,
+unless --force is given.",
     example: "Examples: the changes of a day as a record file, and the same by the roots
   prolly diff monday.prl tuesday.prl --out changes.rec
   prolly diff --old-root \"$MONDAY\" --new-root \"$TUESDAY\" monday.prl tuesday.prl",
@@ -59,7 +60,7 @@ FILE that has bytes and does not begin as a record file does is refused, unless
 pub(crate) fn diff_line<'a>(alloc: Global) -> Line<'a>
     ensures { IfOk result (HasCommandLine diff_line) }
 {
-    let text = arguments::text_flag(alloc, "Print the changes as text in place of hexadecimal");
+    let text = arguments::text_flag(alloc, "Print the changes as text, not hexadecimal");
     let out = arguments::out_option(alloc, "Write the changes to FILE, a record file");
     let old = arguments::tree_word(alloc, "old", "OLD", "The chunk file of the map as it was");
     let new = arguments::tree_word(
@@ -84,16 +85,16 @@ fn with_roots<'a>(alloc: Global, line: Line<'a>) -> Line<'a>
     let old = arguments::tree_root_option(
         alloc,
         "old-root",
-        "Trust ROOT, the text of OLD's root, in place of the whole file; needs --new-root",
+        "Trust only ROOT as OLD's root. Needs --new-root",
     );
     let new = arguments::tree_root_option(
         alloc,
         "new-root",
-        "Trust ROOT, the text of NEW's root, in place of the whole file; needs --old-root",
+        "Trust only ROOT as NEW's root. Needs --old-root",
     );
     let format = arguments::format_option(
         alloc,
-        "The version of both trees' chunks (1 or 2); without roots, the files tell it",
+        "The format of both trees (1 or 2); ignored without roots",
     );
     let line = with_argument(line, old);
     let line = with_argument(line, new);

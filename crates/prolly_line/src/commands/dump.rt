@@ -17,34 +17,36 @@ use std::alloc::Global;
 const HELP: Help<'static> = Help {
     about: "Write the pairs of a chunk file as a record file, or as lines",
     details: "Writes all pairs of a chunk file as a record file. `scratch` and `build` make
-the same chunk file of it again, at equal --bits and --format; they take at most
+the same chunk file of it again, at equal --bits and --format. They take at most
 16,777,216 records from one file.
 
-With --text or --hex these are lines, one for each pair in the order of keys:
-with --text a key, a tab and a value as text, of which `pack --text` makes the
-record file, and with --hex alone HEXKEY HEXVALUE, of which `pack` makes it.
+With --text or --hex it writes lines, one for each pair in the order of the
+keys. With --text a line is a key, a tab and a value as text, and `pack --text`
+makes the record file of them. With --hex alone a line is HEXKEY HEXVALUE, and
+`pack` makes the record file of them.
 
-What is written goes to OUT, or to standard output where OUT is not given; then
+The pairs go to OUT, or to standard output if OUT is not given. Without OUT,
 --atomic, --sync and --force are ignored. Nothing else is printed.
 
-Without --root the whole file is checked first, as by `check`: a longer file
-takes longer, none over 1 GiB is read, and --format is ignored. With --root
-the file is of any size, and each chunk is compared with the reference above it,
-from ROOT down, before a pair below it is written. So what is written is right
-for ROOT; at a chunk that does not fit it ends.
+Without --root the whole file is checked first, as by `check`. So a longer file
+takes longer, a file over 1 GiB is refused, and --format is ignored.
 
-OUT is replaced once what it is to hold is whole: after a fault it is as it was.
-An OUT that is a file of another kind is refused, unless --force is given.",
+With --root the file may be of any size. Each chunk is compared with the
+reference above it, from ROOT down, before a pair below it is written. So what
+is written is right for ROOT. The command ends at a chunk that does not fit.
+
+OUT is replaced once what it is to hold is whole. So after a fault it is as it
+was. An OUT that is a file of another kind is refused, unless --force is given.",
     example: "Example: the pairs of a tree, with the changes of a day, to the next tree
   prolly dump monday.prl monday.rec
   prolly build tuesday.prl monday.rec tuesday.rec",
 };
 
 /// What OUT says of a dump.
-const DUMPED_FILE: &str = "The file to make; without it, it is written to standard output";
+const DUMPED_FILE: &str = "The file to make; by default standard output";
 
 /// What `--text` says of a dump.
-const DUMPED_TEXT: &str = "Write lines KEY, tab, VALUE of text in place of a record file";
+const DUMPED_TEXT: &str = "Write lines KEY, tab, VALUE, and not a record file";
 
 /// `dump [--text] [--hex] [--root ROOT] [--format V] [--atomic] [--sync] [--force] FILE [OUT]`
 pub(crate) fn dump_line<'a>(alloc: Global) -> Line<'a>

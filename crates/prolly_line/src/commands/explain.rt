@@ -17,27 +17,27 @@ use clap::ArgMatches;
 use std::alloc::Global;
 
 const HELP: Help<'static> = Help {
-    about: "Say where and why a record file, or a line for one, is not good",
+    about: "Say what is wrong with a record file, or with lines for one",
     details: "Reads a record file as `build` does, and says where and why it is not good. It
-is good where it is at most 16,777,216 whole records, keys and values are not
-longer than they may be, and the keys rise strictly.
+is good if it has at most 16,777,216 records, if all of them are whole, if no
+key and no value is too long, and if the keys rise strictly.
 
-Where it is good, this prints `ok` and the number of its records.
+If it is good, this prints `ok` and the number of its records.
 
 If it is not good, this prints which record is the first flawed one, counted
-from 0, and the offset of its first byte; then what is wrong with it, its key,
-and the key before it, where there are such. Of a key of more than 64 bytes it
-prints the first 64. The exit status is 1 then.
+from 0, and the offset of its first byte. Then it prints what is wrong with it,
+its key, and the key before it, if there are such. If a key has more than 64
+bytes, it prints the first 64. The exit status is then 1.
 
 Keys are shown in hexadecimal, or with --text as text, with the escapes of
 `pack --text`.
 
-With --lines there is no FILE, and lines are read from standard input as `pack`
+With --lines, leave FILE out. Lines are then read from standard input as `pack`
 reads them, with the same --text and --removals. For the first line that `pack`
-would refuse this prints its number, counted from 1, the byte where it begins,
-the line itself, escaped and up to its first 64 bytes, what is wrong, and what
-would be right. With --all it prints this of each such line, up to a hundred.
-The exit status is 1 where there is one.",
+would refuse, this prints its number, counted from 1, the byte where it begins,
+its first 64 bytes with escapes, what is wrong, and what would be right. With
+--all it prints this for each such line, up to a hundred. The exit status is 1
+if there is one.",
     example: "Examples: what is wrong with a record file that `build` refuses, and with a
 table of text that `pack` refuses
   prolly explain monday.rec
@@ -53,11 +53,11 @@ pub(crate) fn explain_line<'a>(alloc: Global) -> Line<'a>
 {
     let text = arguments::text_flag(
         alloc,
-        "Print keys as text in place of hexadecimal; with --lines, take lines of text",
+        "Print keys as text; with --lines, take lines of text",
     );
     let removals = arguments::removals_flag(
         alloc,
-        "With --lines and --text, take a line that is a key alone for its removal",
+        "With --lines and --text, a line of a key alone removes the key",
     );
     let line = described_as(alloc, "explain", USAGE, HELP).arg(text);
     let line = with_argument(line, arguments::lines_flag(alloc));

@@ -20,28 +20,30 @@ use std::alloc::Global;
 
 const HELP: Help<'static> = Help {
     about: "Print the value of a key in a chunk file, or of many keys",
-    details: "Prints the value of one key in a chunk file, in hexadecimal. Where the file does
-not have the key, nothing is printed and the exit status is 1.
+    details: "Prints the value of one key in a chunk file, in hexadecimal. If the file does
+not have the key, nothing is printed, and the exit status is 1.
 
-With --keys, KEY is left out, and the keys are those of the file KEYS: a key in
-each line, greater than the one before it. A line is printed for each key, in
-their order: HEXKEY HEXVALUE, or HEXKEY alone where there is no value. The exit
-status is 0 also where no key has a value. A line that is no key, or whose key
-is not greater, is told with its number, counted from 0, and nothing else is
-done; the exit status is then 3.
+With --keys, leave KEY out. The keys are then those of the file KEYS: one in
+each line, each greater than the one before it. A line is printed for each key,
+in their order: HEXKEY HEXVALUE, or HEXKEY alone if there is no value. The exit
+status is 0 even if no key has a value. If a line is no key, or its key is not
+greater, the fault names the number of the line, counted from 0. Nothing else is
+printed then, and the exit status is 3.
 
-With --text keys are taken and values shown as text, with the escapes of
-`pack --text`, and a key and its value are separated by a tab.
+With --text keys are taken and values printed as text, with the escapes of
+`pack --text`. A tab stands between a key and its value.
 
-With --raw the value's bytes are printed and nothing else, no newline either.
-Then --text says only how KEY is written. --keys is refused beside it.
+With --raw the bytes of the value are printed and nothing else, not even a
+newline. --text then says only how KEY is written. --raw and --keys do not go
+together.
 
-Without --root the whole file is checked first, as by `check`: a longer file
-takes longer, none over 1 GiB is read, and --format is ignored. With --root
-only what is needed is read: the length and the level of each chunk, and the
-chunks on the way to a key, one a level. Each of these is compared with the
-reference above it, from ROOT down. So what is printed is right for ROOT,
-whatever else the file holds; a chunk that does not fit is refused.",
+Without --root the whole file is checked first, as by `check`. So a longer file
+takes longer, a file over 1 GiB is refused, and --format is ignored.
+
+With --root only what is needed is read: the length and the level of each chunk,
+and the chunks on the way to a key, one a level. Each of these is compared with
+the reference above it, from ROOT down. So what is printed is right for ROOT,
+whatever else the file holds. A chunk that does not fit is refused.",
     example: "Examples: the value of the key of one byte, 61, the same as it is, and what
 there is at each key of a file
   prolly get days.prl 61
@@ -53,7 +55,7 @@ const USAGE: &str = "prolly get [OPTIONS] <FILE> <KEY>
        prolly get [OPTIONS] --keys <KEYS> <FILE>";
 
 /// What `--text` says where keys are taken and their values are printed.
-const KEYS_AND_VALUES: &str = "Take keys and print values as text in place of hexadecimal";
+const KEYS_AND_VALUES: &str = "Take keys and print values as text, not hexadecimal";
 
 /// `get [--text] [--raw] [--root ROOT] [--format V] [--keys KEYS] FILE [KEY]`
 pub(crate) fn get_line<'a>(alloc: Global) -> Line<'a>

@@ -15,21 +15,23 @@ use clap::ArgMatches;
 use std::alloc::Global;
 
 const HELP: Help<'static> = Help {
-    about: "Print the pair at a place of a chunk file",
-    details: "Prints the pair at place N of a chunk file, in the order of keys. The first pair
-is at place 0. The file has to be of --format 2, whose nodes count their pairs.
+    about: "Print the pair at a place in a chunk file",
+    details: "Prints the pair at place N of a chunk file, in the order of the keys. The first
+pair is at place 0. The file has to be of --format 2, whose nodes count their
+pairs.
 
-The pair is a line, HEXKEY HEXVALUE. Where there is none, nothing is printed and
-the exit status is 1. With --text the pair is shown as text, a key, a tab and a
-value, with the escapes of `pack --text`.
+The pair is a line, HEXKEY HEXVALUE. If there is none, nothing is printed, and
+the exit status is 1. With --text the pair is printed as text: a key, a tab and
+a value, with the escapes of `pack --text`.
 
-Without --root the whole file is checked first, as by `check`: a longer file
-takes longer, none over 1 GiB is read, and --format is ignored. With --root
---format 2 has to be given, and only what is needed is read: the length and the
-level of each chunk, and the chunks on the way to the pair, one a level. Each of
-these is compared with the reference above it, from ROOT down. So what is
-printed is right for ROOT, whatever else the file holds; a chunk that does not
-fit is refused.",
+Without --root the whole file is checked first, as by `check`. So a longer file
+takes longer, a file over 1 GiB is refused, and --format is ignored.
+
+With --root, --format 2 has to be given. Only what is needed is read then: the
+length and the level of each chunk, and the chunks on the way to the pair, one a
+level. Each of these is compared with the reference above it, from ROOT down. So
+what is printed is right for ROOT, whatever else the file holds. A chunk that
+does not fit is refused.",
     example: "Example: the first pair of a file that was built with --format 2
   prolly build --format 2 counted.prl monday.rec tuesday.rec
   prolly nth counted.prl 0",
@@ -39,7 +41,7 @@ fit is refused.",
 pub(crate) fn nth_line<'a>(alloc: Global) -> Line<'a>
     ensures { IfOk result (HasCommandLine nth_line) }
 {
-    let text = "Print the pair as text in place of hexadecimal";
+    let text = "Print the pair as text, not hexadecimal";
     look_up_line(alloc, "nth", HELP, text, arguments::n_word(alloc))
 }
 

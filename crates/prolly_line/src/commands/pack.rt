@@ -26,30 +26,29 @@ Each line is a record:
   HEXKEY HEXVALUE   a pair: put the value at the key
   HEXKEY -          a removal: take the key away
 Keys and values are in hexadecimal, two digits a byte, with one space between
-them. A key has at most 1,024 bytes, a value at most 65,536. Keys are to rise
-strictly from line to line, compared byte by byte; that is not tested here, but
-`scratch` and `build` refuse a record file whose keys do not rise.
+them. A key has at most 1,024 bytes, a value at most 65,536. Keys must rise
+strictly from line to line, compared byte by byte. `pack` does not test that,
+but `scratch` and `build` refuse a record file whose keys do not rise.
 
 With --text each line is text: a key, a tab and a value. A backslash begins an
 escape, as in PostgreSQL's COPY: \\b \\t \\n \\v \\f \\r and \\\\, and \\xHH for any
-byte. A tab, a newline, a carriage return and a backslash within a key or a
-value have to be escaped; all other bytes may stand as they are, also those that
-are no UTF-8. With --removals too, a line that is a key alone takes the key
-away.
+byte. A tab, a newline, a carriage return and a backslash in a key or a value
+must be escaped. All other bytes may stand as they are, even if they are no
+UTF-8. With --removals, too, a line that is a key alone takes the key away.
 
-With --sort lines may come in any order, and the input may be of any size;
-without it, it has at most 1,073,741,824 bytes. Of a key that stands in several
-lines the last one counts. With --unique such a key is a fault that names both
-lines, by their numbers counted from 0. About MB megabytes of 1,000,000 bytes
-are used, which --memory gives, and for a moment half as much again. Runs of
-lines that do not fit are written beside OUT, and are gone afterwards. OUT has
-to be a file.
+With --sort lines may come in any order, and the input may be of any size.
+Without it, the input has at most 1,073,741,824 bytes. If a key stands in
+several lines, the last one counts. With --unique such a key is a fault, which
+names both lines by their numbers, counted from 0. About MB megabytes of
+1,000,000 bytes are used, as --memory says, and for a moment half as much again.
+Lines that do not fit are written beside OUT in sorted runs, which are gone
+afterwards. OUT has to be a file.
 
 Prints the number of records.
 
-OUT is replaced once the record file is whole: after a fault it is as it was,
-but where standard output alone failed. An OUT that has bytes and does not begin
-as a record file does is refused, unless --force is given.",
+OUT is replaced once the record file is whole. So after a fault it is as it was,
+unless only standard output failed. An OUT that has bytes and does not begin as
+a record file does is refused, unless --force is given.",
     example: "Examples: put 31 at 61, and take 62 away; and lines that are not sorted
   printf '61 31\\n62 -\\n' | prolly pack changes.rec
   printf 'pear\\t5\\napple\\t3\\n' | prolly pack --sort --text fruit.rec",
@@ -59,13 +58,10 @@ as a record file does is refused, unless --force is given.",
 pub(crate) fn pack_line<'a>(alloc: Global) -> Line<'a>
     ensures { IfOk result (HasCommandLine pack_line) }
 {
-    let text = arguments::text_flag(
-        alloc,
-        "Read lines KEY, tab, VALUE of text in place of hexadecimal",
-    );
+    let text = arguments::text_flag(alloc, "Read lines KEY, tab, VALUE of text, not hexadecimal");
     let removals = arguments::removals_flag(
         alloc,
-        "With --text, take a line that is a key alone for its removal",
+        "With --text, a line of a key alone removes the key",
     );
     let line = described(alloc, "pack", HELP).arg(text);
     let line = with_argument(line, removals);

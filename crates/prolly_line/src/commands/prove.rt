@@ -17,38 +17,38 @@ use clap::ArgMatches;
 use std::alloc::Global;
 
 const HELP: Help<'static> = Help {
-    about: "Write a proof of what a chunk file has at a key, in a range, or at many keys",
+    about: "Write a proof of a key, of a range, or of many keys",
     details: "Writes a proof of what FILE has at the key: its value, or that it has none. The
-proof is the chunks of FILE from the root down to the one at which the look-up
-of the key ends. Whoever knows the root of FILE can check it by `verify`,
-without FILE.
+proof holds the chunks of FILE from the root down to the one at which the
+look-up of the key ends. A client that knows only the root of FILE can check the
+proof by `verify`, without FILE.
 
-With --from, KEY is left out, and the proof is that of a range. It shows all
+With --from, leave KEY out. The proof is then that of a range. It shows all
 pairs from the key of --from on and before the key of --to, and that there are
 no others. Without --to the range has no end. Keys are compared byte by byte.
-The proof is the chunks that have such keys, and those above them, each once.
+The proof holds the chunks that have such keys, and those above them, each once.
 
-With --keys, KEY is left out, too, and the proof is that of the keys of the file
-KEYS. It shows what FILE has at each of them. KEYS is as `get` takes it: a key
-in each line, greater than the one before it. Each chunk is in the proof once,
-however many keys meet it.
+With --keys, leave KEY out. The proof is then that of the keys of the file KEYS.
+It shows what FILE has at each of them. KEYS is as `get` takes it: a key in each
+line, greater than the one before it. The proof holds each chunk once, however
+many keys meet it.
 
 With --text keys are taken as text, with the escapes of `pack --text`.
 
-Without --root the whole file is checked first, as by `check`: a longer file
-takes longer, none over 1 GiB is read, and --format is ignored. With --root
-only what is needed is read: the length and the level of each chunk, and the
-chunks of the proof. Each of these is compared with the reference above it, from
-ROOT down. So what is written is a proof for ROOT, whatever else the file holds;
-a chunk that does not fit is refused.
+Without --root the whole file is checked first, as by `check`. So a longer file
+takes longer, a file over 1 GiB is refused, and --format is ignored.
 
-Nothing is printed. The exit status is 0 also where FILE does not have the key,
-or has no pair in the range, or at the keys. It is 3 where a line of KEYS is
-refused.
+With --root only what is needed is read: the length and the level of each chunk,
+and the chunks of the proof. Each of these is compared with the reference above
+it, from ROOT down. So what is written is a proof for ROOT, whatever else the
+file holds. A chunk that does not fit is refused.
 
-OUT is replaced once the proof is whole: after a fault it is as it was. An OUT
-that has bytes and does not begin as a proof does is refused, unless --force is
-given.",
+Nothing is printed. The exit status is 0 even if FILE does not have the key, or
+has no pair in the range or at the keys. It is 3 if a line of KEYS is refused.
+
+OUT is replaced once the proof is whole. So after a fault it is as it was. An
+OUT that has bytes and does not begin as a proof does is refused, unless --force
+is given.",
     example: "Examples: a proof of what days.prl has at the key of one byte, 61, and one of
 all that it has from there on before the key 63
   prolly prove days.prl 61 61.proof
@@ -66,7 +66,7 @@ const USAGE: &str = "prolly prove [OPTIONS] <FILE> <KEY> <OUT>
 pub(crate) fn prove_line<'a>(alloc: Global) -> Line<'a>
     ensures { IfOk result (HasCommandLine prove_line) }
 {
-    let text = arguments::text_flag(alloc, "Take keys as text in place of hexadecimal");
+    let text = arguments::text_flag(alloc, "Take keys as text, not hexadecimal");
     let line = described_as(alloc, "prove", USAGE, HELP).arg(text);
     let line = with_range(alloc, with_trust(alloc, line));
     let line = with_mode(alloc, line, ALWAYS_ASIDE);

@@ -18,9 +18,9 @@ const HELP: Help<'static> = Help {
     about: "Print the root that a chunk file names",
     details: "Prints the text of the root that a chunk file names in its last 29 bytes.
 
-Nothing is checked: only these bytes and the first six are read, and nobody
-vouches for what stands there. So a lost root is found again, and then
-`check --root` says whether FILE has it. FILE may be of any size.",
+Only these bytes and the first six are read and tested. So nobody vouches for
+the root that is printed. To find a lost root, print it, and then let
+`check --root` say whether FILE has it. FILE may be of any size.",
     example: "Example: check a chunk file of any size whose root was lost
   prolly check --root \"$(prolly root days.prl)\" days.prl",
 };

@@ -16,19 +16,21 @@ use std::alloc::Global;
 
 const HELP: Help<'static> = Help {
     about: "Print the pairs of a chunk file from a key on",
-    details: "Prints pairs of a chunk file in the order of their keys, from KEY on: the first
-LIMIT pairs whose key is not less than KEY. Keys are compared byte by byte, and
-a key comes before the longer ones that it begins.
+    details: "Prints pairs of a chunk file in the order of their keys: the first LIMIT pairs
+whose key is not less than KEY. Keys are compared byte by byte, and a key comes
+before the longer ones that begin with it.
 
-Each pair is a line, HEXKEY HEXVALUE. With --text KEY is taken and the pairs are
-shown as text, a key, a tab and a value, with the escapes of `pack --text`.
+Each pair is a line, HEXKEY HEXVALUE. With --text KEY is taken as text, and each
+pair is printed as text: a key, a tab and a value, with the escapes of
+`pack --text`.
 
-Without --root the whole file is checked first, as by `check`: a longer file
-takes longer, none over 1 GiB is read, and --format is ignored. With --root
-only what is needed is read: the length and the level of each chunk, and the
-chunks on the way to these pairs. Each of these chunks is compared with the
-reference above it, from ROOT down. So what is printed is right for ROOT,
-whatever else the file holds; at a chunk that does not fit it ends.",
+Without --root the whole file is checked first, as by `check`. So a longer file
+takes longer, a file over 1 GiB is refused, and --format is ignored.
+
+With --root only what is needed is read: the length and the level of each chunk,
+and the chunks on the way to these pairs. Each of these chunks is compared with
+the reference above it, from ROOT down. So what is printed is right for ROOT,
+whatever else the file holds. The command ends at a chunk that does not fit.",
     example: "Example: the first ten pairs from the key 61 on
   prolly scan days.prl 61 10",
 };
@@ -37,7 +39,7 @@ whatever else the file holds; at a chunk that does not fit it ends.",
 pub(crate) fn scan_line<'a>(alloc: Global) -> Line<'a>
     ensures { IfOk result (HasCommandLine scan_line) }
 {
-    let text = "Take the key and print the pairs as text in place of hexadecimal";
+    let text = "Take the key and print the pairs as text, not hexadecimal";
     let key = arguments::key_word(alloc);
     let line = look_up_line(alloc, "scan", HELP, text, key);
     with_argument(line, arguments::limit_word(alloc))

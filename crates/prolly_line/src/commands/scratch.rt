@@ -18,22 +18,22 @@ use std::alloc::Global;
 
 const HELP: Help<'static> = Help {
     about: "Make the tree of one record file from standard input",
-    details: "Makes the tree of one record file, which it reads from standard input, and
-prints the text of its root.
+    details: "Reads one record file from standard input, makes its tree, and prints the text
+of the root.
 
 Equal contents give equal roots and equal chunk files, whether this command made
 them or `build` did, at equal --bits and --format.
 
---chunk-bytes takes the place of --bits: it takes the bits by which a chunk has
-about N bytes, from the mean size of the records in the first megabyte that is
-read, and prints on standard error which it took. Equal contents have equal
-roots only at equal bits, so a script which compares roots gives --bits.
+--chunk-bytes takes the place of --bits. It chooses the bits by which a chunk
+has about N bytes, from the mean size of the records in the first megabyte that
+is read. A line on standard error says which bits it chose. Equal contents have
+equal roots only at equal bits. So a script that compares roots gives --bits.
 
 Without --out no file is made, and --atomic, --sync and --force are ignored.
 With --out, FILE is opened before the input is read, and emptied once there is
-something to write: after a fault before that it is as it was. Where writing it
-failed, it holds the first part of the chunk file, or with --atomic what it
-held; where standard output alone failed, it is whole. A FILE that has bytes and
+something to write. After a fault before that, FILE is as it was. If writing
+fails, FILE holds the first part of the chunk file, or with --atomic what it
+held. If only standard output fails, FILE is whole. A FILE that has bytes and
 does not begin as a chunk file does is refused, unless --force is given.",
     example: "Example:
   prolly scratch --out ab.prl < ab.rec",

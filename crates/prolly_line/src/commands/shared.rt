@@ -15,23 +15,19 @@ pub(crate) const CHUNK_FILE: &str = "The chunk file";
 pub(crate) const MADE_CHUNK_FILE: &str = "The chunk file to make";
 
 /// What `--bits` says where a tree is made.
-pub(crate) const CUT: &str =
-    "Cut by Q bits of a hash: about one entry in 2^Q ends a chunk (0 to 24) \
-     [default: 12]";
+pub(crate) const CUT: &str = "End a chunk at about one entry in 2^Q (0 to 24) [default: 12]";
 
 /// What `--quiet` says where a tree is made.
 pub(crate) const NO_PROGRESS: &str = "Show no progress on standard error";
 
 /// What `--format` says where a chunk file is made.
-pub(crate) const WRITTEN_FORMAT: &str = "Write version V of the chunk file (1 or 2)";
+pub(crate) const WRITTEN_FORMAT: &str = "Write a chunk file of format V (1 or 2)";
 
 /// What `--atomic` says where a chunk file is made.
-pub(crate) const ASIDE: &str =
-    "Write a file beside the output, and put it in its place once it is whole";
+pub(crate) const ASIDE: &str = "Replace the output only once the new file is whole";
 
 /// What `--atomic` says where this is done without it.
-pub(crate) const ALWAYS_ASIDE: &str =
-    "Refuse a pipe or a device; a file is always replaced once it is whole";
+pub(crate) const ALWAYS_ASIDE: &str = "Refuse a pipe or a device; files are always replaced whole";
 
 /// Adds the flags that say how the output is written; `atomic` is what `--atomic` says.
 pub(crate) fn with_mode<'a>(alloc: Global, line: Line<'a>, atomic: &'a str) -> Line<'a>
@@ -50,7 +46,7 @@ pub(crate) fn with_trust<'a>(alloc: Global, line: Line<'a>) -> Line<'a>
 {
     let format = arguments::format_option(
         alloc,
-        "The version of the tree's chunks (1 or 2); without --root, the file tells it",
+        "The format of the tree (1 or 2); ignored without --root",
     );
     let line = with_argument(line, arguments::root_option(alloc));
     with_argument(line, format)

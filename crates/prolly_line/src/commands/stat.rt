@@ -21,22 +21,23 @@ record file does.
 
 Of a chunk file it prints the text of the root, the --format and the --bits, and
 the numbers of pairs, chunks and bytes. Then each level has a line: how many
-chunks, entries and bytes it has, and how many bytes its least, its middle and
-its greatest chunk have. A bar behind them grows by one `#` where the number of
-chunks doubles. The chunk file is checked first, as by `check`.
+chunks, entries and bytes it has, and how many bytes its smallest, its middle
+and its largest chunk have. The bar at the end of the line grows by one `#` each
+time the number of chunks doubles. The chunk file is checked first, as by
+`check`.
 
 Of a record file it prints the numbers of records, removals and bytes, and the
 first and the last key.
 
 Keys are shown in hexadecimal, or with --text as text, with the escapes of
-`pack --text`. With --json all this is one line of JSON; keys are in hexadecimal
-there, and --text is ignored.",
+`pack --text`. With --json all this is one line of JSON. Its keys are in
+hexadecimal, and --text is ignored.",
     example: "Example: the numbers of a tree, level by level
   prolly stat days.prl",
 };
 
 /// What `--text` says where keys are printed.
-const SHOWN_KEYS: &str = "Print keys as text in place of hexadecimal";
+const SHOWN_KEYS: &str = "Print keys as text, not hexadecimal";
 
 /// `stat [--text] [--json] FILE`
 pub(crate) fn stat_line<'a>(alloc: Global) -> Line<'a>

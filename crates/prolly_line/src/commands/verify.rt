@@ -17,43 +17,43 @@ use clap::ArgMatches;
 use std::alloc::Global;
 
 const HELP: Help<'static> = Help {
-    about: "Say what a proof shows of a key, of a range, or of many keys, by the root alone",
-    details: "Says what a proof shows of a key to whoever knows ROOT, the root of a tree, as
-`scratch`, `build` and `check` print it. The proof is one that `prove` has made.
-It may come from anywhere: where it is taken, the tree of that root has what is
-printed at the key, or two different chunks have one SHA-512 prefix, which
-nobody has seen yet.
+    about: "Print what a proof shows to a client that knows only the root",
+    details: "Prints what a proof shows to a client that knows only ROOT, the root of a tree,
+as `scratch`, `build` and `check` print it. `prove` has made the proof. It may
+come from anywhere: if it is taken, the tree of ROOT has at the key what is
+printed, or two different chunks have the same SHA-512 prefix, which nobody has
+seen yet.
 
-With --from, KEY is left out, and the proof is that of a range: of all pairs
-from the key of --from on and before the key of --to. Without --to the range has
-no end. Each pair is a line, HEXKEY HEXVALUE. The pairs of a chunk are printed
-once the chunk was compared with the reference above it. So what is printed is
-right for ROOT. Only the exit status 0 says that it is all.
+With --from, leave KEY out. The proof is then that of a range: of all pairs from
+the key of --from on and before the key of --to. Without --to the range has no
+end. Each pair is a line, HEXKEY HEXVALUE. The pairs of a chunk are printed once
+the chunk was compared with the reference above it. So what is printed is right
+for ROOT. Only the exit status 0 says that it is all.
 
-With --keys, KEY is left out, too, and the proof is that of the keys of the file
-KEYS, the one that `prove` was given. A line is printed for each key, as `get`
-prints it: HEXKEY HEXVALUE, or HEXKEY alone where there is no value. The line of
-a key with a value is printed once its chunk was compared. The line of a key
-without one is printed with that of the next key that has one, or at the end. So
-what is printed is right for ROOT. Only the exit status 0 says that it is all.
+With --keys, leave KEY out. The proof is then that of the keys of the file KEYS,
+the one that `prove` was given. A line is printed for each key, as `get` prints
+it: HEXKEY HEXVALUE, or HEXKEY alone if there is no value. The line of a key
+with a value is printed once its chunk was compared. The line of a key without
+one is printed with that of the next key that has one, or at the end. So what is
+printed is right for ROOT. Only the exit status 0 says that it is all.
 
-The proof is read from PROOF, or from standard input where PROOF is not given.
-A proof of a range, or of many keys, may be of any size.
+The proof is read from PROOF, or from standard input if PROOF is not given. A
+proof of a range, or of many keys, may be of any size.
 
-With --text keys are taken, and what is shown is printed, as text, with the
-escapes of `pack --text`.
+With --text keys are taken as text, and what the proof shows is printed as text,
+with the escapes of `pack --text`.
 
 The exit status is
-  0  where the key has a value, which is printed in hexadecimal, or where all
-     pairs of the range were printed, also where there are none, or a line for
-     each key of KEYS
-  1  where the key has none; nothing is printed
-  2  where a word is not understood, as where ROOT is not the text of a root
-  3  where a line of KEYS is refused
-  4  where the proof is refused; a line names the first fault of it
-  5  where the proof or KEYS cannot be read or is too long, or the answer cannot
+  0  if the key has a value, which is printed in hexadecimal; if all pairs of
+     the range were printed, even if there are none; or if a line was printed
+     for each key of KEYS
+  1  if the key has no value; nothing is printed
+  2  if a word is not understood, for example if ROOT is not the text of a root
+  3  if a line of KEYS is refused
+  4  if the proof is refused; a line names its first fault
+  5  if the proof or KEYS cannot be read or is too long, or if the answer cannot
      be printed
-  6  where memory was refused, or a chunk of the proof has more than 1 GiB",
+  6  if memory was refused, or if a chunk of the proof has more than 1 GiB",
     example: "Examples: what the tree of a root has at the key of one byte, 61, and all that
 it has from there on before the key 63
   prolly verify \
@@ -74,11 +74,11 @@ pub(crate) fn verify_line<'a>(alloc: Global) -> Line<'a>
 {
     let format = arguments::format_option(
         alloc,
-        "The version of the tree's chunks (1 or 2). It is not read off the proof, which could lie",
+        "The format of the tree (1 or 2), whatever the proof says",
     );
     let text = arguments::text_flag(
         alloc,
-        "Take keys and print what is shown as text in place of hexadecimal",
+        "Take keys and print what is shown as text, not hexadecimal",
     );
     let line = described_as(alloc, "verify", USAGE, HELP).arg(text);
     let line = with_argument(line, format);
