@@ -146,7 +146,7 @@ const TEXTS: &[(&str, &str, &str)] = &[
         "'--chunk-bytes <N>'",
     ),
     ("help build", "help", "[default: 12]"),
-    ("help get", "help", "With --keys it is left out"),
+    ("help get", "help", "left out with --keys"),
     ("forget a.prl", "usage", "'forget'"),
 ];
 
