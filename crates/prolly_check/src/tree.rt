@@ -276,8 +276,6 @@ fn write_records<W: Sink>(mut leaves: Leaves, sink: &mut W) -> Result<(), WriteF
     while let Some(leaf) = leaves.next() {
         write_all(sink, leaf.spellings())?;
     }
-    match sink.flush() {
-        Ok(()) => Ok(()),
-        Err(_) => Err(WriteFault),
-    }
+    sink.flush()?;
+    Ok(())
 }
